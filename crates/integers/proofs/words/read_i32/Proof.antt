@@ -1,0 +1,21 @@
+use Rattle.integers.proofs.words.Laws.{word-read, word-range}
+use mir.Facts.{toZ-ofZ}
+use borrow.Author.Needs.{needs}
+use Rattle.integers.proofs.words.read_i32.Statement.{statement}
+use Rattle.integers.proofs.words.read_i32.Tie as tie
+use Rattle.integers.proofs.words.read_i32.Reads as reads
+use Rattle.integers.proofs.words.read_i32.Lts as lts
+use Rattle.integers.proofs.words.read_u32.Reads as read-u32-reads
+use Rattle.integers.proofs.words.signed.Reads as signed-reads
+
+read-u32-requires : tie.Need-read-u32-requires
+read-u32-requires c κs = search needs
+
+signed-requires : tie.Need-signed-requires
+signed-requires c κs = search needs
+
+returns : tie.Need-returns
+returns c = (search (word-read, toZ-ofZ), search (word-range, toZ-ofZ))
+
+pub read-i32-spec : {M : Type 1} → statement M
+read-i32-spec = tie.close (tie.spec read-u32-requires signed-requires returns)

@@ -1,0 +1,24 @@
+use Rattle.integers.proofs.words.Laws.{low-word, high-fits, high-word}
+use borrow.Author.Needs.{needs}
+use Rattle.integers.proofs.words.signed.Statement.{statement}
+use Rattle.integers.proofs.words.signed.Tie as tie
+use Rattle.integers.proofs.words.signed.Reads as reads
+use Rattle.integers.proofs.words.signed.Lts as lts
+
+cast-result : tie.Need-cast-result
+cast-result c = search needs
+
+cast-result-2 : tie.Need-cast-result-2
+cast-result-2 c = search needs
+
+sub-result : tie.Need-sub-result
+sub-result c = search high-fits
+
+returns : tie.Need-returns
+returns c = search low-word
+
+returns-2 : tie.Need-returns-2
+returns-2 c = search high-word
+
+pub signed-spec : {M : Type 1} → statement M
+signed-spec = tie.close (tie.spec cast-result cast-result-2 sub-result returns returns-2)
