@@ -1,3 +1,4 @@
-// Arithmetic over the integers that knows nothing of sheets: 32-bit words in bytes, and floor division.
+// Arithmetic over the integers that knows nothing of sheets: 32-bit words in bytes, floor division, absolute values.
 pub mod division;
+pub mod magnitudes;
 pub mod words;

@@ -1,0 +1,239 @@
+-- Laws of points: what a test over exponents says of each, points by value, and the ways through their loops.
+use mathlib.Core.Path.{_≡_, refl, sym, _∙_, ap}
+use mathlib.Core.Bool.{Bool, true, false, cond, _&&_, and-false}
+use mathlib.Core.List.{List, [], _∷_, _++_, append-assoc}
+use Prim.Native.Nat.{ℕ, zero, suc, _+_, _-_, _/_, _%_, _<_, _≤_, min}
+use native.Mathlib.Nat.{le-of-lt}
+use native.Mathlib.Numerals.{add-one}
+use native.Mathlib.Decide.{decLt}
+use native.Mathlib.Omega.{arith}
+use lib.Dec.{T, eqb, ltb, leb}
+use lib.ListN.{length, getD, set, take, drop, replicate, length-append, length-take, length-replicate, List·getD-append}
+use lib.Seq.{drop-cons, drop-nil, getD-take, set-at, getD-at, ext-getD}
+use borrow.Author.Tests.{lt-ltb, le-ltb, eq-eqb, ne-eqb, eqb-true}
+use borrow.Author.Count.{below-more}
+use Rattle.monomials.specs.Points.{Exponents, exponents, pointOf, table, bytesAt, every, everyPair, samePoint, risesTo, hasMidpoint, midpointOf, keepsSign, exponentsWithin}
+use Rattle.monomials.specs.declared.points.Point.{Point}
+
+-- ---- points by value
+
+module _ (p : Point) (eight : length (p .exps) ≡ 8) where
+  pub variables-fewer : p .n < 8 → p .n ≡ length (exponents p)
+  unfolding exponents
+  variables-fewer h = sym (length-take (p .n) (p .exps) ∙ omega arith)
+
+  pub variables-all : 8 ≤ p .n → 8 ≡ length (exponents p)
+  unfolding exponents
+  variables-all h = sym (length-take (p .n) (p .exps) ∙ omega arith)
+
+  -- an exponent, by its place
+  exponent-is : (i : ℕ) → i < length (exponents p) → getD (exponents p) i 0 ≡ getD (p .exps) i 0
+  unfolding exponents
+  exponent-is i h = getD-take (p .n) (p .exps) i 0 (omega (arith, length-take (p .n) (p .exps)))
+
+-- ---- tests over the exponents of two points
+
+-- the test holds at every place below i
+unfoldable pub Passed : (ℕ → ℕ → Bool) → List ℕ → List ℕ → ℕ → Type 0
+Passed p x y i = (k : ℕ) → k < i → p (getD x k 0) (getD y k 0) ≡ true
+
+module _ (p : ℕ → ℕ → Bool) (x y : List ℕ) where
+  pub passed-none : Passed p x y 0
+  unfolding Passed
+  passed-none k h = absurd (omega arith)
+
+  pub passed-on : (i : ℕ) → Passed p x y i → p (getD x i 0) (getD y i 0) ≡ true → Passed p x y (i + 1)
+  unfolding Passed
+  passed-on i h e = below-more _ _ h e
+
+  -- the same where r is what a test's function answered
+  pub passed-test : (i : ℕ) (r : Bool) → Passed p x y i → r ≡ p (getD x i 0) (getD y i 0) → r ≡ true → Passed p x y (i + 1)
+  passed-test i r h e t = passed-on i h (sym e ∙ t)
+
+module _ (p : ℕ → ℕ → Bool) where
+  pair-false : (v w : Exponents) (i : ℕ) → i < length v → i < length w → p (getD v i 0) (getD w i 0) ≡ false → everyPair p v w ≡ false
+  unfolding everyPair
+  pair-false [] w i h k e = absurd (omega arith)
+  pair-false (a ∷ v) [] i h k e = absurd (omega arith)
+  pair-false (a ∷ v) (b ∷ w) zero h k e = rw e
+  pair-false (a ∷ v) (b ∷ w) (suc i) h k e = rw (pair-false v w i (omega arith) (omega arith) e) (and-false (p a b))
+
+  pair-true : (v w : Exponents) → length v ≡ length w → Passed p v w (length v) → everyPair p v w ≡ true
+  unfolding everyPair Passed
+  pair-true [] [] e h = refl
+  pair-true [] (b ∷ w) e h = absurd (omega arith)
+  pair-true (a ∷ v) [] e h = absurd (omega arith)
+  pair-true (a ∷ v) (b ∷ w) e h = rw (h 0 (omega arith), pair-true v w (omega arith) (λ k l. h (suc k) (omega arith)))
+
+  pair-unlike : (v w : Exponents) → (length v ≡ length w → ⊥) → everyPair p v w ≡ false
+  unfolding everyPair
+  pair-unlike [] [] h = absurd (h refl)
+  pair-unlike [] (b ∷ w) h = refl
+  pair-unlike (a ∷ v) [] h = refl
+  pair-unlike (a ∷ v) (b ∷ w) h = rw (pair-unlike v w (λ e. h (ap suc e))) (and-false (p a b))
+
+-- the ways through such a loop: n and m are the numbers of variables
+module _ (p : ℕ → ℕ → Bool) (a b : Point) (n m : ℕ) (ea : length (a .exps) ≡ 8) (eb : length (b .exps) ≡ 8)
+    (na : n ≡ length (exponents a)) (mb : m ≡ length (exponents b)) where
+  pub pair-fewer : (n ≡ m → ⊥) → false ≡ everyPair p (exponents a) (exponents b)
+  pair-fewer h = sym (pair-unlike p (exponents a) (exponents b) (λ e. h (na ∙ e ∙ sym mb)))
+
+  module _ (i : ℕ) (e : n ≡ m) where
+    pub pair-stops : i < n → p (getD (a .exps) i 0) (getD (b .exps) i 0) ≡ false → false ≡ everyPair p (exponents a) (exponents b)
+    pair-stops h k =
+        sym (pair-false p (exponents a) (exponents b) i (omega arith) (omega arith)
+        (rw (exponent-is a ea i (omega arith), exponent-is b eb i (omega arith)) k))
+
+    pub pair-test : (r : Bool) → i < n → r ≡ p (getD (a .exps) i 0) (getD (b .exps) i 0) → r ≡ false
+        → false ≡ everyPair p (exponents a) (exponents b)
+    pair-test r h k t = pair-stops h (sym k ∙ t)
+
+    pub pair-ends : n ≤ i → Passed p (a .exps) (b .exps) i → true ≡ everyPair p (exponents a) (exponents b)
+    unfolding Passed
+    pair-ends h k =
+        sym (pair-true p (exponents a) (exponents b) (omega arith)
+        (λ j l. rw (exponent-is a ea j l, exponent-is b eb j (omega arith)) (k j (omega arith))))
+
+-- ---- tests over the exponents of one point
+
+every-pair : (p : ℕ → Bool) (v : Exponents) → every p v ≡ everyPair (λ a b. p a) v v
+unfolding every everyPair
+every-pair p [] = refl
+every-pair p (a ∷ v) = rw (every-pair p v)
+
+module _ (p : ℕ → Bool) (a : Point) (n i : ℕ) (ea : length (a .exps) ≡ 8) (na : n ≡ length (exponents a)) where
+  pub every-stops : i < n → p (getD (a .exps) i 0) ≡ false → false ≡ every p (exponents a)
+  every-stops h k = pair-stops (λ a b. p a) a a n n ea ea na na i refl h k ∙ sym (every-pair p (exponents a))
+
+  pub every-ends : n ≤ i → Passed (λ a b. p a) (a .exps) (a .exps) i → true ≡ every p (exponents a)
+  every-ends h k = pair-ends (λ a b. p a) a a n n ea ea na na i refl h k ∙ sym (every-pair p (exponents a))
+
+-- ---- the order
+
+-- places that are alike do not decide
+rises-drop : (v w : Exponents) (i : ℕ) → i ≤ length v → i ≤ length w → Passed eqb v w i → risesTo v w ≡ risesTo (drop i v) (drop i w)
+unfolding Passed risesTo
+rises-drop v w zero h k e = refl
+rises-drop [] w (suc i) h k e = absurd (omega arith)
+rises-drop (a ∷ v) [] (suc i) h k e = absurd (omega arith)
+rises-drop (a ∷ v) (b ∷ w) (suc i) h k e =
+    let q : a ≡ b = eqb-true a b (e 0 (omega arith)) in
+    rw (le-ltb a b (omega arith), le-ltb b a (omega arith)) (rises-drop v w i (omega arith) (omega arith) (λ j l. e (suc j) (omega arith)))
+
+-- nothing is left to decide past the shorter
+rises-past : (v w : Exponents) (i : ℕ) → min (length v) (length w) ≤ i → risesTo (drop i v) (drop i w) ≡ false
+unfolding risesTo
+rises-past [] w i h = rw (drop-nil {A = ℕ} i)
+rises-past (a ∷ v) [] i h = rw (drop-nil {A = ℕ} i) (go (drop i (a ∷ v)))
+  where
+    go : (v : Exponents) → risesTo v [] ≡ false
+    go [] = refl
+    go (a ∷ v) = refl
+rises-past (a ∷ v) (b ∷ w) zero h = absurd (omega arith)
+rises-past (a ∷ v) (b ∷ w) (suc i) h = rises-past v w i (omega arith)
+
+passed-exponents : (a b : Point) (i : ℕ) → length (a .exps) ≡ 8 → length (b .exps) ≡ 8 → i ≤ length (exponents a) → i ≤ length (exponents b)
+    → Passed eqb (a .exps) (b .exps) i → Passed eqb (exponents a) (exponents b) i
+unfolding Passed
+passed-exponents a b i ea eb h k e j l = rw (exponent-is a ea j (omega arith), exponent-is b eb j (omega arith)) (e j l)
+
+pub rises-on : (x y : List ℕ) (i : ℕ) → Passed eqb x y i → getD x i 0 ≤ getD y i 0 → getD y i 0 ≤ getD x i 0 → Passed eqb x y (i + 1)
+rises-on x y i e h k = passed-on eqb x y i e (eq-eqb (getD x i 0) (getD y i 0) (omega arith))
+
+module _ (a b : Point) (n k m i : ℕ) (ea : length (a .exps) ≡ 8) (eb : length (b .exps) ≡ 8)
+    (na : k ≡ length (exponents a)) (mb : m ≡ length (exponents b)) (e : n ≡ min k m) (so : Passed eqb (a .exps) (b .exps) i) where
+  from : i ≤ n → risesTo (exponents a) (exponents b) ≡ risesTo (drop i (exponents a)) (drop i (exponents b))
+  from h = rises-drop (exponents a) (exponents b) i (omega arith) (omega arith) (passed-exponents a b i ea eb (omega arith) (omega arith) so)
+
+  module _ (h : i < n) where
+    at-place : risesTo (exponents a) (exponents b)
+        ≡ cond (ltb (getD (a .exps) i 0) (getD (b .exps) i 0)) true
+        (cond (ltb (getD (b .exps) i 0) (getD (a .exps) i 0)) false (risesTo (drop (suc i) (exponents a)) (drop (suc i) (exponents b))))
+    unfolding risesTo
+    at-place =
+        let la : i < length (exponents a) = omega arith in
+        let lb : i < length (exponents b) = omega arith in
+        from (omega arith)
+        ∙ rw (drop-cons (exponents a) i 0 la, drop-cons (exponents b) i 0 lb, exponent-is a ea i la, exponent-is b eb i lb)
+
+    pub rises-more : getD (a .exps) i 0 < getD (b .exps) i 0 → true ≡ risesTo (exponents a) (exponents b)
+    rises-more l = sym (at-place ∙ rw (lt-ltb _ _ l))
+
+    pub rises-less : getD (b .exps) i 0 < getD (a .exps) i 0 → false ≡ risesTo (exponents a) (exponents b)
+    rises-less l = sym (at-place ∙ rw (le-ltb _ _ (le-of-lt l), lt-ltb _ _ l))
+
+  pub rises-end : n ≤ i → i ≤ n → false ≡ risesTo (exponents a) (exponents b)
+  unfolding risesTo
+  rises-end h l = sym (from l ∙ rises-past (exponents a) (exponents b) i (omega arith))
+
+-- ---- stores into the eight places
+
+-- eight places: a list, and zeros after it
+unfoldable pub padded : List ℕ → List ℕ
+padded L = L ++ replicate (8 - length L) 0
+
+padded-set : (L : List ℕ) (v : ℕ) → length L < 8 → set (padded L) (length L) v ≡ padded (L ++ (v ∷ []))
+unfolding padded
+padded-set L v h =
+    let left : 8 - length L ≡ suc (8 - suc (length L)) = omega arith in
+    let more : length (L ++ (v ∷ [])) ≡ suc (length L) = length-append L (v ∷ []) ∙ omega arith in
+    rw (left, more) (set-at L 0 (replicate (8 - suc (length L)) 0) v (length L) refl ∙ simp append-assoc)
+
+module _ (f : ℕ → ℕ) where
+  pub table-length : (n : ℕ) → length (table f n) ≡ n
+  unfolding table
+  table-length zero = refl
+  table-length (suc n) = length-append (table f n) (f n ∷ []) ∙ rw (table-length n) (omega arith)
+
+  pub table-get : (n i : ℕ) → i < n → getD (table f n) i 0 ≡ f i
+  unfolding table
+  table-get zero i h = absurd (omega arith)
+  table-get (suc n) i h = go (decLt i n) (table-get n i)
+    where
+      go : Dec (i < n) → (i < n → getD (table f n) i 0 ≡ f i) → getD (table f n ++ (f n ∷ [])) i 0 ≡ f i
+      go (yes l) below = List·getD-append (table f n) (f n ∷ []) 0 i (rw table-length l) ∙ below l
+      go (no l) below = let q : i ≡ n = omega arith in rw q (getD-at (table f n) (f n) [] 0 n (table-length n))
+
+  -- the loop `while i < n { e[i] = f(i); i += 1; }` over eight zeros
+  pub filled-none : replicate 8 0 ≡ padded (table f 0)
+  unfolding padded table
+  filled-none = refl
+
+  pub filled-on : (n i : ℕ) (e : List ℕ) (v : ℕ) → e ≡ padded (table f i) → i < n → n ≤ 8 → v ≡ f i → set e i v ≡ padded (table f (i + 1))
+  unfolding table
+  filled-on n i e v h l m q =
+      rw (h, q, add-one) (ap (λ (j : ℕ). set (padded (table f i)) j (f i)) (sym (table-length i)) ∙ padded-set (table f i) (f i) (rw table-length (omega arith)))
+
+  pub filled-end : (n i : ℕ) (e : List ℕ) → e ≡ padded (table f i) → n ≤ i → i ≤ n → record { exps = e; n = n } ≡ pointOf (table f n)
+  unfolding pointOf padded
+  filled-end n i e h l m = let q : i ≡ n = omega arith in rw (h, q, table-length n)
+
+-- ---- midpoints
+
+pub midpoint-length : (v w : Exponents) → length (midpointOf v w) ≡ min (length v) (length w)
+unfolding midpointOf
+midpoint-length [] w = omega arith
+midpoint-length (a ∷ v) [] = omega arith
+midpoint-length (a ∷ v) (b ∷ w) = omega (arith, midpoint-length v w)
+
+pub midpoint-get : (v w : Exponents) (i : ℕ) → i < length v → i < length w → getD (midpointOf v w) i 0 ≡ (getD v i 0 + getD w i 0) / 2
+unfolding midpointOf
+midpoint-get [] w i h k = absurd (omega arith)
+midpoint-get (a ∷ v) [] i h k = absurd (omega arith)
+midpoint-get (a ∷ v) (b ∷ w) zero h k = refl
+midpoint-get (a ∷ v) (b ∷ w) (suc i) h k = midpoint-get v w i (omega arith) (omega arith)
+
+-- the way out of the loop
+pub midpoint-made : (a b : Point) (n k m i : ℕ) (e : List ℕ) → length (a .exps) ≡ 8 → length (b .exps) ≡ 8
+    → k ≡ length (exponents a) → m ≡ length (exponents b) → n ≡ min k m
+    → e ≡ padded (table (λ j. (getD (a .exps) j 0 + getD (b .exps) j 0) / 2) i) → n ≤ i → i ≤ n
+    → record { exps = e; n = n } ≡ pointOf (midpointOf (exponents a) (exponents b))
+midpoint-made a b n k m i e ea eb ka mb en h l u =
+    filled-end _ n i e h l u
+    ∙ ap pointOf (ext-getD 0 (table f n) (midpointOf (exponents a) (exponents b)) (table-length f n ∙ omega (arith, midpoint-length (exponents a) (exponents b)))
+    (λ j t. let q : j < n = rw table-length at t in
+    table-get f n j q ∙ sym (midpoint-get (exponents a) (exponents b) j (omega arith) (omega arith)
+    ∙ rw (exponent-is a ea j (omega arith), exponent-is b eb j (omega arith)))))
+  where
+    f : ℕ → ℕ
+    f j = (getD (a .exps) j 0 + getD (b .exps) j 0) / 2

@@ -1,0 +1,34 @@
+use mir.Facts.{toZ-ofZ}
+use Rattle.monomials.proofs.powers.Laws.{times-zero, times-large, times-fits, times-value}
+use borrow.Author.Needs.{needs}
+use Rattle.monomials.proofs.powers.times.Statement.{statement}
+use Rattle.monomials.proofs.powers.times.Tie as tie
+use Rattle.monomials.proofs.powers.times.Reads as reads
+use Rattle.monomials.proofs.powers.times.Lts as lts
+use Rattle.integers.proofs.magnitudes.magnitude.Reads as magnitude-reads
+
+magnitude-requires : tie.Need-magnitude-requires
+magnitude-requires c κs = search needs
+
+magnitude-requires-2 : tie.Need-magnitude-requires-2
+magnitude-requires-2 c κs = search needs
+
+returns : tie.Need-returns
+returns c = search (times-zero, toZ-ofZ)
+
+div-if2 : tie.Need-div-if2
+div-if2 c = search needs
+
+returns-2 : tie.Need-returns-2
+returns-2 c = search (times-large, toZ-ofZ)
+
+mul-t7 : tie.Need-mul-t7
+mul-t7 c = search (times-fits, toZ-ofZ)
+
+returns-3 : tie.Need-returns-3
+returns-3 c = search (times-value, toZ-ofZ)
+
+pub times-spec : {M : Type 1} → statement M
+times-spec =
+    tie.close
+    (tie.spec magnitude-requires magnitude-requires-2 returns div-if2 returns-2 mul-t7 returns-3)

@@ -1,0 +1,41 @@
+-- Powers, monomials at whole numbers, and numbers of absolute value at most 2^56.
+use mathlib.Core.Bool.{cond}
+use mathlib.Core.List.{List, [], _∷_}
+use mathlib.Core.Path.{_≡_}
+use Prim.Native.Nat.{ℕ, zero, suc, _^_, _≤_, _<_}
+use lib.Dec.{leb, eqb}
+use lib.IntN.{ℤ, pos, natAbs, _*ℤ_}
+use Rattle.monomials.specs.Points.{Exponents}
+use Rattle.monomials.specs.declared.powers.Bounded.{Bounded}
+use Rattle.monomials.specs.declared.powers.Bounded.the-variants.{Value, TooLarge}
+
+-- "A power with exponent 0 is one, also at zero; otherwise it is the base times the power with exponent one less."
+unfoldable pub powerOf : ℤ → ℕ → ℤ
+powerOf x zero = pos 1
+powerOf x (suc e) = x *ℤ powerOf x e
+
+-- a monomial at a list of numbers, one for each variable: the product of their powers
+unfoldable pub monomialOf : List ℤ → Exponents → ℤ
+monomialOf x [] = pos 1
+monomialOf [] (e ∷ α) = pos 1
+monomialOf (x ∷ xs) (e ∷ α) = powerOf x e *ℤ monomialOf xs α
+
+-- what each answer says of the exact number z: a value is z, "at most 2^56" in absolute value; too large is "over 2^56"
+abbrev pub Says : Bounded → ℤ → Type 0
+Says (Value x) z = (x ≡ z) × (natAbs z ≤ 2 ^ 56)
+Says TooLarge z = 2 ^ 56 < natAbs z
+
+-- the one answer that says so
+unfoldable pub within : ℤ → Bounded
+within z = cond (leb (natAbs z) (2 ^ 56)) (Value z) TooLarge
+
+-- a number that is too large, times a factor: "A zero offset under a positive exponent makes its term zero"
+unfoldable pub largeTimes : Bounded → Bounded
+largeTimes (Value x) = cond (eqb (natAbs x) 0) (Value (pos 0)) TooLarge
+largeTimes TooLarge = TooLarge
+
+-- a product of which either factor may be too large
+unfoldable pub productOf : Bounded → Bounded → Bounded
+productOf (Value x) (Value y) = within (x *ℤ y)
+productOf (Value x) TooLarge = largeTimes (Value x)
+productOf TooLarge b = largeTimes b

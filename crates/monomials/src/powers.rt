@@ -1,0 +1,98 @@
+// Exact powers, monomials and terms of absolute value at most 2^56.
+use crate::points::Point;
+use crate::points::fewer;
+use integers::magnitudes::magnitude;
+ghost use mathlib.Core.Path.{_≡_};
+ghost use Prim.Native.Nat.{_<_};
+ghost use lib.IntN.{ℤ, pos, _*ℤ_};
+ghost use lib.ListN.{length, getD};
+ghost use Rattle.monomials.specs.Points.{exponents};
+ghost use Rattle.monomials.specs.Powers.{powerOf, monomialOf, within, largeTimes, productOf};
+
+// An exact number, or that its absolute value is over 2^56.
+pub enum Bounded {
+    Value(i64),
+    TooLarge,
+}
+
+const LIMIT: u64 = 72057594037927936;
+
+// The exact product of two numbers.
+fn times(x: i64, y: i64) -> Bounded
+    ensures { λ r. ⌜ r ≡ within (x *ℤ y) ⌝ }
+{
+    let m = magnitude(x);
+    let n = magnitude(y);
+    if n == 0 {
+        return Bounded::Value(0);
+    }
+    if LIMIT / n < m {
+        return Bounded::TooLarge;
+    }
+    Bounded::Value(x * y)
+}
+
+// What a factor makes of a number that is too large: zero where it is zero.
+fn large_times(factor: Bounded) -> Bounded
+    ensures { λ r. ⌜ r ≡ largeTimes factor ⌝ }
+{
+    let Bounded::Value(x) = factor else {
+        return Bounded::TooLarge;
+    };
+    if magnitude(x) == 0 {
+        return Bounded::Value(0);
+    }
+    Bounded::TooLarge
+}
+
+// The product of two numbers, either of which may be too large.
+fn product(a: Bounded, b: Bounded) -> Bounded
+    ensures { λ r. ⌜ r ≡ productOf a b ⌝ }
+{
+    let Bounded::Value(x) = a else {
+        return large_times(b);
+    };
+    let Bounded::Value(y) = b else {
+        return large_times(a);
+    };
+    times(x, y)
+}
+
+// The power with exponent 0 is one; otherwise it is the base times the power with exponent one less.
+pub fn power(base: i64, e: u8) -> Bounded
+    ensures { λ r. ⌜ r ≡ within (powerOf base e) ⌝ }
+{
+    if e == 0 {
+        return Bounded::Value(1);
+    }
+    product(Bounded::Value(base), power(base, e - 1))
+}
+
+fn offset_at(offsets: &[i32], i: usize) -> i64
+    requires { ⌜ i < length (now offsets) ⌝ }
+    ensures { λ r. ⌜ r ≡ getD (now (offsets .entry)) i (pos 0) ⌝ }
+{
+    offsets[i] as i64
+}
+
+// The monomial at the offsets, from the last variable to the first.
+pub fn monomial(p: Point, offsets: &[i32]) -> Bounded
+    ensures { λ r. ⌜ r ≡ within (monomialOf (now (offsets .entry)) (exponents p)) ⌝ }
+{
+    let e = p.exps;
+    let n = p.variables();
+    let mut i = fewer(n, offsets.len());
+    let mut value = Bounded::Value(1);
+    while 0 < i {
+        i -= 1;
+        value = product(power(offset_at(offsets, i), e[i]), value);
+    }
+    value
+}
+
+// A coefficient times the monomial at the offsets.
+pub fn term(coefficient: i64, p: Point, offsets: &[i32]) -> Bounded
+    ensures { λ r. ⌜ r ≡ within (coefficient *ℤ monomialOf (now (offsets .entry)) (exponents p)) ⌝ }
+{
+    product(Bounded::Value(coefficient), monomial(p, offsets))
+}
