@@ -222,6 +222,10 @@ pub read-lt : {x y : ℤ} → x <ℤ y → read x <ℤ read y
 unfolding read
 read-lt h = h
 
+pub read-fits : {w : Width} {x : ℤ} → SFits w x → SFits w (read x)
+unfolding read
+read-fits h = h
+
 -- ---- facts between unknowns, read by `omega` as they stand
 
 pub le-parts : {x y : ℤ} → x ≤ℤ y → up x + dn y ≤ up y + dn x
@@ -344,6 +348,10 @@ square-nonneg (negsuc n) = pos-nonneg (suc n * suc n)
 
 pub *ℤ-nonneg : {x y : ℤ} → pos 0 ≤ℤ x → pos 0 ≤ℤ y → pos 0 ≤ℤ (x *ℤ y)
 *ℤ-nonneg {x} {y} h k = rw (zero-*ℤ y) at (*ℤ-mono k h)
+
+pub nonneg-cancel : (k : ℕ) (x : ℤ) → 0 < k → pos 0 ≤ℤ (pos k *ℤ x) → pos 0 ≤ℤ x
+nonneg-cancel k (pos n) h l = pos-nonneg n
+nonneg-cancel k (negsuc n) h l = let s = simp ring at (read-le l) in absurd (omega arith)
 
 -- ---- absolute values
 

@@ -1,17 +1,17 @@
 -- Laws of floor division: e ≡ c × q + m with 0 ≤ m < c, no other q and m meet that, and the shares of c slots add up to e.
-use mathlib.Core.Path.{_≡_, refl, sym, _∙_, ap}
+use mathlib.Core.Path.{_≡_, sym, _∙_, ap}
 use mathlib.Core.Bool.{Bool, true, false, not, cond}
 use Prim.Native.Nat.{ℕ, zero, suc, _+_, _*_, _-_, _/_, _%_, _^_, _<_, _≤_, min}
-use native.Mathlib.Nat.{div-add-mod, mod-lt, div-le-self, zero-div, zero-mod, mul-comm}
+use native.Mathlib.Nat.{div-add-mod, mod-lt, div-le-self, zero-div, zero-mod}
 use native.Mathlib.Omega.{arith}
-use lib.Arith.{digits-div, digits-mod}
+use lib.Arith.{digits-div}
 use lib.Dec.{T, ltb, ltb→lt, nltb→le, leb·suc-zero}
 use lib.IntN.{ℤ, pos, negsuc, negℤ, natAbs, _+ℤ_, _-ℤ_, _*ℤ_}
 use lib.Signed.{_≤ℤ_, _<ℤ_, ltZ, mag, nonNeg, quotZ, remZ}
 use mir.Syntax.{w32, w64}
 use mir.Val.{SFits, Fits, toZ}
 use mir.Facts.{toZ-pos, toZ-ofZ}
-use Rattle.integers.proofs.Integers.{up, dn, back, ring, ints, by-eq, by-fits, by-lt, read-eq, read-lt, read-le, sizes, abs-neg, le-parts, lt-parts, ltZ-true, ltZ-false, fits-within}
+use Rattle.integers.proofs.Integers.{up, dn, back, by-fits, read-fits, abs-add, ring, ints, by-eq, read-eq, sizes, abs-neg, le-parts, lt-parts, ltZ-true, ltZ-false, fits-within}
 use Rattle.integers.specs.Division.{floorDiv, floorMod, share, shares}
 
 pub floorMod-< : (e : ℤ) (c : ℕ) → 0 < c → floorMod e c < c
@@ -117,62 +117,83 @@ quot-mag (negsuc a) c = go (suc a / c) (div-le-self (suc a) c)
 
 -- ---- the ways through the code, over what the machine reads back
 
+-- the quotient and the remainder of an argument by a count
+abbrev pub quot : ℤ → ℕ → ℤ
+quot e n = quotZ (back e) (toZ w64 n)
+
+abbrev pub rem : ℤ → ℕ → ℤ
+rem e n = remZ (back e) (toZ w64 n)
+
+pub sum-fits : (x y : ℤ) → natAbs x ≤ 2 ^ 32 → natAbs y ≤ 2 ^ 32 → SFits w64 (x +ℤ y)
+sum-fits x y h k = fits-within (x +ℤ y) (2 ^ 33) (omega (arith, abs-add x y)) (omega arith)
+
 module _ (e : ℤ) (n : ℕ) (h : 0 < n) (f : SFits w64 e) (g : Fits w32 n) where
   count-is : toZ w64 n ≡ pos n
   count-is = toZ-pos w64 (omega arith)
 
-  pub quot-fits : SFits w64 (quotZ (back e) (toZ w64 n))
+  pub count-small : natAbs (toZ w64 n) ≤ 2 ^ 32
+  count-small = rw count-is (omega arith)
+
+  pub quot-fits : SFits w64 (quot e n)
   quot-fits = rw (toZ-ofZ f, count-is) (record { sfits = omega (arith, quot-mag e n) })
 
-  quot-is : back (quotZ (back e) (toZ w64 n)) ≡ quotZ e (pos n)
+  quot-is : back (quot e n) ≡ quotZ e (pos n)
   quot-is = toZ-ofZ quot-fits ∙ rw (toZ-ofZ f, count-is)
 
-  rem-is : back (remZ (back e) (toZ w64 n)) ≡ remZ e (pos n)
+  rem-is : back (rem e n) ≡ remZ e (pos n)
   rem-is = rw (toZ-ofZ f, count-is) (toZ-ofZ (fits-within (remZ e (pos n)) n (omega (arith, rem-abs e n h)) (omega arith)))
+
+  pub rem-small : natAbs (back (rem e n)) ≤ 2 ^ 32
+  rem-small = rw rem-is (omega (arith, rem-abs e n h))
 
   mod-narrow : Fits w32 (floorMod e n)
   mod-narrow = record { fits = omega (arith, floorMod-< e n h) }
 
-  module _ (t : ltZ (back (remZ (back e) (toZ w64 n))) (pos 0) ≡ true) where
+  module _ (t : ltZ (back (rem e n)) (pos 0) ≡ true) where
     less : remZ e (pos n) <ℤ pos 0
     less = ltZ-true _ _ (rw rem-is at t)
 
-    pub div-less-fits : SFits w64 (back (quotZ (back e) (toZ w64 n)) -ℤ pos 1)
-    div-less-fits = rw (quot-is, rem-below e n h less .0) (record { sfits = omega (arith, floorDiv-mag e n) })
+    div-less-is : back (quot e n) -ℤ pos 1 ≡ floorDiv e n
+    div-less-is = rw quot-is (rem-below e n h less .0)
 
-    pub div-less : back (back (quotZ (back e) (toZ w64 n)) -ℤ pos 1) ≡ floorDiv e n
-    div-less = toZ-ofZ div-less-fits ∙ rw (quot-is, rem-below e n h less .0)
+    less-fits : SFits w64 (back (quot e n) -ℤ pos 1)
+    less-fits = rw div-less-is (record { sfits = omega (arith, floorDiv-mag e n) })
 
-    mod-less-is : back (remZ (back e) (toZ w64 n)) +ℤ toZ w64 n ≡ pos (floorMod e n)
-    mod-less-is = rw (rem-is, count-is) (rem-below e n h less .1)
+    pub div-less-fits : (k : ℕ) → k ≤ 1 → SFits w64 (back (quot e n) -ℤ pos k)
+    div-less-fits k l =
+        let b = simp ring at (read-fits (rw (toZ-ofZ quot-fits) at less-fits)) in
+        rw (toZ-ofZ quot-fits) (by-fits (simp ring (omega (arith, sizes (quot e n), quot-fits))))
 
-    pub mod-less-fits : SFits w64 (back (remZ (back e) (toZ w64 n)) +ℤ toZ w64 n)
-    mod-less-fits = rw mod-less-is (record { sfits = omega (arith, mod-narrow) })
+    pub div-less : back (back (quot e n) -ℤ pos 1) ≡ floorDiv e n
+    div-less = toZ-ofZ less-fits ∙ div-less-is
 
-    pub mod-less : natAbs (back (back (remZ (back e) (toZ w64 n)) +ℤ toZ w64 n)) ≡ floorMod e n
-    mod-less = rw (toZ-ofZ mod-less-fits, mod-less-is)
+    mod-less-is : back (back (rem e n) +ℤ toZ w64 n) ≡ pos (floorMod e n)
+    mod-less-is = toZ-ofZ (sum-fits (back (rem e n)) (toZ w64 n) rem-small count-small) ∙ rw (rem-is, count-is) (rem-below e n h less .1)
 
-    pub mod-less-nonneg : T (nonNeg (back (back (remZ (back e) (toZ w64 n)) +ℤ toZ w64 n)))
-    mod-less-nonneg = rw (toZ-ofZ mod-less-fits, mod-less-is) tt
+    pub mod-less : natAbs (back (back (rem e n) +ℤ toZ w64 n)) ≡ floorMod e n
+    mod-less = rw mod-less-is
 
-    pub mod-less-narrow : Fits w32 (natAbs (back (back (remZ (back e) (toZ w64 n)) +ℤ toZ w64 n)))
-    mod-less-narrow = rw mod-less mod-narrow
+    pub mod-less-nonneg : T (nonNeg (back (back (rem e n) +ℤ toZ w64 n)))
+    mod-less-nonneg = rw mod-less-is tt
 
-  module _ (t : ltZ (back (remZ (back e) (toZ w64 n))) (pos 0) ≡ false) where
+    pub mod-less-narrow : Fits w32 (natAbs (back (back (rem e n) +ℤ toZ w64 n)))
+    mod-less-narrow = rw mod-less-is mod-narrow
+
+  module _ (t : ltZ (back (rem e n)) (pos 0) ≡ false) where
     more : pos 0 ≤ℤ remZ e (pos n)
     more = ltZ-false _ _ (rw rem-is at t)
 
-    pub div-more : back (quotZ (back e) (toZ w64 n)) ≡ floorDiv e n
+    pub div-more : back (quot e n) ≡ floorDiv e n
     div-more = quot-is ∙ rem-above e n h more .0
 
-    mod-more-is : back (remZ (back e) (toZ w64 n)) ≡ pos (floorMod e n)
+    mod-more-is : back (rem e n) ≡ pos (floorMod e n)
     mod-more-is = rem-is ∙ rem-above e n h more .1
 
-    pub mod-more : natAbs (back (remZ (back e) (toZ w64 n))) ≡ floorMod e n
+    pub mod-more : natAbs (back (rem e n)) ≡ floorMod e n
     mod-more = rw mod-more-is
 
-    pub mod-more-nonneg : T (nonNeg (back (remZ (back e) (toZ w64 n))))
+    pub mod-more-nonneg : T (nonNeg (back (rem e n)))
     mod-more-nonneg = rw mod-more-is tt
 
-    pub mod-more-narrow : Fits w32 (natAbs (back (remZ (back e) (toZ w64 n))))
-    mod-more-narrow = rw mod-more mod-narrow
+    pub mod-more-narrow : Fits w32 (natAbs (back (rem e n)))
+    mod-more-narrow = rw mod-more-is mod-narrow

@@ -1,6 +1,6 @@
 -- Laws of words: what is written reads back, what was read and is written again gives the same bytes, and no other byte changes.
 use mathlib.Core.Path.{_≡_, refl, sym, _∙_, ap}
-use mathlib.Core.Bool.{Bool, true, false}
+use mathlib.Core.Bool.{true, false}
 use mathlib.Core.List.{List, [], _∷_}
 use Prim.Native.Nat.{ℕ, zero, suc, _+_, _*_, _-_, _/_, _%_, _^_, _<_, _≤_}
 use native.Mathlib.Nat.{add-zero}
@@ -10,7 +10,7 @@ use lib.Dec.{T}
 use lib.IntN.{ℤ, pos, negsuc, natAbs, _+ℤ_, _-ℤ_}
 use lib.ListN.{length, getD, set, length-set}
 use lib.Seq.{sets, length-sets, getD-set-same, getD-set-other, set-getD}
-use lib.Signed.{_≤ℤ_, _<ℤ_, ltZ, nonNeg, yes-nonNeg}
+use lib.Signed.{ltZ, nonNeg}
 use mir.Syntax.{w8, w32, w64}
 use mir.Val.{Fits, SFits, toZ, ofZ}
 use mir.Facts.{toZ-pos, toZ-neg, toZ-ofZ, ofZ-toZ, sfits-toZ, fits-ofZ, sfits-widen}
@@ -115,14 +115,14 @@ module _ (n : ℕ) (h : n < 4294967296) where
   pub low-word : n < 2147483648 → toZ w64 n ≡ toZ w32 n
   low-word l = word-is ∙ sym (toZ-pos w32 l)
 
-  pub high-fits : SFits w64 (toZ w64 n -ℤ pos 4294967296)
-  high-fits = rw word-is (by-fits (simp ring (omega arith)))
+  pub high-fits : (k : ℕ) → k ≤ 4294967296 → SFits w64 (toZ w64 n -ℤ pos k)
+  high-fits k l = rw word-is (by-fits (simp ring (omega arith)))
 
   pub high-word : 2147483648 ≤ n → back (toZ w64 n -ℤ pos 4294967296) ≡ toZ w32 n
   high-word l =
       let e : 2 ^ 32 - suc (4294967295 - n) ≡ n = omega arith in
       let z : toZ w32 n ≡ negsuc (4294967295 - n) = rw e at (toZ-neg w32 (4294967295 - n) (omega arith)) in
-      toZ-ofZ high-fits ∙ rw (word-is, z) (by-eq (simp ring (omega arith)))
+      toZ-ofZ (high-fits 4294967296 (omega arith)) ∙ rw (word-is, z) (by-eq (simp ring (omega arith)))
 
 module _ (v : ℤ) (f : SFits w32 v) where
   back-is : back v ≡ v

@@ -1,18 +1,18 @@
 -- Laws of points: what a test over exponents says of each, points by value, and the ways through their loops.
-use mathlib.Core.Path.{_≡_, refl, sym, _∙_, ap}
-use mathlib.Core.Bool.{Bool, true, false, cond, _&&_, and-false}
+use mathlib.Core.Path.{_≡_, refl, sym, _∙_, ap, ap₂}
+use mathlib.Core.Bool.{Bool, true, false, cond, and-false, and-eq-true-iff, false≢true}
 use mathlib.Core.List.{List, [], _∷_, _++_, append-assoc}
-use Prim.Native.Nat.{ℕ, zero, suc, _+_, _-_, _/_, _%_, _<_, _≤_, min}
+use Prim.Native.Nat.{ℕ, zero, suc, _+_, _-_, _/_, _<_, _≤_, min}
 use native.Mathlib.Nat.{le-of-lt}
 use native.Mathlib.Numerals.{add-one}
 use native.Mathlib.Decide.{decLt}
 use native.Mathlib.Omega.{arith}
-use lib.Dec.{T, eqb, ltb, leb}
-use lib.ListN.{length, getD, set, take, drop, replicate, length-append, length-take, length-replicate, List·getD-append}
+use lib.Dec.{eqb, ltb}
+use lib.ListN.{length, getD, set, drop, replicate, length-append, length-take, List·getD-append}
 use lib.Seq.{drop-cons, drop-nil, getD-take, set-at, getD-at, ext-getD}
-use borrow.Author.Tests.{lt-ltb, le-ltb, eq-eqb, ne-eqb, eqb-true}
+use borrow.Author.Tests.{lt-ltb, le-ltb, eq-eqb, eqb-true}
 use borrow.Author.Count.{below-more}
-use Rattle.monomials.specs.Points.{Exponents, exponents, pointOf, table, bytesAt, every, everyPair, samePoint, risesTo, hasMidpoint, midpointOf, keepsSign, exponentsWithin}
+use Rattle.monomials.specs.Points.{Exponents, exponents, pointOf, table, every, everyPair, samePoint, risesTo, midpointOf}
 use Rattle.monomials.specs.declared.points.Point.{Point}
 
 -- ---- points by value
@@ -93,6 +93,22 @@ module _ (p : ℕ → ℕ → Bool) (a b : Point) (n m : ℕ) (ea : length (a .e
     pair-ends h k =
         sym (pair-true p (exponents a) (exponents b) (omega arith)
         (λ j l. rw (exponent-is a ea j l, exponent-is b eb j (omega arith)) (k j (omega arith))))
+
+-- ---- the same point
+
+pub same-eq : (v w : Exponents) → samePoint v w ≡ true → v ≡ w
+unfolding samePoint everyPair
+same-eq [] [] e = refl
+same-eq [] (b ∷ w) e = absurd (false≢true e)
+same-eq (a ∷ v) [] e = absurd (false≢true e)
+same-eq (a ∷ v) (b ∷ w) e =
+    let q = and-eq-true-iff (eqb a b) (everyPair eqb v w) .0 e in
+    ap₂ _∷_ (eqb-true a b (q .0)) (same-eq v w (q .1))
+
+pub same-refl : (v : Exponents) → samePoint v v ≡ true
+unfolding samePoint everyPair
+same-refl [] = refl
+same-refl (a ∷ v) = rw (eq-eqb a a refl, same-refl v)
 
 -- ---- tests over the exponents of one point
 
@@ -215,6 +231,10 @@ unfolding midpointOf
 midpoint-length [] w = omega arith
 midpoint-length (a ∷ v) [] = omega arith
 midpoint-length (a ∷ v) (b ∷ w) = omega (arith, midpoint-length v w)
+
+-- a whole midpoint has as many exponents as its ends
+pub midpoint-sized : (v w : Exponents) (n : ℕ) → length v ≡ n → length w ≡ n → length (midpointOf v w) ≡ n
+midpoint-sized v w n h k = omega (arith, midpoint-length v w)
 
 pub midpoint-get : (v w : Exponents) (i : ℕ) → i < length v → i < length w → getD (midpointOf v w) i 0 ≡ (getD v i 0 + getD w i 0) / 2
 unfolding midpointOf

@@ -2,8 +2,6 @@ use Rattle.integers.proofs.division.Laws.{quot-fits, div-less-fits, div
 use borrow.Author.Needs.{needs}
 use Rattle.integers.proofs.division.floor_div.Statement.{statement}
 use Rattle.integers.proofs.division.floor_div.Tie as tie
-use Rattle.integers.proofs.division.floor_div.Reads as reads
-use Rattle.integers.proofs.division.floor_div.Lts as lts
 
 cast-c : tie.Need-cast-c
 cast-c c = search needs
@@ -15,7 +13,7 @@ rem-if1 : tie.Need-rem-if1
 rem-if1 c = (search needs, search quot-fits)
 
 sub-result : tie.Need-sub-result
-sub-result c = search div-less-fits
+sub-result c = search (needs, div-less-fits)
 
 returns : tie.Need-returns
 returns c = search div-less

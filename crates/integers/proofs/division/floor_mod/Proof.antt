@@ -1,9 +1,7 @@
-use Rattle.integers.proofs.division.Laws.{quot-fits, mod-less-fits, mod-less, mod-less-nonneg, mod-less-narrow, mod-more, mod-more-nonneg, mod-more-narrow}
+use Rattle.integers.proofs.division.Laws.{quot-fits, sum-fits, rem-small, count-small, mod-less, mod-less-nonneg, mod-less-narrow, mod-more, mod-more-nonneg, mod-more-narrow}
 use borrow.Author.Needs.{needs}
 use Rattle.integers.proofs.division.floor_mod.Statement.{statement}
 use Rattle.integers.proofs.division.floor_mod.Tie as tie
-use Rattle.integers.proofs.division.floor_mod.Reads as reads
-use Rattle.integers.proofs.division.floor_mod.Lts as lts
 
 cast-c : tie.Need-cast-c
 cast-c c = search needs
@@ -12,7 +10,7 @@ rem-m : tie.Need-rem-m
 rem-m c = (search needs, search quot-fits)
 
 add-result : tie.Need-add-result
-add-result c = search mod-less-fits
+add-result c = search (sum-fits, rem-small, count-small)
 
 cast-result : tie.Need-cast-result
 cast-result c = (search mod-less-nonneg, search mod-less-narrow)

@@ -1,9 +1,6 @@
 use Rattle.integers.proofs.magnitudes.Laws.{below-fits, below-nonneg, below-narrow, below-more, below-is, above-nonneg, above-narrow, above-is}
-use borrow.Author.Needs.{needs}
 use Rattle.integers.proofs.magnitudes.magnitude.Statement.{statement}
 use Rattle.integers.proofs.magnitudes.magnitude.Tie as tie
-use Rattle.integers.proofs.magnitudes.magnitude.Reads as reads
-use Rattle.integers.proofs.magnitudes.magnitude.Lts as lts
 
 sub-result : tie.Need-sub-result
 sub-result c = search below-fits

@@ -1,9 +1,6 @@
-use borrow.Author.Needs.{needs}
 use Rattle.integers.proofs.words.Laws.{below-fits, below-nonneg, below-narrow, below-bits, above-nonneg, above-narrow, above-bits}
 use Rattle.integers.proofs.words.bits_of.Statement.{statement}
 use Rattle.integers.proofs.words.bits_of.Tie as tie
-use Rattle.integers.proofs.words.bits_of.Reads as reads
-use Rattle.integers.proofs.words.bits_of.Lts as lts
 
 add-result : tie.Need-add-result
 add-result c = search below-fits

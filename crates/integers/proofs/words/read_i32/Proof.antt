@@ -3,10 +3,6 @@ use mir.Facts.{toZ-ofZ}
 use borrow.Author.Needs.{needs}
 use Rattle.integers.proofs.words.read_i32.Statement.{statement}
 use Rattle.integers.proofs.words.read_i32.Tie as tie
-use Rattle.integers.proofs.words.read_i32.Reads as reads
-use Rattle.integers.proofs.words.read_i32.Lts as lts
-use Rattle.integers.proofs.words.read_u32.Reads as read-u32-reads
-use Rattle.integers.proofs.words.signed.Reads as signed-reads
 
 read-u32-requires : tie.Need-read-u32-requires
 read-u32-requires c κs = search needs

@@ -2,9 +2,6 @@ use Rattle.integers.specs.Words.{u32At}
 use borrow.Author.Needs.{needs}
 use Rattle.integers.proofs.words.read_u32.Statement.{statement}
 use Rattle.integers.proofs.words.read_u32.Tie as tie
-use Rattle.integers.proofs.words.read_u32.Reads as reads
-use Rattle.integers.proofs.words.read_u32.Lts as lts
-use Rattle.integers.proofs.words.wide.Reads as wide-reads
 
 shared-slice-read-wide : tie.Need-shared-slice-read-wide
 shared-slice-read-wide c = search needs

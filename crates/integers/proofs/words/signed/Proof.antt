@@ -2,8 +2,6 @@ use Rattle.integers.proofs.words.Laws.{low-word, high-fits, high-word}
 use borrow.Author.Needs.{needs}
 use Rattle.integers.proofs.words.signed.Statement.{statement}
 use Rattle.integers.proofs.words.signed.Tie as tie
-use Rattle.integers.proofs.words.signed.Reads as reads
-use Rattle.integers.proofs.words.signed.Lts as lts
 
 cast-result : tie.Need-cast-result
 cast-result c = search needs
@@ -12,7 +10,7 @@ cast-result-2 : tie.Need-cast-result-2
 cast-result-2 c = search needs
 
 sub-result : tie.Need-sub-result
-sub-result c = search high-fits
+sub-result c = search (needs, high-fits)
 
 returns : tie.Need-returns
 returns c = search low-word

@@ -5,8 +5,6 @@ use Rattle.integers.specs.Words.{withBits}
 use borrow.Author.Needs.{needs}
 use Rattle.integers.proofs.words.write_bits.Statement.{statement}
 use Rattle.integers.proofs.words.write_bits.Tie as tie
-use Rattle.integers.proofs.words.write_bits.Reads as reads
-use Rattle.integers.proofs.words.write_bits.Lts as lts
 
 cast-out : tie.Need-cast-out
 cast-out c = search needs

@@ -3,10 +3,6 @@ use mir.Facts.{toZ-ofZ}
 use borrow.Author.Needs.{needs}
 use Rattle.integers.proofs.words.write_i32.Statement.{statement}
 use Rattle.integers.proofs.words.write_i32.Tie as tie
-use Rattle.integers.proofs.words.write_i32.Reads as reads
-use Rattle.integers.proofs.words.write_i32.Lts as lts
-use Rattle.integers.proofs.words.bits_of.Reads as bits-of-reads
-use Rattle.integers.proofs.words.write_bits.Reads as write-bits-reads
 
 bits-of-requires : tie.Need-bits-of-requires
 bits-of-requires c κs = search needs

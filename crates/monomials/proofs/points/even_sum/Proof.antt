@@ -2,8 +2,6 @@ use Rattle.monomials.specs.Points.{evenSum}
 use borrow.Author.Needs.{needs}
 use Rattle.monomials.proofs.points.even_sum.Statement.{statement}
 use Rattle.monomials.proofs.points.even_sum.Tie as tie
-use Rattle.monomials.proofs.points.even_sum.Reads as reads
-use Rattle.monomials.proofs.points.even_sum.Lts as lts
 
 add-result : tie.Need-add-result
 add-result c = search needs

@@ -8,9 +8,6 @@ use Rattle.monomials.specs.Points.{exponentsWithin}
 use Rattle.monomials.proofs.points.Laws.{Passed, passed-none, passed-on, every-stops, every-ends}
 use Rattle.monomials.proofs.points.exponents_within.Statement.{statement}
 use Rattle.monomials.proofs.points.exponents_within.Tie as tie
-use Rattle.monomials.proofs.points.exponents_within.Reads as reads
-use Rattle.monomials.proofs.points.exponents_within.Lts as lts
-use Rattle.monomials.proofs.points.Point.variables.Reads as variables-reads
 
 abbrev Inv-loop : tie.InvT-loop
 Inv-loop limit n x i₀ i = (i ≤ n) × (length x ≡ 8) × Passed (λ a b. leb a limit) x x i

@@ -1,15 +1,11 @@
 use borrow.Author.Needs.{needs}
 use Prim.Native.Nat.{_-_, _≤_}
-use mathlib.Core.Path.{_≡_, sym, _∙_}
+use mathlib.Core.Path.{_≡_}
 use lib.ListN.{length}
 use Rattle.monomials.specs.Points.{evenSum, hasMidpoint}
 use Rattle.monomials.proofs.points.Laws.{Passed, passed-none, passed-test, pair-fewer, pair-test, pair-ends}
 use Rattle.monomials.proofs.points.has_midpoint.Statement.{statement}
 use Rattle.monomials.proofs.points.has_midpoint.Tie as tie
-use Rattle.monomials.proofs.points.has_midpoint.Reads as reads
-use Rattle.monomials.proofs.points.has_midpoint.Lts as lts
-use Rattle.monomials.proofs.points.Point.variables.Reads as variables-reads
-use Rattle.monomials.proofs.points.even_sum.Reads as even-sum-reads
 
 abbrev Inv-loop : tie.InvT-loop
 Inv-loop n x y i₀ i = (i ≤ n) × (length x ≡ 8) × (length y ≡ 8) × Passed evenSum x y i

@@ -9,9 +9,6 @@ use Rattle.monomials.specs.Points.{keepsSign}
 use Rattle.monomials.proofs.points.Laws.{Passed, passed-none, passed-on, every-stops, every-ends}
 use Rattle.monomials.proofs.points.keeps_sign.Statement.{statement}
 use Rattle.monomials.proofs.points.keeps_sign.Tie as tie
-use Rattle.monomials.proofs.points.keeps_sign.Reads as reads
-use Rattle.monomials.proofs.points.keeps_sign.Lts as lts
-use Rattle.monomials.proofs.points.Point.variables.Reads as variables-reads
 
 abbrev Inv-loop : tie.InvT-loop
 Inv-loop n x i₀ i = (i ≤ n) × (length x ≡ 8) × Passed (λ a b. eqb (a % 2) 0) x x i

@@ -6,11 +6,6 @@ use Rattle.monomials.specs.Points.{table}
 use Rattle.monomials.proofs.points.Laws.{padded, filled-none, filled-on, midpoint-made}
 use Rattle.monomials.proofs.points.midpoint.Statement.{statement}
 use Rattle.monomials.proofs.points.midpoint.Tie as tie
-use Rattle.monomials.proofs.points.midpoint.Reads as reads
-use Rattle.monomials.proofs.points.midpoint.Lts as lts
-use Rattle.monomials.proofs.points.Point.variables.Reads as variables-reads
-use Rattle.monomials.proofs.points.fewer.Reads as fewer-reads
-use Rattle.monomials.proofs.points.half.Reads as half-reads
 
 abbrev Inv-loop : tie.InvT-loop
 Inv-loop n x y exps₀ i₀ exps i = (i ≤ n) × (n ≤ 8) × (length x ≡ 8) × (length y ≡ 8) × (exps ≡ padded (table (λ j. (getD x j 0 + getD y j 0) / 2) i))

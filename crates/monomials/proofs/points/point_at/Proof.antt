@@ -6,8 +6,6 @@ use Rattle.monomials.specs.Points.{table, bytesAt}
 use Rattle.monomials.proofs.points.Laws.{padded, filled-none, filled-on, filled-end}
 use Rattle.monomials.proofs.points.point_at.Statement.{statement}
 use Rattle.monomials.proofs.points.point_at.Tie as tie
-use Rattle.monomials.proofs.points.point_at.Reads as reads
-use Rattle.monomials.proofs.points.point_at.Lts as lts
 
 abbrev Inv-loop : tie.InvT-loop
 Inv-loop s at n exps₀ i₀ exps i = (i ≤ n) × (exps ≡ padded (table (λ j. getD s (at + j) 0) i))

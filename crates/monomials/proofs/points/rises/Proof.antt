@@ -6,10 +6,6 @@ use lib.ListN.{length}
 use Rattle.monomials.proofs.points.Laws.{Passed, passed-none, rises-more, rises-less, rises-on, rises-end}
 use Rattle.monomials.proofs.points.rises.Statement.{statement}
 use Rattle.monomials.proofs.points.rises.Tie as tie
-use Rattle.monomials.proofs.points.rises.Reads as reads
-use Rattle.monomials.proofs.points.rises.Lts as lts
-use Rattle.monomials.proofs.points.Point.variables.Reads as variables-reads
-use Rattle.monomials.proofs.points.fewer.Reads as fewer-reads
 
 abbrev Inv-loop : tie.InvT-loop
 Inv-loop n x y i₀ i = (i ≤ n) × (n ≤ 8) × (length x ≡ 8) × (length y ≡ 8) × Passed eqb x y i

@@ -8,9 +8,6 @@ use Rattle.monomials.specs.Points.{samePoint}
 use Rattle.monomials.proofs.points.Laws.{Passed, passed-none, passed-on, pair-fewer, pair-stops, pair-ends}
 use Rattle.monomials.proofs.points.same.Statement.{statement}
 use Rattle.monomials.proofs.points.same.Tie as tie
-use Rattle.monomials.proofs.points.same.Reads as reads
-use Rattle.monomials.proofs.points.same.Lts as lts
-use Rattle.monomials.proofs.points.Point.variables.Reads as variables-reads
 
 abbrev Inv-loop : tie.InvT-loop
 Inv-loop n x y i₀ i = (i ≤ n) × (length x ≡ 8) × (length y ≡ 8) × Passed eqb x y i

@@ -3,9 +3,6 @@ use Rattle.monomials.proofs.powers.Laws.{large-large, large-zero, large
 use borrow.Author.Needs.{needs}
 use Rattle.monomials.proofs.powers.large_times.Statement.{statement}
 use Rattle.monomials.proofs.powers.large_times.Tie as tie
-use Rattle.monomials.proofs.powers.large_times.Reads as reads
-use Rattle.monomials.proofs.powers.large_times.Lts as lts
-use Rattle.integers.proofs.magnitudes.magnitude.Reads as magnitude-reads
 
 enum-known-factor : tie.Need-enum-known-factor
 enum-known-factor c = search needs

@@ -7,13 +7,6 @@ use Rattle.monomials.specs.Powers.{within}
 use Rattle.monomials.proofs.powers.Laws.{From, from-end, from-more, from-all}
 use Rattle.monomials.proofs.powers.monomial.Statement.{statement}
 use Rattle.monomials.proofs.powers.monomial.Tie as tie
-use Rattle.monomials.proofs.powers.monomial.Reads as reads
-use Rattle.monomials.proofs.powers.monomial.Lts as lts
-use Rattle.monomials.proofs.points.Point.variables.Reads as variables-reads
-use Rattle.monomials.proofs.points.fewer.Reads as fewer-reads
-use Rattle.monomials.proofs.powers.offset_at.Reads as offset-at-reads
-use Rattle.monomials.proofs.powers.power.Reads as power-reads
-use Rattle.monomials.proofs.powers.product.Reads as product-reads
 
 abbrev Inv-loop : tie.InvT-loop
 Inv-loop offsets e n i₀ value₀ i value = (i ≤ n) × (n ≤ 8) × (i ≤ length offsets) × (length e ≡ 8) × (value ≡ within (From offsets e n i))

@@ -7,8 +7,6 @@ use mir.Facts.{toZ-ofZ, sfits-widen}
 use borrow.Author.Needs.{needs}
 use Rattle.monomials.proofs.powers.offset_at.Statement.{statement}
 use Rattle.monomials.proofs.powers.offset_at.Tie as tie
-use Rattle.monomials.proofs.powers.offset_at.Reads as reads
-use Rattle.monomials.proofs.powers.offset_at.Lts as lts
 
 mul-result : tie.Need-mul-result
 mul-result c = search needs

@@ -3,10 +3,6 @@ use Rattle.monomials.proofs.powers.Laws.{product-large, product-by-larg
 use borrow.Author.Needs.{needs}
 use Rattle.monomials.proofs.powers.product.Statement.{statement}
 use Rattle.monomials.proofs.powers.product.Tie as tie
-use Rattle.monomials.proofs.powers.product.Reads as reads
-use Rattle.monomials.proofs.powers.product.Lts as lts
-use Rattle.monomials.proofs.powers.large_times.Reads as large-times-reads
-use Rattle.monomials.proofs.powers.times.Reads as times-reads
 
 enum-known-a : tie.Need-enum-known-a
 enum-known-a c = search needs

@@ -3,9 +3,6 @@ use Rattle.monomials.proofs.powers.Laws.{times-zero, times-large, times
 use borrow.Author.Needs.{needs}
 use Rattle.monomials.proofs.powers.times.Statement.{statement}
 use Rattle.monomials.proofs.powers.times.Tie as tie
-use Rattle.monomials.proofs.powers.times.Reads as reads
-use Rattle.monomials.proofs.powers.times.Lts as lts
-use Rattle.integers.proofs.magnitudes.magnitude.Reads as magnitude-reads
 
 magnitude-requires : tie.Need-magnitude-requires
 magnitude-requires c κs = search needs

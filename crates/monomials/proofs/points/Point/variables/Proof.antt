@@ -2,8 +2,6 @@ use borrow.Author.Needs.{needs}
 use Rattle.monomials.proofs.points.Laws.{variables-fewer, variables-all}
 use Rattle.monomials.proofs.points.Point.variables.Statement.{statement}
 use Rattle.monomials.proofs.points.Point.variables.Tie as tie
-use Rattle.monomials.proofs.points.Point.variables.Reads as reads
-use Rattle.monomials.proofs.points.Point.variables.Lts as lts
 
 returns : tie.Need-returns
 returns c = (search (needs, variables-fewer), search needs)

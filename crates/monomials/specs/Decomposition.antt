@@ -1,0 +1,45 @@
+-- Decomposition: rows that hold, and whose weights add up to the target at every point.
+use mathlib.Core.Path.{_≡_}
+use mathlib.Core.List.{List, [], _∷_}
+use Prim.Native.Nat.{ℕ, _<_}
+use mathlib.Core.Bool.{true}
+use lib.IntN.{ℤ}
+use lib.ListN.{length}
+use Rattle.monomials.specs.Points.{Exponents, hasMidpoint}
+use Rattle.monomials.specs.Sums.{Sum, coefficient}
+use Rattle.monomials.specs.Rows.{Row, slots, Holds}
+use Rattle.monomials.specs.Targets.{lowered, target}
+use Rattle.monomials.specs.declared.rows.Weights.{Weights}
+use Rattle.monomials.specs.declared.rows.Weights.the-variants.{Pair, Lone}
+
+-- P holds of every element
+abbrev pub All : {A : Type 0} → (A → Type 0) → List A → Type 0
+All P [] = Unit {0}
+All P (a ∷ l) = P a × All P l
+
+-- every point of a sum has n exponents
+abbrev pub Sized : ℕ → Sum → Type 0
+Sized n L = All (λ t. length (t .0) ≡ n) L
+
+-- a pair's ends have a whole midpoint
+abbrev pub Whole : Exponents → Exponents → Weights → Type 0
+Whole v w (Pair p q r) = hasMidpoint v w ≡ true
+Whole v w (Lone p) = Unit {0}
+
+-- a row's two points have n exponents
+pub record Placed (n : ℕ) (a : Row) : Type 0 where
+  pub v-length : length (a .v) ≡ n
+  pub w-length : length (a .w) ≡ n
+  pub whole : Whole (a .v) (a .w) (a .weights)
+
+-- "at each point of n exponents, held or not, the sum over its slots (0 where there is none) equals the target there"
+abbrev pub AddsUp : ℕ → ℕ → ℤ → Sum → Sum → Type 0
+AddsUp n S b f L = (α : Exponents) → length α ≡ n → coefficient α L ≡ target S (lowered n b f) α
+
+-- "every row holds and the weights add up to the target at every point"
+pub record Decomposition (n S : ℕ) (b : ℤ) (f : Sum) (rows : List Row) : Type 0 where
+  pub scale : 0 < S
+  pub sized : Sized n f
+  pub placed : All (Placed n) rows
+  pub hold : All (λ a. Holds (a .weights)) rows
+  pub adds-up : AddsUp n S b f (slots rows)
