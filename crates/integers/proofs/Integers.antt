@@ -120,7 +120,10 @@ pub ⊖-le : (a b c d : ℕ) → ((a ⊖ b) ≤ℤ (c ⊖ d)) ↔ (a + d ≤ c +
 ⊖-le a b c d = (λ h. above (diff a b) (diff c d) (h .le), λ h. record { le = below (diff a b) (diff c d) h })
 
 pub ⊖-lt : (a b c d : ℕ) → ((a ⊖ b) <ℤ (c ⊖ d)) ↔ (a + d < c + b)
-⊖-lt a b c d = (λ h. strictly-above (diff a b) (diff c d) (h .lt), λ h. record { lt = strictly-below (diff a b) (diff c d) h })
+⊖-lt a b c d = (
+  λ h. strictly-above (diff a b) (diff c d) (h .lt),
+  λ h. record { lt = strictly-below (diff a b) (diff c d) h },
+)
 
 pub ⊖-eq : (a b c d : ℕ) → (a ⊖ b ≡ c ⊖ d) ↔ (a + d ≡ c + b)
 ⊖-eq a b c d = (
@@ -186,7 +189,10 @@ pub read-parts : (x : ℤ) → read x ≡ up x ⊖ dn x
 unfolding read
 read-parts x = parts x
 
-pub ruleset ring = (read-add, read-mul, read-neg, read-pos, read-negsuc, read-sub, read-⊖, read-parts, ⊖-add, ⊖-mul, ⊖-neg, ⊖-eq, ⊖-le, ⊖-lt, ⊖-fits, ⊖-abs)
+-- the mark goes in
+pub ruleset marks = (read-add, read-mul, read-neg, read-pos, read-negsuc, read-sub, read-⊖, read-parts)
+
+pub ruleset ring = (marks, ⊖-add, ⊖-mul, ⊖-neg, ⊖-eq, ⊖-le, ⊖-lt, ⊖-fits, ⊖-abs)
 
 -- a goal, from its reading
 pub by-eq : {x y : ℤ} → read x ≡ read y → x ≡ y
@@ -286,7 +292,9 @@ leZ-parts x y e = le-parts (leZ-true x y e)
 pub not-leZ-parts : (x y : ℤ) → leZ x y ≡ false → up y + dn x < up x + dn y
 not-leZ-parts x y e = lt-parts (leZ-false x y e)
 
-pub ruleset ints = (arith, le-parts, lt-parts, eq-parts, parts-le, parts-lt, parts-eq, ltZ-parts, not-ltZ-parts, leZ-parts, not-leZ-parts)
+pub ruleset tests = (ltZ-parts, not-ltZ-parts, leZ-parts, not-leZ-parts)
+
+pub ruleset ints = (arith, le-parts, lt-parts, eq-parts, parts-le, parts-lt, parts-eq, tests)
 
 -- what `omega`'s list needs to hear of an unknown where absolute values, ranges or signs count
 pub record Sizes (z : ℤ) : Type 0 where
@@ -431,12 +439,15 @@ pub read-times : (k : ℕ) (x : ℤ) → read (times k x) ≡ k * up x ⊖ k * d
 unfolding times
 read-times k x = simp ring (omega ints)
 
-pub ruleset expand = (to-times, times-add, times-neg, times-times, times-mul, mul-times, *ℤ-+ℤ, +ℤ-*ℤ, negℤ-*ℤ, *ℤ-negℤ, negℤ-+ℤ, negℤ-negℤ, *ℤ-assoc, *ℤ-comm, *ℤ-left-comm)
+pub ruleset multiples = (to-times, times-add, times-neg, times-times, times-mul, mul-times)
+
+pub ruleset signs = (negℤ-*ℤ, *ℤ-negℤ, negℤ-+ℤ, negℤ-negℤ)
+
+pub ruleset expand = (multiples, signs, *ℤ-+ℤ, +ℤ-*ℤ, *ℤ-assoc, *ℤ-comm, *ℤ-left-comm)
 
 pub ruleset linear = (read-add, read-neg, read-pos, read-negsuc, read-times, read-parts, ⊖-add, ⊖-neg, ⊖-eq, ⊖-le, ⊖-lt)
 
-two-squares : (a b c d : ℤ) → (a *ℤ a +ℤ b *ℤ b) *ℤ (c *ℤ c +ℤ d *ℤ d) ≡ (a *ℤ c -ℤ b *ℤ d) *ℤ (a *ℤ c -ℤ b *ℤ d) +ℤ (a *ℤ d +ℤ b *ℤ c) *ℤ (a *ℤ d +ℤ b *ℤ c)
-two-squares a b c d = by-eq (simp expand (simp linear (omega ints)))
-
-cube : (x y z : ℤ) → (x +ℤ y +ℤ z) *ℤ (x +ℤ y +ℤ z) *ℤ (x +ℤ y +ℤ z) ≡ x *ℤ x *ℤ x +ℤ y *ℤ y *ℤ y +ℤ z *ℤ z *ℤ z +ℤ (x +ℤ y) *ℤ (y +ℤ z) *ℤ (z +ℤ x) *ℤ pos 3
+-- for example, the cube of a sum of three
+cube : (x y z : ℤ) → (x +ℤ y +ℤ z) *ℤ (x +ℤ y +ℤ z) *ℤ (x +ℤ y +ℤ z)
+    ≡ x *ℤ x *ℤ x +ℤ y *ℤ y *ℤ y +ℤ z *ℤ z *ℤ z +ℤ (x +ℤ y) *ℤ (y +ℤ z) *ℤ (z +ℤ x) *ℤ pos 3
 cube x y z = by-eq (simp expand (simp linear (omega ints)))

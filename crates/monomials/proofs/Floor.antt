@@ -1,5 +1,5 @@
 -- The floor theorem's proof. Its statement is specs/Floor.antt.
--- First for any worth φ of points (worth no less than 0 at points that keep their sign), then for monomials at whole numbers.
+-- First for any worth φ of points, no less than 0 at those that keep their sign; then for monomials at whole numbers.
 use mathlib.Core.Path.{_≡_, refl, sym, _∙_, ap}
 use mathlib.Core.Bool.{Bool, true, false}
 use mathlib.Core.List.{List, [], _∷_}
@@ -49,13 +49,15 @@ target-zero S g α z = rw (z, worst-zero (keepsSign α)) (*ℤ-zero (pos S))
 
 -- weights that are the target at every point are worth no more, at absolute values, than S times g
 module _ (φ : Exponents → ℤ) (signs : (α : Exponents) → keepsSign α ≡ true → pos 0 ≤ℤ φ α) where
-  pub target-bounds : (S : ℕ) (g M : Sum) → ((α : Exponents) → coefficient α M ≡ target S g α) → value (absolute φ) M ≤ℤ (pos S *ℤ value φ g)
+  pub target-bounds : (S : ℕ) (g M : Sum) → ((α : Exponents) → coefficient α M ≡ target S g α)
+      → value (absolute φ) M ≤ℤ (pos S *ℤ value φ g)
   unfolding target
   target-bounds S g M e =
       rw (← (value-scaled (pos S) φ g))
       (dominate φ (absolute φ) (λ α. worst (keepsSign α)) (λ α. worst-zero (keepsSign α))
       (λ α c. worst-below (keepsSign α) c (φ α) (signs α)) (scaled (pos S) g) M
-      (λ α. e α ∙ sym (worst-scaled (keepsSign α) S (coefficient α g)) ∙ ap (worst (keepsSign α)) (sym (coefficient-scaled (pos S) α g))))
+      (λ α. e α ∙ sym (worst-scaled (keepsSign α) S (coefficient α g))
+      ∙ ap (worst (keepsSign α)) (sym (coefficient-scaled (pos S) α g))))
 
 -- ---- points of n exponents are enough
 
@@ -67,8 +69,9 @@ everywhere n S b f M sf sm e α = go (ℕ-discrete (length α) n)
   where
     go : Dec (length α ≡ n) → coefficient α M ≡ target S (lowered n b f) α
     go (yes k) = e α k
-    go (no d) = coefficient-none (λ β. length β ≡ n) α M sm d
-        ∙ sym (target-zero S (lowered n b f) α (coefficient-none (λ β. length β ≡ n) α (lowered n b f) (length-replicate n 0, sf) d))
+    go (no d) =
+        let none : coefficient α (lowered n b f) ≡ pos 0 = coefficient-none (λ β. length β ≡ n) α _ (length-replicate n 0, sf) d in
+        coefficient-none (λ β. length β ≡ n) α M sm d ∙ sym (target-zero S (lowered n b f) α none)
 
 slots-sized : (n : ℕ) (v w : Exponents) (s : Weights) → length v ≡ n → length w ≡ n → Sized n (slotsAt v w s)
 unfolding slotsAt
@@ -97,7 +100,8 @@ means : (x : List ℤ) (v w : Exponents) (s : Weights) → Whole v w s → Mean 
 means x v w (Pair p q r) t = monomial-mean x v w t
 means x v w (Lone p) t = tt
 
-all-means : (x : List ℤ) (n : ℕ) (rows : List Row) → All (Placed n) rows → All (λ a. Mean (monomialOf x) (a .v) (a .w) (a .weights)) rows
+all-means : (x : List ℤ) (n : ℕ) (rows : List Row) → All (Placed n) rows
+    → All (λ a. Mean (monomialOf x) (a .v) (a .w) (a .weights)) rows
 all-means x n [] t = tt
 all-means x n (a ∷ rows) t = (means x (a .v) (a .w) (a .weights) (t .0 .whole), all-means x n rows (t .1))
 

@@ -1,4 +1,4 @@
--- Laws of monomials over ℤ: never negative at a point that keeps its sign, the square of a midpoint's is the product of the ends'.
+-- Laws of monomials over ℤ: at a point that keeps its sign never negative; at a midpoint the mean of those at its ends.
 use mathlib.Core.Path.{_≡_, refl, sym, _∙_, ap}
 use mathlib.Core.Bool.{true, false≢true, and-eq-true-iff}
 use mathlib.Core.List.{List, [], _∷_}
@@ -21,7 +21,8 @@ unfolding powerOf
 power-add x zero b = rw zero-add (sym (one-*ℤ (powerOf x b)))
 power-add x (suc a) b = rw (suc-add, power-add x a b) (sym (*ℤ-assoc x (powerOf x a) (powerOf x b)))
 
-power-half : (x : ℤ) (a b : ℕ) → (a + b) % 2 ≡ 0 → powerOf x ((a + b) / 2) *ℤ powerOf x ((a + b) / 2) ≡ powerOf x a *ℤ powerOf x b
+power-half : (x : ℤ) (a b : ℕ) → (a + b) % 2 ≡ 0
+    → powerOf x ((a + b) / 2) *ℤ powerOf x ((a + b) / 2) ≡ powerOf x a *ℤ powerOf x b
 power-half x a b h =
     let e : (a + b) / 2 + (a + b) / 2 ≡ a + b = omega arith in
     sym (power-add x ((a + b) / 2) ((a + b) / 2)) ∙ ap (powerOf x) e ∙ power-add x a b

@@ -74,7 +74,8 @@ unfolding off coefficient
 off-here a [] = refl
 off-here a (t ∷ L) = go (samePoint a (t .0)) refl (off-here a L)
   where
-    go : (b : Bool) → samePoint a (t .0) ≡ b → coefficient a (off a L) ≡ pos 0 → coefficient a (cond b (off a L) (t ∷ off a L)) ≡ pos 0
+    go : (b : Bool) → samePoint a (t .0) ≡ b → coefficient a (off a L) ≡ pos 0
+        → coefficient a (cond b (off a L) (t ∷ off a L)) ≡ pos 0
     go true e h = h
     go false e h = rw e h
 
@@ -129,9 +130,11 @@ module _ (φ ψ : Exponents → ℤ) (τ : Exponents → ℤ → ℤ) (τ-zero :
   go zero (t ∷ L) M h e = absurd (omega arith)
   go (suc n) [] [] h e = ≤ℤ-refl (pos 0)
   go (suc n) [] (t ∷ M) h e =
-      step (t .0) [] (t ∷ M) e (go n (off (t .0) []) (off (t .0) (t ∷ M)) (omega (arith, off-length (t .0) [], off-first t M)) (without (t .0) [] (t ∷ M) e))
+      step (t .0) [] (t ∷ M) e
+      (go n (off (t .0) []) (off (t .0) (t ∷ M)) (omega (arith, off-length (t .0) [], off-first t M)) (without (t .0) [] (t ∷ M) e))
   go (suc n) (t ∷ L) M h e =
-      step (t .0) (t ∷ L) M e (go n (off (t .0) (t ∷ L)) (off (t .0) M) (omega (arith, off-first t L, off-length (t .0) M)) (without (t .0) (t ∷ L) M e))
+      step (t .0) (t ∷ L) M e
+      (go n (off (t .0) (t ∷ L)) (off (t .0) M) (omega (arith, off-first t L, off-length (t .0) M)) (without (t .0) (t ∷ L) M e))
 
   pub dominate : (L M : Sum) → ((α : Exponents) → coefficient α M ≡ τ α (coefficient α L)) → value ψ M ≤ℤ value φ L
   unfolding Weighs
@@ -140,15 +143,18 @@ module _ (φ ψ : Exponents → ℤ) (τ : Exponents → ℤ → ℤ) (τ-zero :
 -- ---- points that a sum does not have
 
 -- where every point of a sum has a property, one without it weighs nothing
-pub coefficient-none : (P : Exponents → Type 0) (α : Exponents) (L : Sum) → All (λ t. P (t .0)) L → (P α → ⊥) → coefficient α L ≡ pos 0
+pub coefficient-none : (P : Exponents → Type 0) (α : Exponents) (L : Sum) → All (λ t. P (t .0)) L → (P α → ⊥)
+    → coefficient α L ≡ pos 0
 unfolding coefficient
 coefficient-none P α [] s d = refl
 coefficient-none P α (t ∷ L) s d = go (samePoint α (t .0)) (same-eq α (t .0)) (coefficient-none P α L (s .1) d)
   where
-    go : (b : Bool) → (b ≡ true → α ≡ t .0) → coefficient α L ≡ pos 0 → cond b (t .1 +ℤ coefficient α L) (coefficient α L) ≡ pos 0
+    go : (b : Bool) → (b ≡ true → α ≡ t .0) → coefficient α L ≡ pos 0
+        → cond b (t .1 +ℤ coefficient α L) (coefficient α L) ≡ pos 0
     go true f e = absurd (d (subst P (sym (f refl)) (s .0)))
     go false f e = e
 
-pub all-append : (P : Exponents → Type 0) (L M : Sum) → All (λ t. P (t .0)) L → All (λ t. P (t .0)) M → All (λ t. P (t .0)) (L ++ M)
+pub all-append : (P : Exponents → Type 0) (L M : Sum) → All (λ t. P (t .0)) L → All (λ t. P (t .0)) M
+    → All (λ t. P (t .0)) (L ++ M)
 all-append P [] M s t = t
 all-append P (a ∷ L) M s t = (s .0, all-append P L M (s .1) t)

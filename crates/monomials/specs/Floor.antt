@@ -1,4 +1,4 @@
--- The floor theorem as it is stated, to be read beside document 01 ("Judging", demand 3) without its proof, which proofs/Floor.antt has.
+-- The floor theorem's statement, to be read beside document 01 ("Judging", demand 3). Its proof, proofs/Floor.antt, need not be read.
 use mathlib.Core.List.{List}
 use Prim.Native.Nat.{ℕ}
 use lib.IntN.{ℤ}

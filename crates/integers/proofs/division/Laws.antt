@@ -60,7 +60,8 @@ one-more q s r k m e = go (ltb k r) (ltb→lt k r) (nltb→le k r)
     go false f g = let h = g tt in let t = simp ring at (read-eq e) in by-eq (simp ring (omega arith))
 
 -- m slots from the k-th on have the quotient each, and one more as far as the remainder goes
-shares-are : (e : ℤ) (c k m : ℕ) → shares e c k m +ℤ pos (min k (floorMod e c)) ≡ floorDiv e c *ℤ pos m +ℤ pos (min (k + m) (floorMod e c))
+shares-are : (e : ℤ) (c k m : ℕ)
+    → shares e c k m +ℤ pos (min k (floorMod e c)) ≡ floorDiv e c *ℤ pos m +ℤ pos (min (k + m) (floorMod e c))
 unfolding shares share
 shares-are e c k zero = by-eq (simp ring (omega arith))
 shares-are e c k (suc m) = one-more (floorDiv e c) (shares e c (suc k) m) (floorMod e c) k m (shares-are e c (suc k) m)
@@ -89,7 +90,8 @@ rem-abs (pos a) c h = mod-lt a h
 rem-abs (negsuc a) c h = rw (abs-neg (pos (suc a % c))) (mod-lt (suc a) h)
 
 module _ (e : ℤ) (c : ℕ) (h : 0 < c) where
-  rem-below : remZ e (pos c) <ℤ pos 0 → (quotZ e (pos c) -ℤ pos 1 ≡ floorDiv e c) × (remZ e (pos c) +ℤ pos c ≡ pos (floorMod e c))
+  rem-below : remZ e (pos c) <ℤ pos 0
+      → (quotZ e (pos c) -ℤ pos 1 ≡ floorDiv e c) × (remZ e (pos c) +ℤ pos c ≡ pos (floorMod e c))
   rem-below l =
       let r = remZ e (pos c) in
       let s = simp ring at (read-eq (quot-sum e c)) in
@@ -168,7 +170,8 @@ module _ (e : ℤ) (n : ℕ) (h : 0 < n) (f : SFits w64 e) (g : Fits w32 n) wher
     div-less = toZ-ofZ less-fits ∙ div-less-is
 
     mod-less-is : back (back (rem e n) +ℤ toZ w64 n) ≡ pos (floorMod e n)
-    mod-less-is = toZ-ofZ (sum-fits (back (rem e n)) (toZ w64 n) rem-small count-small) ∙ rw (rem-is, count-is) (rem-below e n h less .1)
+    mod-less-is =
+        toZ-ofZ (sum-fits (back (rem e n)) (toZ w64 n) rem-small count-small) ∙ rw (rem-is, count-is) (rem-below e n h less .1)
 
     pub mod-less : natAbs (back (back (rem e n) +ℤ toZ w64 n)) ≡ floorMod e n
     mod-less = rw mod-less-is

@@ -1,7 +1,7 @@
 -- The ways through an absolute value, over what the machine reads back.
 use mathlib.Core.Path.{_≡_, _∙_, ap}
 use mathlib.Core.Bool.{true, false}
-use Prim.Native.Nat.{_+_}
+use Prim.Native.Nat.{ℕ, _+_, _≤_}
 use native.Mathlib.Omega.{arith}
 use lib.Dec.{T}
 use lib.IntN.{ℤ, pos, negsuc, natAbs, _-ℤ_}
@@ -28,8 +28,8 @@ module _ (x : ℤ) (f : SFits w64 x) where
     pub below-narrow : Fits w64 (natAbs (back (negsuc 0 -ℤ back x)))
     below-narrow = rw read-turned (record { fits = omega (arith, f .sfits) })
 
-    pub below-more : Fits w64 (natAbs (back (negsuc 0 -ℤ back x)) + 1)
-    below-more = rw read-turned (record { fits = omega (arith, f .sfits) })
+    pub below-more : (k : ℕ) → k ≤ 1 → Fits w64 (natAbs (back (negsuc 0 -ℤ back x)) + k)
+    below-more k h = rw read-turned (record { fits = omega (arith, f .sfits) })
 
     pub below-is : natAbs (back (negsuc 0 -ℤ back x)) + 1 ≡ natAbs x
     below-is = rw read-turned (let s = rw (toZ-ofZ f) at t in omega (ints, sizes x))

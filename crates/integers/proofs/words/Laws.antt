@@ -1,4 +1,4 @@
--- Laws of words: what is written reads back, what was read and is written again gives the same bytes, and no other byte changes.
+-- Laws of words: what is written reads back, what was read and is written again gives the same bytes, no other byte changes.
 use mathlib.Core.Path.{_≡_, refl, sym, _∙_, ap}
 use mathlib.Core.Bool.{true, false}
 use mathlib.Core.List.{List, [], _∷_}
@@ -40,7 +40,8 @@ sets-after : (vs l : List ℕ) (i j : ℕ) → i + length vs ≤ j → getD (set
 sets-after [] l i j h = refl
 sets-after (v ∷ vs) l i j h = sets-after vs (set l i v) (suc i) j (omega arith) ∙ getD-set-other l i j v 0 (omega arith)
 
-sets-in : (vs l : List ℕ) (i k : ℕ) → i + length vs ≤ length l → k < length vs → getD (sets l i vs) (i + k) 0 ≡ getD vs k 0
+sets-in : (vs l : List ℕ) (i k : ℕ) → i + length vs ≤ length l → k < length vs
+    → getD (sets l i vs) (i + k) 0 ≡ getD vs k 0
 sets-in [] l i k h m = absurd (omega arith)
 sets-in (v ∷ vs) l i zero h m =
     rw add-zero (sets-before vs (set l i v) (suc i) i (omega arith) ∙ getD-set-same l i v 0 (omega arith))

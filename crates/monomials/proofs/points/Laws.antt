@@ -9,10 +9,10 @@ use native.Mathlib.Decide.{decLt}
 use native.Mathlib.Omega.{arith}
 use lib.Dec.{eqb, ltb}
 use lib.ListN.{length, getD, set, drop, replicate, length-append, length-take, List·getD-append}
-use lib.Seq.{drop-cons, drop-nil, getD-take, set-at, getD-at, ext-getD}
+use lib.Seq.{drop-cons, drop-nil, getD-take, set-at, getD-at, take-append-seam, ext-getD}
 use borrow.Author.Tests.{lt-ltb, le-ltb, eq-eqb, eqb-true}
 use borrow.Author.Count.{below-more}
-use Rattle.monomials.specs.Points.{Exponents, exponents, pointOf, table, every, everyPair, samePoint, risesTo, midpointOf}
+use Rattle.monomials.specs.Points.{Exponents, exponents, pointOf, table, bytesAt, every, everyPair, samePoint, risesTo, midpointOf}
 use Rattle.monomials.specs.declared.points.Point.{Point}
 
 -- ---- points by value
@@ -47,11 +47,13 @@ module _ (p : ℕ → ℕ → Bool) (x y : List ℕ) where
   passed-on i h e = below-more _ _ h e
 
   -- the same where r is what a test's function answered
-  pub passed-test : (i : ℕ) (r : Bool) → Passed p x y i → r ≡ p (getD x i 0) (getD y i 0) → r ≡ true → Passed p x y (i + 1)
+  pub passed-test : (i : ℕ) (r : Bool) → Passed p x y i → r ≡ p (getD x i 0) (getD y i 0) → r ≡ true
+      → Passed p x y (i + 1)
   passed-test i r h e t = passed-on i h (sym e ∙ t)
 
 module _ (p : ℕ → ℕ → Bool) where
-  pair-false : (v w : Exponents) (i : ℕ) → i < length v → i < length w → p (getD v i 0) (getD w i 0) ≡ false → everyPair p v w ≡ false
+  pair-false : (v w : Exponents) (i : ℕ) → i < length v → i < length w → p (getD v i 0) (getD w i 0) ≡ false
+      → everyPair p v w ≡ false
   unfolding everyPair
   pair-false [] w i h k e = absurd (omega arith)
   pair-false (a ∷ v) [] i h k e = absurd (omega arith)
@@ -79,7 +81,8 @@ module _ (p : ℕ → ℕ → Bool) (a b : Point) (n m : ℕ) (ea : length (a .e
   pair-fewer h = sym (pair-unlike p (exponents a) (exponents b) (λ e. h (na ∙ e ∙ sym mb)))
 
   module _ (i : ℕ) (e : n ≡ m) where
-    pub pair-stops : i < n → p (getD (a .exps) i 0) (getD (b .exps) i 0) ≡ false → false ≡ everyPair p (exponents a) (exponents b)
+    pub pair-stops : i < n → p (getD (a .exps) i 0) (getD (b .exps) i 0) ≡ false
+        → false ≡ everyPair p (exponents a) (exponents b)
     pair-stops h k =
         sym (pair-false p (exponents a) (exponents b) i (omega arith) (omega arith)
         (rw (exponent-is a ea i (omega arith), exponent-is b eb i (omega arith)) k))
@@ -127,14 +130,16 @@ module _ (p : ℕ → Bool) (a : Point) (n i : ℕ) (ea : length (a .exps) ≡ 8
 -- ---- the order
 
 -- places that are alike do not decide
-rises-drop : (v w : Exponents) (i : ℕ) → i ≤ length v → i ≤ length w → Passed eqb v w i → risesTo v w ≡ risesTo (drop i v) (drop i w)
+rises-drop : (v w : Exponents) (i : ℕ) → i ≤ length v → i ≤ length w → Passed eqb v w i
+    → risesTo v w ≡ risesTo (drop i v) (drop i w)
 unfolding Passed risesTo
 rises-drop v w zero h k e = refl
 rises-drop [] w (suc i) h k e = absurd (omega arith)
 rises-drop (a ∷ v) [] (suc i) h k e = absurd (omega arith)
 rises-drop (a ∷ v) (b ∷ w) (suc i) h k e =
     let q : a ≡ b = eqb-true a b (e 0 (omega arith)) in
-    rw (le-ltb a b (omega arith), le-ltb b a (omega arith)) (rises-drop v w i (omega arith) (omega arith) (λ j l. e (suc j) (omega arith)))
+    rw (le-ltb a b (omega arith), le-ltb b a (omega arith))
+    (rises-drop v w i (omega arith) (omega arith) (λ j l. e (suc j) (omega arith)))
 
 -- nothing is left to decide past the shorter
 rises-past : (v w : Exponents) (i : ℕ) → min (length v) (length w) ≤ i → risesTo (drop i v) (drop i w) ≡ false
@@ -148,18 +153,23 @@ rises-past (a ∷ v) [] i h = rw (drop-nil {A = ℕ} i) (go (drop i (a ∷ v)))
 rises-past (a ∷ v) (b ∷ w) zero h = absurd (omega arith)
 rises-past (a ∷ v) (b ∷ w) (suc i) h = rises-past v w i (omega arith)
 
-passed-exponents : (a b : Point) (i : ℕ) → length (a .exps) ≡ 8 → length (b .exps) ≡ 8 → i ≤ length (exponents a) → i ≤ length (exponents b)
+passed-exponents : (a b : Point) (i : ℕ) → length (a .exps) ≡ 8 → length (b .exps) ≡ 8 → i ≤ length (exponents a)
+    → i ≤ length (exponents b)
     → Passed eqb (a .exps) (b .exps) i → Passed eqb (exponents a) (exponents b) i
 unfolding Passed
 passed-exponents a b i ea eb h k e j l = rw (exponent-is a ea j (omega arith), exponent-is b eb j (omega arith)) (e j l)
 
-pub rises-on : (x y : List ℕ) (i : ℕ) → Passed eqb x y i → getD x i 0 ≤ getD y i 0 → getD y i 0 ≤ getD x i 0 → Passed eqb x y (i + 1)
+pub rises-on : (x y : List ℕ) (i : ℕ) → Passed eqb x y i → getD x i 0 ≤ getD y i 0 → getD y i 0 ≤ getD x i 0
+    → Passed eqb x y (i + 1)
 rises-on x y i e h k = passed-on eqb x y i e (eq-eqb (getD x i 0) (getD y i 0) (omega arith))
 
 module _ (a b : Point) (n k m i : ℕ) (ea : length (a .exps) ≡ 8) (eb : length (b .exps) ≡ 8)
-    (na : k ≡ length (exponents a)) (mb : m ≡ length (exponents b)) (e : n ≡ min k m) (so : Passed eqb (a .exps) (b .exps) i) where
+    (na : k ≡ length (exponents a)) (mb : m ≡ length (exponents b)) (e : n ≡ min k m)
+    (so : Passed eqb (a .exps) (b .exps) i) where
   from : i ≤ n → risesTo (exponents a) (exponents b) ≡ risesTo (drop i (exponents a)) (drop i (exponents b))
-  from h = rises-drop (exponents a) (exponents b) i (omega arith) (omega arith) (passed-exponents a b i ea eb (omega arith) (omega arith) so)
+  from h =
+      rises-drop (exponents a) (exponents b) i (omega arith) (omega arith)
+      (passed-exponents a b i ea eb (omega arith) (omega arith) so)
 
   module _ (h : i < n) where
     at-place : risesTo (exponents a) (exponents b)
@@ -215,14 +225,32 @@ module _ (f : ℕ → ℕ) where
   unfolding padded table
   filled-none = refl
 
-  pub filled-on : (n i : ℕ) (e : List ℕ) (v : ℕ) → e ≡ padded (table f i) → i < n → n ≤ 8 → v ≡ f i → set e i v ≡ padded (table f (i + 1))
+  pub filled-on : (n i : ℕ) (e : List ℕ) (v : ℕ) → e ≡ padded (table f i) → i < n → n ≤ 8 → v ≡ f i
+      → set e i v ≡ padded (table f (i + 1))
   unfolding table
   filled-on n i e v h l m q =
-      rw (h, q, add-one) (ap (λ (j : ℕ). set (padded (table f i)) j (f i)) (sym (table-length i)) ∙ padded-set (table f i) (f i) (rw table-length (omega arith)))
+      rw (h, q, add-one)
+      (ap (λ (j : ℕ). set (padded (table f i)) j (f i)) (sym (table-length i))
+      ∙ padded-set (table f i) (f i) (rw table-length (omega arith)))
 
-  pub filled-end : (n i : ℕ) (e : List ℕ) → e ≡ padded (table f i) → n ≤ i → i ≤ n → record { exps = e; n = n } ≡ pointOf (table f n)
+  pub filled-end : (n i : ℕ) (e : List ℕ) → e ≡ padded (table f i) → n ≤ i → i ≤ n
+      → record { exps = e; n = n } ≡ pointOf (table f n)
   unfolding pointOf padded
   filled-end n i e h l m = let q : i ≡ n = omega arith in rw (h, q, table-length n)
+
+-- ---- bytes as exponents, and points by value that hold given exponents
+
+pub bytes-length : (s : List ℕ) (at n : ℕ) → length (bytesAt s at n) ≡ n
+unfolding bytesAt
+bytes-length s at n = table-length (λ i. getD s (at + i) 0) n
+
+pub bytes-get : (s : List ℕ) (at n i : ℕ) → i < n → getD (bytesAt s at n) i 0 ≡ getD s (at + i) 0
+unfolding bytesAt
+bytes-get s at n i h = table-get (λ j. getD s (at + j) 0) n i h
+
+pub exponents-of : (α : Exponents) → exponents (pointOf α) ≡ α
+unfolding exponents pointOf
+exponents-of α = take-append-seam α (replicate (8 - length α) 0)
 
 -- ---- midpoints
 
@@ -236,7 +264,8 @@ midpoint-length (a ∷ v) (b ∷ w) = omega (arith, midpoint-length v w)
 pub midpoint-sized : (v w : Exponents) (n : ℕ) → length v ≡ n → length w ≡ n → length (midpointOf v w) ≡ n
 midpoint-sized v w n h k = omega (arith, midpoint-length v w)
 
-pub midpoint-get : (v w : Exponents) (i : ℕ) → i < length v → i < length w → getD (midpointOf v w) i 0 ≡ (getD v i 0 + getD w i 0) / 2
+pub midpoint-get : (v w : Exponents) (i : ℕ) → i < length v → i < length w
+    → getD (midpointOf v w) i 0 ≡ (getD v i 0 + getD w i 0) / 2
 unfolding midpointOf
 midpoint-get [] w i h k = absurd (omega arith)
 midpoint-get (a ∷ v) [] i h k = absurd (omega arith)
@@ -249,11 +278,14 @@ pub midpoint-made : (a b : Point) (n k m i : ℕ) (e : List ℕ) → length (a .
     → e ≡ padded (table (λ j. (getD (a .exps) j 0 + getD (b .exps) j 0) / 2) i) → n ≤ i → i ≤ n
     → record { exps = e; n = n } ≡ pointOf (midpointOf (exponents a) (exponents b))
 midpoint-made a b n k m i e ea eb ka mb en h l u =
-    filled-end _ n i e h l u
-    ∙ ap pointOf (ext-getD 0 (table f n) (midpointOf (exponents a) (exponents b)) (table-length f n ∙ omega (arith, midpoint-length (exponents a) (exponents b)))
+    filled-end f n i e h l u
+    ∙ ap pointOf (ext-getD 0 (table f n) mid (table-length f n ∙ omega (arith, midpoint-length (exponents a) (exponents b)))
     (λ j t. let q : j < n = rw table-length at t in
     table-get f n j q ∙ sym (midpoint-get (exponents a) (exponents b) j (omega arith) (omega arith)
     ∙ rw (exponent-is a ea j (omega arith), exponent-is b eb j (omega arith)))))
   where
     f : ℕ → ℕ
     f j = (getD (a .exps) j 0 + getD (b .exps) j 0) / 2
+
+    mid : Exponents
+    mid = midpointOf (exponents a) (exponents b)

@@ -1,4 +1,4 @@
--- Laws of bounded products: `within` respects products of ℤ, zero taking in what is too large; and the ways through the code.
+-- Laws of bounded products: `within` respects the products of ℤ, and zero takes in what is too large. The ways through the code.
 use mathlib.Core.Path.{_≡_, refl, _∙_, ap}
 use mathlib.Core.Bool.{Bool, true, false, cond}
 use mathlib.Core.List.{List, [], _∷_}
@@ -23,7 +23,8 @@ use Rattle.monomials.specs.declared.powers.Bounded.the-variants.{Value, 
 -- ---- what an answer says
 
 -- the absolute value is either within the limit or over it
-by-size : (z : ℤ) (P : Bounded → Type 0) → (natAbs z ≤ 2 ^ 56 → P (Value z)) → (2 ^ 56 < natAbs z → P TooLarge) → P (within z)
+by-size : (z : ℤ) (P : Bounded → Type 0) → (natAbs z ≤ 2 ^ 56 → P (Value z)) → (2 ^ 56 < natAbs z → P TooLarge)
+    → P (within z)
 unfolding within
 by-size z P f g = go (leb (natAbs z) (2 ^ 56)) refl
   where
@@ -78,7 +79,9 @@ module _ (x y x′ y′ : ℤ) (m n : ℕ) (em : m ≡ natAbs x′) (sx : x′ �
   abs-is = abs-mul x y ∙ (let p : natAbs x ≡ m = cc in let q : natAbs y ≡ n = cc in rw (p, q))
 
   pub times-zero : n ≡ 0 → Value (pos 0) ≡ within (x *ℤ y)
-  times-zero h = let q : natAbs y ≡ 0 = cc in says-within (Value (pos 0)) (x *ℤ y) (rw (abs-zero y q, *ℤ-zero x) (refl, omega arith))
+  times-zero h =
+      let q : natAbs y ≡ 0 = cc in
+      says-within (Value (pos 0)) (x *ℤ y) (rw (abs-zero y q, *ℤ-zero x) (refl, omega arith))
 
   module _ (some : n ≡ 0 → ⊥) where
     pub times-large : 72057594037927936 / n < m → TooLarge ≡ within (x *ℤ y)
@@ -113,11 +116,13 @@ pub product-large : (a b r : Bounded) → a ≡ TooLarge → r ≡ largeTimes b 
 unfolding productOf
 product-large a b r e h = rw e h
 
-pub product-by-large : (a b r : Bounded) (x x′ : ℤ) → a ≡ Value x → b ≡ TooLarge → r ≡ largeTimes (Value x′) → x′ ≡ x → r ≡ productOf a b
+pub product-by-large : (a b r : Bounded) (x x′ : ℤ) → a ≡ Value x → b ≡ TooLarge → r ≡ largeTimes (Value x′) → x′ ≡ x
+    → r ≡ productOf a b
 unfolding productOf
 product-by-large a b r x x′ e f h s = rw (e, f, ← s) h
 
-pub product-numbers : (a b r : Bounded) (x y x′ y′ : ℤ) → a ≡ Value x → b ≡ Value y → r ≡ within (x′ *ℤ y′) → x′ ≡ x → y′ ≡ y → r ≡ productOf a b
+pub product-numbers : (a b r : Bounded) (x y x′ y′ : ℤ) → a ≡ Value x → b ≡ Value y → r ≡ within (x′ *ℤ y′) → x′ ≡ x
+    → y′ ≡ y → r ≡ productOf a b
 unfolding productOf
 product-numbers a b r x y x′ y′ e f h s t = rw (e, f, ← s, ← t) h
 
@@ -131,12 +136,14 @@ unfolding powerOf
 power-less b zero h = absurd (h refl)
 power-less b (suc k) h = let q : suc k - 1 ≡ k = omega arith in rw q
 
-pub power-more : (b b′ b″ : ℤ) (e : ℕ) (r q : Bounded) → (e ≡ 0 → ⊥) → r ≡ within (powerOf b′ (e - 1)) → b′ ≡ b → q ≡ productOf (Value b″) r → b″ ≡ b
+pub power-more : (b b′ b″ : ℤ) (e : ℕ) (r q : Bounded) → (e ≡ 0 → ⊥) → r ≡ within (powerOf b′ (e - 1)) → b′ ≡ b
+    → q ≡ productOf (Value b″) r → b″ ≡ b
     → q ≡ within (powerOf b e)
 power-more b b′ b″ e r q h er s eq t = rw (power-less b e h) (eq ∙ rw (er, s, t) (product-value b (powerOf b (e - 1))))
 
 -- monomial: the product of the powers from a variable on
-monomial-past : (x : List ℤ) (α : Exponents) (i : ℕ) → min (length α) (length x) ≤ i → monomialOf (drop i x) (drop i α) ≡ pos 1
+monomial-past : (x : List ℤ) (α : Exponents) (i : ℕ) → min (length α) (length x) ≤ i
+    → monomialOf (drop i x) (drop i α) ≡ pos 1
 unfolding monomialOf
 monomial-past x [] i h = rw (drop-nil {A = ℕ} i)
 monomial-past [] (e ∷ α) i h = rw (drop-nil {A = ℤ} i) (go (drop i (e ∷ α)))
@@ -159,17 +166,22 @@ From x e n i = monomialOf (drop i x) (drop i (take n e))
 pub from-end : (x : List ℤ) (e : List ℕ) (n i : ℕ) → i ≡ min n (length x) → Value (pos 1) ≡ within (From x e n i)
 unfolding From
 from-end x e n i h =
-    says-within (Value (pos 1)) (From x e n i) (rw (monomial-past x (take n e) i (omega (arith, length-take n e))) (refl, omega arith))
+    says-within (Value (pos 1)) (From x e n i)
+    (rw (monomial-past x (take n e) i (omega (arith, length-take n e))) (refl, omega arith))
 
-pub from-more : (x : List ℤ) (e : List ℕ) (n i : ℕ) (b b′ : ℤ) (r v q : Bounded) → v ≡ within (From x e n i) → 0 < i → i ≤ length x → i ≤ n → n ≤ 8 → length e ≡ 8
-    → b ≡ getD x (i - 1) (pos 0) → b′ ≡ b → r ≡ within (powerOf b′ (getD e (i - 1) 0)) → q ≡ productOf r v → q ≡ within (From x e n (i - 1))
+pub from-more : (x : List ℤ) (e : List ℕ) (n i : ℕ) (b b′ : ℤ) (r v q : Bounded) → v ≡ within (From x e n i) → 0 < i
+    → i ≤ length x → i ≤ n → n ≤ 8 → length e ≡ 8
+    → b ≡ getD x (i - 1) (pos 0) → b′ ≡ b → r ≡ within (powerOf b′ (getD e (i - 1) 0)) → q ≡ productOf r v
+    → q ≡ within (From x e n (i - 1))
 unfolding From
 from-more x e n i b b′ r v q ev l h k m le eb s er eq =
     let j : suc (i - 1) ≡ i = omega arith in
     rw (monomial-cons x (take n e) (i - 1) (omega arith) (omega (arith, length-take n e)), j, getD-take n e (i - 1) 0 (omega arith))
-    (eq ∙ rw (er, ev, s, eb) (product-within (powerOf (getD x (i - 1) (pos 0)) (getD e (i - 1) 0)) (monomialOf (drop i x) (drop i (take n e)))))
+    (eq ∙ rw (er, ev, s, eb)
+    (product-within (powerOf (getD x (i - 1) (pos 0)) (getD e (i - 1) 0)) (monomialOf (drop i x) (drop i (take n e)))))
 
-pub from-all : (x : List ℤ) (p : Point) (n i : ℕ) (v : Bounded) → v ≡ within (From x (p .exps) n i) → i ≤ 0 → length (p .exps) ≡ 8 → n ≡ length (exponents p)
+pub from-all : (x : List ℤ) (p : Point) (n i : ℕ) (v : Bounded) → v ≡ within (From x (p .exps) n i) → i ≤ 0
+    → length (p .exps) ≡ 8 → n ≡ length (exponents p)
     → v ≡ within (monomialOf x (exponents p))
 unfolding From exponents
 from-all x p n i v ev h l en =

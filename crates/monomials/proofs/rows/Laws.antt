@@ -1,4 +1,4 @@
--- Laws of rows: a row that holds is worth at least 0 at absolute values, wherever a midpoint's worth is the mean of its ends'.
+-- Laws of rows: where a midpoint's worth is the mean of its ends', a row that holds is worth at least 0 at absolute values.
 use mathlib.Core.Path.{_≡_, sym, _∙_, ap}
 use mathlib.Core.List.{List, [], _∷_}
 use Prim.Native.Nat.{ℕ, suc, _+_, _*_, _≤_}
@@ -58,11 +58,13 @@ Mean φ v w (Lone p) = Unit {0}
 abbrev pub absolute : (Exponents → ℤ) → Exponents → ℤ
 absolute φ α = pos (natAbs (φ α))
 
-row-nonneg : (φ : Exponents → ℤ) (v w : Exponents) (s : Weights) → Mean φ v w s → Holds s → pos 0 ≤ℤ value (absolute φ) (slotsAt v w s)
+row-nonneg : (φ : Exponents → ℤ) (v w : Exponents) (s : Weights) → Mean φ v w s → Holds s
+    → pos 0 ≤ℤ value (absolute φ) (slotsAt v w s)
 unfolding value slotsAt
 row-nonneg φ v w (Pair p q r) e h =
     let u = midpointOf v w in
-    pair-nonneg p q r (natAbs (φ v)) (natAbs (φ w)) (natAbs (φ u)) h (sym (abs-mul (φ u) (φ u)) ∙ ap natAbs e ∙ abs-mul (φ v) (φ w))
+    pair-nonneg p q r (natAbs (φ v)) (natAbs (φ w)) (natAbs (φ u)) h
+    (sym (abs-mul (φ u) (φ u)) ∙ ap natAbs e ∙ abs-mul (φ v) (φ w))
 row-nonneg φ v w (Lone p) e h = lone-nonneg p (natAbs (φ v)) h
 
 pub rows-nonneg : (φ : Exponents → ℤ) (rows : List Row) → All (λ a. Mean φ (a .v) (a .w) (a .weights)) rows

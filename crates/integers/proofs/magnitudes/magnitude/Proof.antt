@@ -1,3 +1,4 @@
+use borrow.Author.Needs.{needs}
 use Rattle.integers.proofs.magnitudes.Laws.{below-fits, below-nonneg, below-narrow, below-more, below-is, above-nonneg, above-narrow, above-is}
 use Rattle.integers.proofs.magnitudes.magnitude.Statement.{statement}
 use Rattle.integers.proofs.magnitudes.magnitude.Tie as tie
@@ -9,7 +10,7 @@ cast-result : tie.Need-cast-result
 cast-result c = (search below-nonneg, search below-narrow)
 
 add-result : tie.Need-add-result
-add-result c = search below-more
+add-result c = search (needs, below-more)
 
 returns : tie.Need-returns
 returns c = search below-is

@@ -15,10 +15,15 @@ shared-slice-copy-out-result : tie.Need-shared-slice-copy-out-result
 shared-slice-copy-out-result c = search needs
 
 cast-result : tie.Need-cast-result
-cast-result c = let f : SFits w32 (getD (c .before .args .offsets .now) (c .before .args .i) (pos 0)) = omega arith in simp toZ-ofZ (sfits-widen tt f)
+cast-result c =
+    let f : SFits w32 (getD (c .before .args .offsets .now) (c .before .args .i) (pos 0)) = omega arith in
+    simp toZ-ofZ (sfits-widen tt f)
 
 returns : tie.Need-returns
-returns c = let f : SFits w32 (getD (c .before .args .offsets .now) (c .before .args .i) (pos 0)) = omega arith in let g = sfits-widen {w′ = w64} tt f in simp toZ-ofZ
+returns c =
+    let f : SFits w32 (getD (c .before .args .offsets .now) (c .before .args .i) (pos 0)) = omega arith in
+    let g = sfits-widen {w′ = w64} tt f in
+    simp toZ-ofZ
 
 pub offset-at-spec : {M : Type 1} → statement M
 offset-at-spec = tie.close (tie.spec mul-result shared-slice-copy-out-result cast-result returns)
