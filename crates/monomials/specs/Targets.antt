@@ -11,7 +11,7 @@ use Rattle.monomials.specs.Sums.{Sum, coefficient}
 unfoldable pub lowered : ℕ → ℤ → Sum → Sum
 lowered n b f = (replicate n 0, negℤ b) ∷ f
 
--- a coefficient as it stands where the point keeps its sign, else "its worst sign": minus its absolute value
+-- demand 2's "worst sign": a coefficient as it stands where the point keeps its sign, else minus its absolute value
 unfoldable pub worst : Bool → ℤ → ℤ
 worst keeps c = cond keeps c (negℤ (pos (natAbs c)))
 

@@ -1,4 +1,4 @@
-// Points, powers and the rows of a proof, with the floor theorem over formal sums. No word of bytes past a point's own.
+// Points, powers and the weights of a row. Formal sums and the floor theorem stand in specs/ and proofs/.
 pub mod points;
 pub mod powers;
 pub mod rows;

@@ -20,6 +20,7 @@ impl Point {
     }
 }
 
+// The smaller of two counts.
 pub fn fewer(m: usize, n: usize) -> usize
     ensures { λ r. ⌜ r ≡ min m n ⌝ }
 {

@@ -15,6 +15,7 @@ pub enum Bounded {
     TooLarge,
 }
 
+// 2^56
 const LIMIT: u64 = 72057594037927936;
 
 // The exact product of two numbers.
@@ -68,6 +69,7 @@ pub fn power(base: i64, e: u8) -> Bounded
     product(Bounded::Value(base), power(base, e - 1))
 }
 
+// The offset of variable i.
 fn offset_at(offsets: &[i32], i: usize) -> i64
     requires { ⌜ i < length (now offsets) ⌝ }
     ensures { λ r. ⌜ r ≡ getD (now (offsets .entry)) i (pos 0) ⌝ }
