@@ -68,15 +68,16 @@ pub fn rises(a: Point, b: Point) -> bool
     let n = fewer(a.variables(), b.variables());
     let x = a.exps;
     let y = b.exps;
-    let mut i = 0;
-    while i < n {
+    let mut left = n;
+    while 0 < left {
+        let i = n - left;
         if x[i] < y[i] {
             return true;
         }
         if y[i] < x[i] {
             return false;
         }
-        i += 1;
+        left -= 1;
     }
     false
 }

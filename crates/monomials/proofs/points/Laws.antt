@@ -42,6 +42,10 @@ module _ (p : ℕ → ℕ → Bool) (x y : List ℕ) where
   unfolding Passed
   passed-none k h = absurd (omega arith)
 
+  -- before the first of n
+  pub passed-start : (n : ℕ) → Passed p x y (n - n)
+  passed-start n = let e : n - n ≡ 0 = omega arith in rw e passed-none
+
   pub passed-on : (i : ℕ) → Passed p x y i → p (getD x i 0) (getD y i 0) ≡ true → Passed p x y (i + 1)
   unfolding Passed
   passed-on i h e = below-more _ _ h e
@@ -159,38 +163,53 @@ passed-exponents : (a b : Point) (i : ℕ) → length (a .exps) ≡ 8 → length
 unfolding Passed
 passed-exponents a b i ea eb h k e j l = rw (exponent-is a ea j (omega arith), exponent-is b eb j (omega arith)) (e j l)
 
-pub rises-on : (x y : List ℕ) (i : ℕ) → Passed eqb x y i → getD x i 0 ≤ getD y i 0 → getD y i 0 ≤ getD x i 0
-    → Passed eqb x y (i + 1)
-rises-on x y i e h k = passed-on eqb x y i e (eq-eqb (getD x i 0) (getD y i 0) (omega arith))
+-- the ways through the loop: `left` of the n variables are still to be compared
+pub rises-on : (x y : List ℕ) (n left : ℕ) → Passed eqb x y (n - left) → 0 < left → left ≤ n
+    → getD x (n - left) 0 ≤ getD y (n - left) 0 → getD y (n - left) 0 ≤ getD x (n - left) 0
+    → Passed eqb x y (n - (left - 1))
+rises-on x y n left so h l p q =
+    let e : n - (left - 1) ≡ n - left + 1 = omega arith in
+    rw e (passed-on eqb x y (n - left) so (eq-eqb (getD x (n - left) 0) (getD y (n - left) 0) (omega arith)))
 
-module _ (a b : Point) (n k m i : ℕ) (ea : length (a .exps) ≡ 8) (eb : length (b .exps) ≡ 8)
+module _ (a b : Point) (n k m left : ℕ) (ea : length (a .exps) ≡ 8) (eb : length (b .exps) ≡ 8)
     (na : k ≡ length (exponents a)) (mb : m ≡ length (exponents b)) (e : n ≡ min k m)
-    (so : Passed eqb (a .exps) (b .exps) i) where
-  from : i ≤ n → risesTo (exponents a) (exponents b) ≡ risesTo (drop i (exponents a)) (drop i (exponents b))
-  from h =
-      rises-drop (exponents a) (exponents b) i (omega arith) (omega arith)
-      (passed-exponents a b i ea eb (omega arith) (omega arith) so)
+    (so : Passed eqb (a .exps) (b .exps) (n - left)) where
+  from-place : risesTo (exponents a) (exponents b) ≡ risesTo (drop (n - left) (exponents a)) (drop (n - left) (exponents b))
+  from-place =
+      rises-drop (exponents a) (exponents b) (n - left) (omega arith) (omega arith)
+      (passed-exponents a b (n - left) ea eb (omega arith) (omega arith) so)
 
-  module _ (h : i < n) where
-    at-place : risesTo (exponents a) (exponents b)
-        ≡ cond (ltb (getD (a .exps) i 0) (getD (b .exps) i 0)) true
-        (cond (ltb (getD (b .exps) i 0) (getD (a .exps) i 0)) false (risesTo (drop (suc i) (exponents a)) (drop (suc i) (exponents b))))
-    unfolding risesTo
+  module _ (h : 0 < left) (l : left ≤ n) where
+    x : ℕ
+    x = getD (a .exps) (n - left) 0
+
+    y : ℕ
+    y = getD (b .exps) (n - left) 0
+
+    rest : Bool
+    rest = risesTo (drop (suc (n - left)) (exponents a)) (drop (suc (n - left)) (exponents b))
+
+    at-place : risesTo (exponents a) (exponents b) ≡ cond (ltb x y) true (cond (ltb y x) false rest)
+    unfolding risesTo x y rest
     at-place =
-        let la : i < length (exponents a) = omega arith in
-        let lb : i < length (exponents b) = omega arith in
-        from (omega arith)
-        ∙ rw (drop-cons (exponents a) i 0 la, drop-cons (exponents b) i 0 lb, exponent-is a ea i la, exponent-is b eb i lb)
+        let la : n - left < length (exponents a) = omega arith in
+        let lb : n - left < length (exponents b) = omega arith in
+        from-place
+        ∙ rw (drop-cons (exponents a) (n - left) 0 la, drop-cons (exponents b) (n - left) 0 lb)
+        (rw (exponent-is a ea (n - left) la, exponent-is b eb (n - left) lb))
 
-    pub rises-more : getD (a .exps) i 0 < getD (b .exps) i 0 → true ≡ risesTo (exponents a) (exponents b)
-    rises-more l = sym (at-place ∙ rw (lt-ltb _ _ l))
+    pub rises-more : getD (a .exps) (n - left) 0 < getD (b .exps) (n - left) 0
+        → true ≡ risesTo (exponents a) (exponents b)
+    unfolding x y
+    rises-more p = sym (at-place ∙ rw (lt-ltb _ _ p))
 
-    pub rises-less : getD (b .exps) i 0 < getD (a .exps) i 0 → false ≡ risesTo (exponents a) (exponents b)
-    rises-less l = sym (at-place ∙ rw (le-ltb _ _ (le-of-lt l), lt-ltb _ _ l))
+    pub rises-less : getD (b .exps) (n - left) 0 < getD (a .exps) (n - left) 0
+        → false ≡ risesTo (exponents a) (exponents b)
+    unfolding x y
+    rises-less p = sym (at-place ∙ rw (le-ltb _ _ (le-of-lt p), lt-ltb _ _ p))
 
-  pub rises-end : n ≤ i → i ≤ n → false ≡ risesTo (exponents a) (exponents b)
-  unfolding risesTo
-  rises-end h l = sym (from l ∙ rises-past (exponents a) (exponents b) i (omega arith))
+  pub rises-end : left ≤ 0 → false ≡ risesTo (exponents a) (exponents b)
+  rises-end h = sym (from-place ∙ rises-past (exponents a) (exponents b) (n - left) (omega arith))
 
 -- ---- stores into the eight places
 

@@ -3,15 +3,15 @@ use Prim.Native.Nat.{_-_, _≤_}
 use mathlib.Core.Path.{_≡_}
 use lib.Dec.{eqb}
 use lib.ListN.{length}
-use Rattle.monomials.proofs.points.Laws.{Passed, passed-none, rises-more, rises-less, rises-on, rises-end}
+use Rattle.monomials.proofs.points.Laws.{Passed, passed-start, rises-more, rises-less, rises-on, rises-end}
 use Rattle.monomials.proofs.points.rises.Statement.{statement}
 use Rattle.monomials.proofs.points.rises.Tie as tie
 
 abbrev Inv-loop : tie.InvT-loop
-Inv-loop n x y i₀ i = (i ≤ n) × (n ≤ 8) × (length x ≡ 8) × (length y ≡ 8) × Passed eqb x y i
+Inv-loop n x y left₀ left = (left ≤ n) × (n ≤ 8) × (length x ≡ 8) × (length y ≡ 8) × Passed eqb x y (n - left)
 
 abbrev μ-loop : tie.MeasureT-loop
-μ-loop n x y i₀ i = n - i
+μ-loop n x y left₀ left = left
 
 variables-requires : tie.Need-variables-requires Inv-loop μ-loop
 variables-requires c κs = search needs
@@ -23,7 +23,10 @@ fewer-requires : tie.Need-fewer-requires Inv-loop μ-loop
 fewer-requires c κs = search needs
 
 loop-holds : tie.Need-loop-holds Inv-loop μ-loop
-loop-holds c = search (needs, passed-none)
+loop-holds c = search (needs, passed-start)
+
+sub-i : tie.Need-sub-i Inv-loop μ-loop
+sub-i c = search needs
 
 array-read-if1 : tie.Need-array-read-if1 Inv-loop μ-loop
 array-read-if1 c = search needs
@@ -43,8 +46,8 @@ array-read-if2-2 c = search needs
 returns-2 : tie.Need-returns-2 Inv-loop μ-loop
 returns-2 c = search rises-less
 
-add-i : tie.Need-add-i Inv-loop μ-loop
-add-i c = search needs
+sub-left : tie.Need-sub-left Inv-loop μ-loop
+sub-left c = search needs
 
 loop-less : tie.Need-loop-less Inv-loop μ-loop
 loop-less c = search needs
@@ -65,13 +68,14 @@ rises-spec =
     variables-requires-2
     fewer-requires
     loop-holds
+    sub-i
     array-read-if1
     array-read-if1-2
     returns
     array-read-if2
     array-read-if2-2
     returns-2
-    add-i
+    sub-left
     loop-less
     loop-again
     returns-3)
