@@ -12,7 +12,7 @@ use lib.Signed.{_≤ℤ_, ≤ℤ-refl}
 use Rattle.integers.proofs.Integers.{ring, ints, by-eq, by-le, read-le, ≤ℤ-trans, negℤ-*ℤ, abs-mul, abs-nonneg, neg-abs-≤ℤ, nonneg-cancel}
 use Rattle.monomials.specs.Points.{Exponents, keepsSign}
 use Rattle.monomials.specs.Powers.{monomialOf}
-use Rattle.monomials.specs.Sums.{Sum, coefficient, value}
+use Rattle.monomials.specs.Sums.{Sum, coefficient, value, valueAt}
 use Rattle.monomials.specs.Rows.{Row, slotsAt, slots}
 use Rattle.monomials.specs.Targets.{lowered, worst, target}
 use Rattle.monomials.specs.Decomposition.{All, Sized, Whole, Placed, AddsUp}
@@ -110,10 +110,10 @@ raise : (b v : ℤ) → pos 0 ≤ℤ (negℤ b *ℤ pos 1 +ℤ v) → b ≤ℤ v
 raise b v h = let s = simp ring at (read-le h) in by-le (simp ring (omega arith))
 
 pub slots-floor : (n S : ℕ) (b : ℤ) (f M : Sum) → 0 < S → Sized n f → Sized n M → AddsUp n S b f M
-    → (x : List ℤ) → pos 0 ≤ℤ value (absolute (monomialOf x)) M → b ≤ℤ value (monomialOf x) f
+    → (x : List ℤ) → pos 0 ≤ℤ value (absolute (monomialOf x)) M → b ≤ℤ valueAt x f
 unfolding lowered value
 slots-floor n S b f M s sf sm e x h =
-    raise b (value (monomialOf x) f)
+    raise b (valueAt x f)
     (rw (monomial-constant x n) at (worth-floor (monomialOf x) (monomial-sign x) n S b f M s sf sm e h))
 
 pub floor : Floor

@@ -26,7 +26,7 @@ abbrev pub Whole : Exponents → Exponents → Weights → Type 0
 Whole v w (Pair p q r) = hasMidpoint v w ≡ true
 Whole v w (Lone p) = Unit {0}
 
--- a row's two points have n exponents
+-- a row's two points have n exponents, and a pair's a whole midpoint
 pub record Placed (n : ℕ) (a : Row) : Type 0 where
   pub v-length : length (a .v) ≡ n
   pub w-length : length (a .w) ≡ n

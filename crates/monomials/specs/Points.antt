@@ -9,7 +9,7 @@ use Rattle.monomials.specs.declared.points.Point.{Point}
 abbrev pub Exponents : Type 0
 Exponents = List ℕ
 
--- the exponents that count of a point by value
+-- the exponents of a point by value: what stands in its first n places
 unfoldable pub exponents : Point → Exponents
 exponents p = take (p .n) (p .exps)
 

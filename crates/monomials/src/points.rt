@@ -21,7 +21,7 @@ impl Point {
 }
 
 // The smaller of two counts.
-pub fn fewer(m: usize, n: usize) -> usize
+pub(crate) fn fewer(m: usize, n: usize) -> usize
     ensures { λ r. ⌜ r ≡ min m n ⌝ }
 {
     if m < n { m } else { n }

@@ -78,6 +78,14 @@ module _ (p : ℕ → ℕ → Bool) where
   pair-unlike (a ∷ v) [] h = refl
   pair-unlike (a ∷ v) (b ∷ w) h = rw (pair-unlike v w (λ e. h (ap suc e))) (and-false (p a b))
 
+-- places of two points by value are places of their exponents
+passed-exponents : (p : ℕ → ℕ → Bool) (a b : Point) (i : ℕ) → length (a .exps) ≡ 8 → length (b .exps) ≡ 8
+    → i ≤ length (exponents a) → i ≤ length (exponents b)
+    → Passed p (a .exps) (b .exps) i → Passed p (exponents a) (exponents b) i
+unfolding Passed
+passed-exponents p a b i ea eb h k e j l =
+    rw (exponent-is a ea j (omega arith), exponent-is b eb j (omega arith)) (e j l)
+
 -- the ways through such a loop: n and m are the numbers of variables
 module _ (p : ℕ → ℕ → Bool) (a b : Point) (n m : ℕ) (ea : length (a .exps) ≡ 8) (eb : length (b .exps) ≡ 8)
     (na : n ≡ length (exponents a)) (mb : m ≡ length (exponents b)) where
@@ -99,7 +107,7 @@ module _ (p : ℕ → ℕ → Bool) (a b : Point) (n m : ℕ) (ea : length (a .e
     unfolding Passed
     pair-ends h k =
         sym (pair-true p (exponents a) (exponents b) (omega arith)
-        (λ j l. rw (exponent-is a ea j l, exponent-is b eb j (omega arith)) (k j (omega arith))))
+        (passed-exponents p a b (length (exponents a)) ea eb (omega arith) (omega arith) (λ j l. k j (omega arith))))
 
 -- ---- the same point
 
@@ -157,12 +165,6 @@ rises-past (a ∷ v) [] i h = rw (drop-nil {A = ℕ} i) (go (drop i (a ∷ v)))
 rises-past (a ∷ v) (b ∷ w) zero h = absurd (omega arith)
 rises-past (a ∷ v) (b ∷ w) (suc i) h = rises-past v w i (omega arith)
 
-passed-exponents : (a b : Point) (i : ℕ) → length (a .exps) ≡ 8 → length (b .exps) ≡ 8 → i ≤ length (exponents a)
-    → i ≤ length (exponents b)
-    → Passed eqb (a .exps) (b .exps) i → Passed eqb (exponents a) (exponents b) i
-unfolding Passed
-passed-exponents a b i ea eb h k e j l = rw (exponent-is a ea j (omega arith), exponent-is b eb j (omega arith)) (e j l)
-
 -- the ways through the loop: `left` of the n variables are still to be compared
 pub rises-on : (x y : List ℕ) (n left : ℕ) → Passed eqb x y (n - left) → 0 < left → left ≤ n
     → getD x (n - left) 0 ≤ getD y (n - left) 0 → getD y (n - left) 0 ≤ getD x (n - left) 0
@@ -177,7 +179,7 @@ module _ (a b : Point) (n k m left : ℕ) (ea : length (a .exps) ≡ 8) (eb : le
   from-place : risesTo (exponents a) (exponents b) ≡ risesTo (drop (n - left) (exponents a)) (drop (n - left) (exponents b))
   from-place =
       rises-drop (exponents a) (exponents b) (n - left) (omega arith) (omega arith)
-      (passed-exponents a b (n - left) ea eb (omega arith) (omega arith) so)
+      (passed-exponents eqb a b (n - left) ea eb (omega arith) (omega arith) so)
 
   module _ (h : 0 < left) (l : left ≤ n) where
     x : ℕ
@@ -279,7 +281,7 @@ midpoint-length [] w = omega arith
 midpoint-length (a ∷ v) [] = omega arith
 midpoint-length (a ∷ v) (b ∷ w) = omega (arith, midpoint-length v w)
 
--- a whole midpoint has as many exponents as its ends
+-- a midpoint has as many exponents as its ends
 pub midpoint-sized : (v w : Exponents) (n : ℕ) → length v ≡ n → length w ≡ n → length (midpointOf v w) ≡ n
 midpoint-sized v w n h k = omega (arith, midpoint-length v w)
 
