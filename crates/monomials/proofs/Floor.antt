@@ -15,12 +15,14 @@ use Rattle.monomials.specs.Powers.{monomialOf}
 use Rattle.monomials.specs.Sums.{Sum, coefficient, value, valueAt}
 use Rattle.monomials.specs.Rows.{Row, slotsAt, slots}
 use Rattle.monomials.specs.Targets.{lowered, worst, target}
-use Rattle.monomials.specs.Decomposition.{All, Sized, Whole, Placed, AddsUp}
+use Rattle.monomials.specs.Lists.{All}
+use Rattle.monomials.specs.Decomposition.{Sized, Whole, Placed, AddsUp}
 use Rattle.monomials.specs.Floor.{Floor}
 use Rattle.monomials.specs.declared.rows.Weights.{Weights}
 use Rattle.monomials.specs.declared.rows.Weights.the-variants.{Pair, Lone}
 use Rattle.monomials.proofs.points.Laws.{midpoint-sized}
-use Rattle.monomials.proofs.Sums.{scaled, coefficient-scaled, value-scaled, dominate, coefficient-none, all-append}
+use Rattle.monomials.proofs.Lists.{all-append}
+use Rattle.monomials.proofs.Sums.{scaled, coefficient-scaled, value-scaled, dominate, coefficient-none}
 use Rattle.monomials.proofs.Monomials.{monomial-sign, monomial-mean, monomial-constant}
 use Rattle.monomials.proofs.rows.Laws.{Mean, absolute, rows-nonneg}
 
@@ -82,7 +84,7 @@ pub rows-sized : (n : ℕ) (rows : List Row) → All (Placed n) rows → Sized n
 unfolding slots
 rows-sized n [] t = tt
 rows-sized n (a ∷ rows) t =
-    all-append (λ α. length α ≡ n) (slotsAt (a .v) (a .w) (a .weights)) (slots rows)
+    all-append (λ t. length (t .0) ≡ n) (slotsAt (a .v) (a .w) (a .weights)) (slots rows)
     (slots-sized n (a .v) (a .w) (a .weights) (t .0 .v-length) (t .0 .w-length)) (rows-sized n rows (t .1))
 
 -- ---- the floor, for any slots that are worth at least 0 at absolute values

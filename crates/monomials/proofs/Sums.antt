@@ -12,7 +12,7 @@ use lib.Signed.{_≤ℤ_, ≤ℤ-refl}
 use Rattle.integers.proofs.Integers.{ring, ints, by-eq, +ℤ-mono, *ℤ-+ℤ}
 use Rattle.monomials.specs.Points.{Exponents, samePoint}
 use Rattle.monomials.specs.Sums.{Sum, coefficient, value}
-use Rattle.monomials.specs.Decomposition.{All}
+use Rattle.monomials.specs.Lists.{All}
 use Rattle.monomials.proofs.points.Laws.{same-eq, same-refl}
 
 -- ---- sums of sums, and multiples
@@ -153,8 +153,3 @@ coefficient-none P α (t ∷ L) s d = go (samePoint α (t .0)) (same-eq α (t .0
         → cond b (t .1 +ℤ coefficient α L) (coefficient α L) ≡ pos 0
     go true f e = absurd (d (subst P (sym (f refl)) (s .0)))
     go false f e = e
-
-pub all-append : (P : Exponents → Type 0) (L M : Sum) → All (λ t. P (t .0)) L → All (λ t. P (t .0)) M
-    → All (λ t. P (t .0)) (L ++ M)
-all-append P [] M s t = t
-all-append P (a ∷ L) M s t = (s .0, all-append P L M (s .1) t)

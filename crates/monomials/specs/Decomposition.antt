@@ -5,17 +5,13 @@ use Prim.Native.Nat.{ℕ, _<_}
 use mathlib.Core.Bool.{true}
 use lib.IntN.{ℤ}
 use lib.ListN.{length}
+use Rattle.monomials.specs.Lists.{All}
 use Rattle.monomials.specs.Points.{Exponents, hasMidpoint}
 use Rattle.monomials.specs.Sums.{Sum, coefficient}
 use Rattle.monomials.specs.Rows.{Row, slots, Holds}
 use Rattle.monomials.specs.Targets.{lowered, target}
 use Rattle.monomials.specs.declared.rows.Weights.{Weights}
 use Rattle.monomials.specs.declared.rows.Weights.the-variants.{Pair, Lone}
-
--- P holds of every element
-abbrev pub All : {A : Type 0} → (A → Type 0) → List A → Type 0
-All P [] = Unit {0}
-All P (a ∷ l) = P a × All P l
 
 -- every point of a sum has n exponents
 abbrev pub Sized : ℕ → Sum → Type 0

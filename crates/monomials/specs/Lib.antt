@@ -1,3 +1,4 @@
+pub mod Lists
 pub mod Points
 pub mod Powers
 pub mod Sums

@@ -4,6 +4,7 @@ use mathlib.Core.List.{List, [], _∷_, _++_}
 use Prim.Native.Nat.{ℕ, zero, suc, _+_, _-_, _/_, _%_}
 use lib.Dec.{eqb, ltb, leb}
 use lib.ListN.{length, getD, take, replicate}
+use Rattle.monomials.specs.Lists.{table}
 use Rattle.monomials.specs.declared.points.Point.{Point}
 
 abbrev pub Exponents : Type 0
@@ -16,11 +17,6 @@ exponents p = take (p .n) (p .exps)
 -- the point by value with given exponents, zeros after them
 unfoldable pub pointOf : Exponents → Point
 pointOf α = record { exps = α ++ replicate (8 - length α) 0; n = length α }
-
--- f 0, f 1, .. below n
-unfoldable pub table : (ℕ → ℕ) → ℕ → List ℕ
-table f zero = []
-table f (suc n) = table f n ++ (f n ∷ [])
 
 -- "points, each of n exponent bytes": the n bytes from a place on
 unfoldable pub bytesAt : List ℕ → ℕ → ℕ → Exponents

@@ -12,7 +12,9 @@ use lib.ListN.{length, getD, set, drop, replicate, length-append, length-take, L
 use lib.Seq.{drop-cons, drop-nil, getD-take, set-at, getD-at, take-append-seam, ext-getD}
 use borrow.Author.Tests.{lt-ltb, le-ltb, eq-eqb, eqb-true}
 use borrow.Author.Count.{below-more}
-use Rattle.monomials.specs.Points.{Exponents, exponents, pointOf, table, bytesAt, every, everyPair, samePoint, risesTo, midpointOf}
+use Rattle.monomials.specs.Lists.{table}
+use Rattle.monomials.specs.Points.{Exponents, exponents, pointOf, bytesAt, every, everyPair, samePoint, risesTo, midpointOf}
+use Rattle.monomials.proofs.Lists.{table-length, table-get}
 use Rattle.monomials.specs.declared.points.Point.{Point}
 
 -- ---- points by value
@@ -227,20 +229,6 @@ padded-set L v h =
     rw (left, more) (set-at L 0 (replicate (8 - suc (length L)) 0) v (length L) refl ∙ simp append-assoc)
 
 module _ (f : ℕ → ℕ) where
-  pub table-length : (n : ℕ) → length (table f n) ≡ n
-  unfolding table
-  table-length zero = refl
-  table-length (suc n) = length-append (table f n) (f n ∷ []) ∙ rw (table-length n) (omega arith)
-
-  pub table-get : (n i : ℕ) → i < n → getD (table f n) i 0 ≡ f i
-  unfolding table
-  table-get zero i h = absurd (omega arith)
-  table-get (suc n) i h = go (decLt i n) (table-get n i)
-    where
-      go : Dec (i < n) → (i < n → getD (table f n) i 0 ≡ f i) → getD (table f n ++ (f n ∷ [])) i 0 ≡ f i
-      go (yes l) below = List·getD-append (table f n) (f n ∷ []) 0 i (rw table-length l) ∙ below l
-      go (no l) below = let q : i ≡ n = omega arith in rw q (getD-at (table f n) (f n) [] 0 n (table-length n))
-
   -- the loop `while i < n { e[i] = f(i); i += 1; }` over eight zeros
   pub filled-none : replicate 8 0 ≡ padded (table f 0)
   unfolding padded table
@@ -251,13 +239,13 @@ module _ (f : ℕ → ℕ) where
   unfolding table
   filled-on n i e v h l m q =
       rw (h, q, add-one)
-      (ap (λ (j : ℕ). set (padded (table f i)) j (f i)) (sym (table-length i))
+      (ap (λ (j : ℕ). set (padded (table f i)) j (f i)) (sym (table-length f i))
       ∙ padded-set (table f i) (f i) (rw table-length (omega arith)))
 
   pub filled-end : (n i : ℕ) (e : List ℕ) → e ≡ padded (table f i) → n ≤ i → i ≤ n
       → record { exps = e; n = n } ≡ pointOf (table f n)
   unfolding pointOf padded
-  filled-end n i e h l m = let q : i ≡ n = omega arith in rw (h, q, table-length n)
+  filled-end n i e h l m = let q : i ≡ n = omega arith in rw (h, q, table-length f n)
 
 -- ---- bytes as exponents, and points by value that hold given exponents
 
@@ -267,7 +255,7 @@ bytes-length s at n = table-length (λ i. getD s (at + i) 0) n
 
 pub bytes-get : (s : List ℕ) (at n i : ℕ) → i < n → getD (bytesAt s at n) i 0 ≡ getD s (at + i) 0
 unfolding bytesAt
-bytes-get s at n i h = table-get (λ j. getD s (at + j) 0) n i h
+bytes-get s at n i h = table-get (λ j. getD s (at + j) 0) 0 n i h
 
 pub exponents-of : (α : Exponents) → exponents (pointOf α) ≡ α
 unfolding exponents pointOf
@@ -302,7 +290,7 @@ midpoint-made a b n k m i e ea eb ka mb en h l u =
     filled-end f n i e h l u
     ∙ ap pointOf (ext-getD 0 (table f n) mid (table-length f n ∙ omega (arith, midpoint-length (exponents a) (exponents b)))
     (λ j t. let q : j < n = rw table-length at t in
-    table-get f n j q ∙ sym (midpoint-get (exponents a) (exponents b) j (omega arith) (omega arith)
+    table-get f 0 n j q ∙ sym (midpoint-get (exponents a) (exponents b) j (omega arith) (omega arith)
     ∙ rw (exponent-is a ea j (omega arith), exponent-is b eb j (omega arith)))))
   where
     f : ℕ → ℕ

@@ -11,7 +11,7 @@ use Rattle.integers.proofs.Integers.{ring, ints, by-le, read-le, abs-mul, +ℤ-
 use Rattle.monomials.specs.Points.{Exponents, midpointOf}
 use Rattle.monomials.specs.Sums.{value}
 use Rattle.monomials.specs.Rows.{Row, slotsAt, slots, Holds}
-use Rattle.monomials.specs.Decomposition.{All}
+use Rattle.monomials.specs.Lists.{All}
 use Rattle.monomials.specs.declared.rows.Weights.{Weights}
 use Rattle.monomials.specs.declared.rows.Weights.the-variants.{Pair, Lone}
 use Rattle.monomials.proofs.Sums.{value-append}

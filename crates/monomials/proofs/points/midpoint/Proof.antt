@@ -2,7 +2,7 @@ use borrow.Author.Needs.{needs}
 use Prim.Native.Nat.{_+_, _-_, _/_, _≤_}
 use mathlib.Core.Path.{_≡_}
 use lib.ListN.{length, getD}
-use Rattle.monomials.specs.Points.{table}
+use Rattle.monomials.specs.Lists.{table}
 use Rattle.monomials.proofs.points.Laws.{padded, filled-none, filled-on, midpoint-made}
 use Rattle.monomials.proofs.points.midpoint.Statement.{statement}
 use Rattle.monomials.proofs.points.midpoint.Tie as tie

@@ -2,7 +2,8 @@ use borrow.Author.Needs.{needs}
 use Prim.Native.Nat.{_+_, _-_, _≤_}
 use mathlib.Core.Path.{_≡_}
 use lib.ListN.{getD}
-use Rattle.monomials.specs.Points.{table, bytesAt}
+use Rattle.monomials.specs.Lists.{table}
+use Rattle.monomials.specs.Points.{bytesAt}
 use Rattle.monomials.proofs.points.Laws.{padded, filled-none, filled-on, filled-end}
 use Rattle.monomials.proofs.points.point_at.Statement.{statement}
 use Rattle.monomials.proofs.points.point_at.Tie as tie

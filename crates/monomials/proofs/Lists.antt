@@ -1,0 +1,50 @@
+-- Laws of lists by an index, and of what holds of every element.
+use mathlib.Core.Path.{_≡_, refl, _∙_, ap}
+use mathlib.Core.List.{List, [], _∷_, _++_}
+use Prim.Native.Nat.{ℕ, zero, suc, _+_, _<_}
+use native.Mathlib.Decide.{decLt}
+use native.Mathlib.Numerals.{add-one}
+use native.Mathlib.Omega.{arith}
+use lib.ListN.{length, getD, length-append, List·getD-append}
+use lib.Seq.{getD-at}
+use Rattle.monomials.specs.Lists.{table, All}
+
+pub all-append : {A : Type 0} (P : A → Type 0) (L M : List A) → All P L → All P M → All P (L ++ M)
+all-append P [] M s t = t
+all-append P (a ∷ L) M s t = (s .0, all-append P L M (s .1) t)
+
+module _ {A : Type 0} (f : ℕ → A) where
+  pub table-none : table f 0 ≡ []
+  unfolding table
+  table-none = refl
+
+  pub table-on : (n : ℕ) → table f (n + 1) ≡ table f n ++ (f n ∷ [])
+  unfolding table
+  table-on n = rw add-one refl
+
+  pub table-length : (n : ℕ) → length (table f n) ≡ n
+  unfolding table
+  table-length zero = refl
+  table-length (suc n) = length-append (table f n) (f n ∷ []) ∙ rw (table-length n) (omega arith)
+
+  -- an index and its entry
+  pub table-get : (d : A) (n i : ℕ) → i < n → getD (table f n) i d ≡ f i
+  unfolding table
+  table-get d zero i h = absurd (omega arith)
+  table-get d (suc n) i h = go (decLt i n) (table-get d n i)
+    where
+      go : Dec (i < n) → (i < n → getD (table f n) i d ≡ f i) → getD (table f n ++ (f n ∷ [])) i d ≡ f i
+      go (yes l) below = List·getD-append (table f n) (f n ∷ []) d i (rw table-length l) ∙ below l
+      go (no l) below = let q : i ≡ n = omega arith in rw q (getD-at (table f n) (f n) [] d n (table-length n))
+
+  -- what holds at every index holds of every element
+  pub all-table : (P : A → Type 0) (n : ℕ) → ((i : ℕ) → i < n → P (f i)) → All P (table f n)
+  unfolding table
+  all-table P zero h = tt
+  all-table P (suc n) h = all-append P (table f n) (f n ∷ []) (all-table P n (λ i l. h i (omega arith))) (h n (omega arith), tt)
+
+  -- lists with equal entries are equal
+  pub table-same : (g : ℕ → A) (n : ℕ) → ((i : ℕ) → i < n → f i ≡ g i) → table f n ≡ table g n
+  unfolding table
+  table-same g zero h = refl
+  table-same g (suc n) h = rw (table-same g n (λ i l. h i (omega arith)), h n (omega arith))

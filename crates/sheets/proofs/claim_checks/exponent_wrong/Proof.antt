@@ -1,0 +1,20 @@
+use Rattle.sheets.proofs.claim_checks.Laws.{exponent-judged}
+use borrow.Author.Needs.{needs}
+use Rattle.sheets.proofs.claim_checks.exponent_wrong.Statement.{statement}
+use Rattle.sheets.proofs.claim_checks.exponent_wrong.Tie as tie
+use Rattle.sheets.proofs.claim_checks.exponent_wrong.Reads as reads
+use Rattle.sheets.proofs.claim_checks.exponent_wrong.Lts as lts
+use Rattle.monomials.proofs.points.exponents_within.Reads as exponents-within-reads
+use Rattle.sheets.proofs.claim_sheet.term_point.Reads as term-point-reads
+
+term-point-requires : tie.Need-term-point-requires
+term-point-requires c κs = search needs
+
+exponents-within-requires : tie.Need-exponents-within-requires
+exponents-within-requires c κs = search needs
+
+returns : tie.Need-returns
+returns c = search exponent-judged
+
+pub exponent-wrong-spec : {M : Type 1} → statement M
+exponent-wrong-spec = tie.close (tie.spec term-point-requires exponents-within-requires returns)

@@ -1,0 +1,50 @@
+use Rattle.sheets.proofs.claim_checks.Laws.{rule-is}
+use borrow.Author.Needs.{needs}
+use Rattle.sheets.proofs.claim_checks.term_wrong.Statement.{statement}
+use Rattle.sheets.proofs.claim_checks.term_wrong.Tie as tie
+use Rattle.sheets.proofs.claim_checks.term_wrong.Reads as reads
+use Rattle.sheets.proofs.claim_checks.term_wrong.Lts as lts
+use Rattle.sheets.proofs.claim_checks.coefficient_wrong.Reads as coefficient-wrong-reads
+use Rattle.sheets.proofs.claim_checks.exponent_wrong.Reads as exponent-wrong-reads
+use Rattle.sheets.proofs.claim_checks.order_wrong.Reads as order-wrong-reads
+
+enum-known-rule : tie.Need-enum-known-rule
+enum-known-rule c = search needs
+
+coefficient-wrong-requires : tie.Need-coefficient-wrong-requires
+coefficient-wrong-requires c κs = search needs
+
+enum-known-rule-2 : tie.Need-enum-known-rule-2
+enum-known-rule-2 c = search needs
+
+exponent-wrong-requires : tie.Need-exponent-wrong-requires
+exponent-wrong-requires c κs = search needs
+
+enum-told : tie.Need-enum-told
+enum-told c = search needs
+
+order-wrong-requires : tie.Need-order-wrong-requires
+order-wrong-requires c κs = search needs
+
+returns : tie.Need-returns
+returns c = search rule-is
+
+returns-2 : tie.Need-returns-2
+returns-2 c = search rule-is
+
+returns-3 : tie.Need-returns-3
+returns-3 c = search rule-is
+
+pub term-wrong-spec : {M : Type 1} → statement M
+term-wrong-spec =
+    tie.close
+    (tie.spec
+    enum-known-rule
+    coefficient-wrong-requires
+    enum-known-rule-2
+    exponent-wrong-requires
+    enum-told
+    order-wrong-requires
+    returns
+    returns-2
+    returns-3)

@@ -1,0 +1,52 @@
+-- Laws of the claim sheet: where its fields lie, and its terms by their index.
+use mathlib.Core.Path.{_≡_, refl, sym, _∙_, ap}
+use mathlib.Core.List.{List}
+use Prim.Native.Nat.{ℕ, _+_, _*_, _<_, _≤_}
+use native.Mathlib.Nat.{mul-le-mul, mul-le-mul-right}
+use native.Mathlib.Omega.{arith}
+use lib.IntN.{ℤ, pos}
+use lib.ListN.{length, getD}
+use Rattle.integers.specs.Words.{i32At}
+use Rattle.monomials.proofs.Lists.{table-length, table-get}
+use Rattle.monomials.specs.Points.{Exponents, pointOf, bytesAt}
+use Rattle.monomials.specs.declared.points.Point.{Point}
+use Rattle.sheets.specs.Layout.{variables, termCount, place, pointAt, coefficientAt, claimLength, ClaimRoom}
+use Rattle.sheets.specs.ClaimSheet.{floorOf, termPoint, coefficientOf, termOf, termsOf}
+
+-- floor: z is the word read, z′ what the machine reads back of it
+pub floor-read : (c : List ℕ) (z z′ : ℤ) → z ≡ i32At c 4 → z′ ≡ z → z′ ≡ floorOf c
+unfolding floorOf
+floor-read c z z′ h e = e ∙ h
+
+module _ (c : List ℕ) (n t i : ℕ) (room : ClaimRoom c n t) (l : i < t) where
+  -- term_point
+  pub point-inside : (at : ℕ) → at ≡ pointAt n i → at + n ≤ length c
+  point-inside at e = omega (arith, mul-le-mul-right n l)
+
+  -- coefficient
+  pub points-low : (at : ℕ) → at ≡ place 8 t n → at ≤ 16777216
+  points-low at e = omega (arith, mul-le-mul (room .terms) (room .few))
+
+  pub coefficient-inside : (from at : ℕ) → from ≡ place 8 t n → at ≡ place from i 4 → at + 4 ≤ length c
+  coefficient-inside from at e f = omega arith
+
+pub point-read : (c : List ℕ) (n i at : ℕ) (r : Point) → at ≡ pointAt n i → r ≡ pointOf (bytesAt c at n)
+    → r ≡ pointOf (termPoint c n i)
+unfolding termPoint
+point-read c n i at r e h = h ∙ rw e
+
+pub coefficient-read : (c : List ℕ) (n t i from at : ℕ) (z z′ : ℤ) → from ≡ place 8 t n → at ≡ place from i 4
+    → z ≡ i32At c at → z′ ≡ z → z′ ≡ coefficientOf c n t i
+unfolding coefficientOf
+coefficient-read c n t i from at z z′ e f h b = b ∙ h ∙ rw (f, e)
+
+-- ---- terms by their index
+
+pub terms-length : (c : List ℕ) → length (termsOf c) ≡ termCount c
+unfolding termsOf
+terms-length c = table-length (termOf c (variables c) (termCount c)) (termCount c)
+
+pub terms-get : (c : List ℕ) (d : Exponents × ℤ) (i : ℕ) → i < termCount c
+    → getD (termsOf c) i d ≡ (termPoint c (variables c) i, coefficientOf c (variables c) (termCount c) i)
+unfolding termsOf termOf
+terms-get c d i l = table-get (termOf c (variables c) (termCount c)) d (termCount c) i l

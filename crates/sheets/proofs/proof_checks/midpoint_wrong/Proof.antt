@@ -1,0 +1,25 @@
+use Rattle.sheets.proofs.proof_checks.Laws.{midpoint-judged}
+use borrow.Author.Needs.{needs}
+use Rattle.sheets.proofs.proof_checks.midpoint_wrong.Statement.{statement}
+use Rattle.sheets.proofs.proof_checks.midpoint_wrong.Tie as tie
+use Rattle.sheets.proofs.proof_checks.midpoint_wrong.Reads as reads
+use Rattle.sheets.proofs.proof_checks.midpoint_wrong.Lts as lts
+use Rattle.monomials.proofs.points.has_midpoint.Reads as has-midpoint-reads
+use Rattle.sheets.proofs.proof_sheet.row_v.Reads as row-v-reads
+use Rattle.sheets.proofs.proof_sheet.row_w.Reads as row-w-reads
+
+row-v-requires : tie.Need-row-v-requires
+row-v-requires c κs = search needs
+
+row-w-requires : tie.Need-row-w-requires
+row-w-requires c κs = search needs
+
+has-midpoint-requires : tie.Need-has-midpoint-requires
+has-midpoint-requires c κs = search needs
+
+returns : tie.Need-returns
+returns c = search midpoint-judged
+
+pub midpoint-wrong-spec : {M : Type 1} → statement M
+midpoint-wrong-spec =
+    tie.close (tie.spec row-v-requires row-w-requires has-midpoint-requires returns)

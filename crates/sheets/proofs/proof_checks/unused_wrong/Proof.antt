@@ -1,0 +1,44 @@
+use Rattle.sheets.proofs.proof_checks.Laws.{unused-lone, unused-pair}
+use borrow.Author.Needs.{needs}
+use Rattle.sheets.proofs.proof_checks.unused_wrong.Statement.{statement}
+use Rattle.sheets.proofs.proof_checks.unused_wrong.Tie as tie
+use Rattle.sheets.proofs.proof_checks.unused_wrong.Reads as reads
+use Rattle.sheets.proofs.proof_checks.unused_wrong.Lts as lts
+use Rattle.monomials.proofs.points.same.Reads as same-reads
+use Rattle.sheets.proofs.proof_checks.carries_more.Reads as carries-more-reads
+use Rattle.sheets.proofs.proof_sheet.row_triple.Reads as row-triple-reads
+use Rattle.sheets.proofs.proof_sheet.row_v.Reads as row-v-reads
+use Rattle.sheets.proofs.proof_sheet.row_w.Reads as row-w-reads
+
+row-v-requires : tie.Need-row-v-requires
+row-v-requires c κs = search needs
+
+row-w-requires : tie.Need-row-w-requires
+row-w-requires c κs = search needs
+
+same-requires : tie.Need-same-requires
+same-requires c κs = search needs
+
+row-triple-requires : tie.Need-row-triple-requires
+row-triple-requires c κs = search needs
+
+carries-more-requires : tie.Need-carries-more-requires
+carries-more-requires c κs = search needs
+
+returns : tie.Need-returns
+returns c = search unused-lone
+
+returns-2 : tie.Need-returns-2
+returns-2 c = search unused-pair
+
+pub unused-wrong-spec : {M : Type 1} → statement M
+unused-wrong-spec =
+    tie.close
+    (tie.spec
+    row-v-requires
+    row-w-requires
+    same-requires
+    row-triple-requires
+    carries-more-requires
+    returns
+    returns-2)

@@ -1,0 +1,102 @@
+-- Laws of the proof sheet: where its fields lie, its rows by their index, and weights written back.
+use mathlib.Core.Path.{_≡_, refl, sym, _∙_, ap}
+use mathlib.Core.Bool.{Bool, true, false}
+use mathlib.Core.List.{List}
+use Prim.Native.Nat.{ℕ, _+_, _*_, _<_, _≤_}
+use native.Mathlib.Nat.{mul-le-mul, mul-le-mul-right}
+use native.Mathlib.Omega.{arith}
+use lib.IntN.{ℤ, pos}
+use lib.ListN.{length, getD}
+use Rattle.integers.specs.Words.{u32At, i32At, withI32}
+use Rattle.monomials.proofs.points.Laws.{exponents-of}
+use Rattle.monomials.specs.Points.{Exponents, exponents, pointOf, bytesAt, samePoint}
+use Rattle.monomials.specs.declared.points.Point.{Point}
+use Rattle.monomials.specs.declared.rows.Weights.{Weights}
+use Rattle.monomials.specs.declared.rows.Weights.the-variants.{Pair, Lone}
+use Rattle.sheets.specs.Layout.{variables, rowCount, place, vAt, wAt, tripleAt, proofLength, ProofRoom}
+use Rattle.sheets.specs.ProofSheet.{scaleOf, vOf, wOf, wordsAt, tripleOf, weightsOf, rowOf, byValue, tripleFor, Narrow, withTriple, withWeights}
+use Rattle.sheets.specs.declared.proof_sheet.Triple.{Triple}
+
+-- ---- the ways through the code: where a field is read from
+
+pub scale-read : (s : List ℕ) (u : ℕ) → u ≡ u32At s 4 → u ≡ scaleOf s
+unfolding scaleOf
+scale-read s u h = h
+
+pub row-low : (n k i from : ℕ) → n ≤ 8 → k ≤ 256 → i < k → from ≡ vAt n i → from ≤ 4088
+row-low n k i from few rows l e = let h : i ≤ 255 = omega arith in omega (arith, mul-le-mul h few)
+
+module _ (s : List ℕ) (n k i from : ℕ) (room : ProofRoom s n k) (l : i < k) (e : from ≡ vAt n i) where
+  pub v-inside : from + n ≤ length s
+  v-inside = omega (arith, mul-le-mul-right (2 * n) l)
+
+  pub w-inside : from + n + n ≤ length s
+  w-inside = omega (arith, mul-le-mul-right (2 * n) l)
+
+pub v-read : (s : List ℕ) (n i from : ℕ) (r : Point) → from ≡ vAt n i → r ≡ pointOf (bytesAt s from n) → r ≡ pointOf (vOf s n i)
+unfolding vOf
+v-read s n i from r e h = h ∙ rw e
+
+pub w-read : (s : List ℕ) (n i from : ℕ) (r : Point) → from ≡ vAt n i → r ≡ pointOf (bytesAt s (from + n) n)
+    → r ≡ pointOf (wOf s n i)
+unfolding wOf
+w-read s n i from r e h = h ∙ rw e
+
+module _ (n k i : ℕ) (few : n ≤ 8) (rows : k ≤ 256) (from : ℕ) (e : from ≡ place 8 k (2 * n)) where
+  pub rows-low : from ≤ 16777216
+  rows-low = omega (arith, mul-le-mul rows few)
+
+  pub triple-low : (at : ℕ) → i < k → at ≡ place from i 12 → at ≤ 7164
+  triple-low at l f = omega (arith, mul-le-mul rows few)
+
+  pub triple-here : (at : ℕ) → at ≡ place from i 12 → at ≡ tripleAt n k i
+  triple-here at f = rw (f, e)
+
+pub triple-inside : (s : List ℕ) (n k i at : ℕ) → ProofRoom s n k → i < k → at ≡ tripleAt n k i → at + 12 ≤ length s
+triple-inside s n k i at room l e = omega (arith, mul-le-mul-right 12 l)
+
+-- a prime marks a number as the machine reads it back
+pub triple-read : (s : List ℕ) (n k i at : ℕ) (p p′ q q′ r r′ : ℤ) → at ≡ tripleAt n k i → p ≡ i32At s at → q ≡ i32At s (at + 4)
+    → r ≡ i32At s (at + 8) → p′ ≡ p → q′ ≡ q → r′ ≡ r → record { p = p′; q = q′; r = r′ } ≡ tripleOf s n k i
+unfolding tripleOf wordsAt
+triple-read s n k i at p p′ q q′ r r′ e ep eq er bp bq br = rw (bp, bq, br, ep, eq, er, e)
+
+pub weights-lone : (lone : Bool) (x : Triple) (p : ℤ) → lone ≡ true → p ≡ x .p → Lone p ≡ weightsOf lone x
+unfolding weightsOf
+weights-lone lone x p h e = rw (h, e)
+
+pub weights-pair : (lone : Bool) (x : Triple) (p q r : ℤ) → lone ≡ false → p ≡ x .p → q ≡ x .q → r ≡ x .r
+    → Pair p q r ≡ weightsOf lone x
+unfolding weightsOf
+weights-pair lone x p q r h ep eq er = rw (h, ep, eq, er)
+
+pub row-read : (s : List ℕ) (n k i : ℕ) (v w : Point) (lone : Bool) (x : Triple) (a : Weights) → v ≡ pointOf (vOf s n i)
+    → w ≡ pointOf (wOf s n i) → lone ≡ samePoint (exponents v) (exponents w) → x ≡ tripleOf s n k i → a ≡ weightsOf lone x
+    → record { v = v; w = w; weights = a } ≡ byValue (rowOf s n k i)
+unfolding byValue rowOf
+row-read s n k i v w lone x a ev ew el ex ea =
+    rw (ea, ex, el, ev, ew, exponents-of (vOf s n i), exponents-of (wOf s n i))
+
+-- ---- and written to
+
+pub for-pair : (a : Weights) (p p′ q q′ r r′ : ℤ) → a ≡ Pair p q r → p′ ≡ p → q′ ≡ q → r′ ≡ r
+    → record { p = p′; q = q′; r = r′ } ≡ tripleFor a
+unfolding tripleFor
+for-pair a p p′ q q′ r r′ e ep eq er = rw (e, ep, eq, er)
+
+pub for-lone : (a : Weights) (p p′ : ℤ) → a ≡ Lone p → p′ ≡ p → record { p = p′; q = pos 0; r = pos 0 } ≡ tripleFor a
+unfolding tripleFor
+for-lone a p p′ e ep = rw (e, ep)
+
+pub triple-written : (out o₁ o₂ o₃ : List ℕ) (at : ℕ) (x : Triple) (p q r : ℤ) → o₁ ≡ withI32 out at p → o₂ ≡ withI32 o₁ (at + 4) q
+    → o₃ ≡ withI32 o₂ (at + 8) r → p ≡ x .p → q ≡ x .q → r ≡ x .r → o₃ ≡ withTriple out at x
+unfolding withTriple
+triple-written out o₁ o₂ o₃ at x p q r e₁ e₂ e₃ ep eq er = e₃ ∙ rw (e₂, e₁, ep, eq, er)
+
+module _ (n k i at : ℕ) (a : Weights) (x : Triple) (ex : x ≡ tripleFor a) (ea : at ≡ tripleAt n k i) where
+  pub narrow-here : Narrow (tripleFor a) → Narrow x
+  narrow-here h = rw ex h
+
+  pub weights-written : (out o : List ℕ) → o ≡ withTriple out at x → o ≡ withWeights out n k i a
+  unfolding withWeights
+  weights-written out o h = h ∙ rw (ex, ea)

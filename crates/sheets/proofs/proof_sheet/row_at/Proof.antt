@@ -1,0 +1,40 @@
+use Rattle.sheets.proofs.proof_sheet.Laws.{row-read}
+use borrow.Author.Needs.{needs}
+use Rattle.sheets.proofs.proof_sheet.row_at.Statement.{statement}
+use Rattle.sheets.proofs.proof_sheet.row_at.Tie as tie
+use Rattle.sheets.proofs.proof_sheet.row_at.Reads as reads
+use Rattle.sheets.proofs.proof_sheet.row_at.Lts as lts
+use Rattle.monomials.proofs.points.same.Reads as same-reads
+use Rattle.sheets.proofs.proof_sheet.row_triple.Reads as row-triple-reads
+use Rattle.sheets.proofs.proof_sheet.row_v.Reads as row-v-reads
+use Rattle.sheets.proofs.proof_sheet.row_w.Reads as row-w-reads
+use Rattle.sheets.proofs.proof_sheet.weights_of.Reads as weights-of-reads
+
+row-v-requires : tie.Need-row-v-requires
+row-v-requires c κs = search needs
+
+row-w-requires : tie.Need-row-w-requires
+row-w-requires c κs = search needs
+
+same-requires : tie.Need-same-requires
+same-requires c κs = search needs
+
+row-triple-requires : tie.Need-row-triple-requires
+row-triple-requires c κs = search needs
+
+weights-of-requires : tie.Need-weights-of-requires
+weights-of-requires c κs = search needs
+
+returns : tie.Need-returns
+returns c = search row-read
+
+pub row-at-spec : {M : Type 1} → statement M
+row-at-spec =
+    tie.close
+    (tie.spec
+    row-v-requires
+    row-w-requires
+    same-requires
+    row-triple-requires
+    weights-of-requires
+    returns)

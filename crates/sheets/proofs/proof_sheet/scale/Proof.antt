@@ -1,0 +1,16 @@
+use Rattle.sheets.proofs.proof_sheet.Laws.{scale-read}
+use borrow.Author.Needs.{needs}
+use Rattle.sheets.proofs.proof_sheet.scale.Statement.{statement}
+use Rattle.sheets.proofs.proof_sheet.scale.Tie as tie
+use Rattle.sheets.proofs.proof_sheet.scale.Reads as reads
+use Rattle.sheets.proofs.proof_sheet.scale.Lts as lts
+use Rattle.integers.proofs.words.read_u32.Reads as read-u32-reads
+
+read-u32-requires : tie.Need-read-u32-requires
+read-u32-requires c κs = search needs
+
+returns : tie.Need-returns
+returns c = search scale-read
+
+pub scale-spec : {M : Type 1} → statement M
+scale-spec = tie.close (tie.spec read-u32-requires returns)

@@ -1,0 +1,22 @@
+use Rattle.sheets.proofs.proof_sheet.Laws.{rows-low, triple-low, triple-here}
+use borrow.Author.Needs.{needs}
+use Rattle.sheets.proofs.proof_sheet.triple_place.Statement.{statement}
+use Rattle.sheets.proofs.proof_sheet.triple_place.Tie as tie
+use Rattle.sheets.proofs.proof_sheet.triple_place.Reads as reads
+use Rattle.sheets.proofs.proof_sheet.triple_place.Lts as lts
+use Rattle.sheets.proofs.layout.place_of.Reads as place-of-reads
+
+mul-place-of : tie.Need-mul-place-of
+mul-place-of c = search needs
+
+place-of-requires : tie.Need-place-of-requires
+place-of-requires c κs = search needs
+
+place-of-requires-2 : tie.Need-place-of-requires-2
+place-of-requires-2 c κs = search (needs, rows-low)
+
+returns : tie.Need-returns
+returns c = (search triple-here, search triple-low)
+
+pub triple-place-spec : {M : Type 1} → statement M
+triple-place-spec = tie.close (tie.spec mul-place-of place-of-requires place-of-requires-2 returns)

@@ -1,0 +1,29 @@
+use Rattle.sheets.proofs.proof_sheet.Laws.{triple-inside, narrow-here, weights-written}
+use borrow.Author.Needs.{needs}
+use Rattle.sheets.proofs.proof_sheet.write_weights.Statement.{statement}
+use Rattle.sheets.proofs.proof_sheet.write_weights.Tie as tie
+use Rattle.sheets.proofs.proof_sheet.write_weights.Reads as reads
+use Rattle.sheets.proofs.proof_sheet.write_weights.Lts as lts
+use Rattle.sheets.proofs.proof_sheet.triple_for.Reads as triple-for-reads
+use Rattle.sheets.proofs.proof_sheet.triple_place.Reads as triple-place-reads
+use Rattle.sheets.proofs.proof_sheet.write_triple.Reads as write-triple-reads
+
+triple-place-requires : tie.Need-triple-place-requires
+triple-place-requires c κs = search needs
+
+triple-for-requires : tie.Need-triple-for-requires
+triple-for-requires c κs = search needs
+
+write-triple-requires : tie.Need-write-triple-requires
+write-triple-requires c κs = (search triple-inside, search narrow-here)
+
+same-length : tie.Need-same-length
+same-length c = search needs
+
+returns : tie.Need-returns
+returns c = search weights-written
+
+pub write-weights-spec : {M : Type 1} → statement M
+write-weights-spec =
+    tie.close
+    (tie.spec triple-place-requires triple-for-requires write-triple-requires same-length returns)

@@ -1,0 +1,27 @@
+-- The claim sheet: its floor and its terms, as the bytes give them.
+use mathlib.Core.List.{List}
+use Prim.Native.Nat.{ℕ}
+use lib.IntN.{ℤ}
+use Rattle.integers.specs.Words.{i32At}
+use Rattle.monomials.specs.Lists.{table}
+use Rattle.monomials.specs.Points.{Exponents, bytesAt}
+use Rattle.monomials.specs.Sums.{Sum}
+use Rattle.sheets.specs.Layout.{variables, termCount, pointAt, coefficientAt}
+
+-- "Bytes 4 to 7: the floor b, signed"
+unfoldable pub floorOf : List ℕ → ℤ
+floorOf c = i32At c 4
+
+-- the point and the coefficient of term i, in a claim of n variables and t terms
+unfoldable pub termPoint : List ℕ → ℕ → ℕ → Exponents
+termPoint c n i = bytesAt c (pointAt n i) n
+
+unfoldable pub coefficientOf : List ℕ → ℕ → ℕ → ℕ → ℤ
+coefficientOf c n t i = i32At c (coefficientAt n t i)
+
+unfoldable pub termOf : List ℕ → ℕ → ℕ → ℕ → Exponents × ℤ
+termOf c n t i = (termPoint c n i, coefficientOf c n t i)
+
+-- "The polynomial f is the sum of coefficient times monomial": its terms
+unfoldable pub termsOf : List ℕ → Sum
+termsOf c = table (termOf c (variables c) (termCount c)) (termCount c)

@@ -1,0 +1,59 @@
+-- Layout: where each field of a sheet stands and how long a sheet is, for reader and writer alike.
+use mathlib.Core.List.{List}
+use Prim.Native.Nat.{ℕ, _+_, _*_, _≤_}
+use lib.ListN.{length, getD}
+
+-- entries of one size stand one after another: where entry i begins
+abbrev pub place : ℕ → ℕ → ℕ → ℕ
+place from i size = from + i * size
+
+-- "Byte 0: n", in both sheets
+abbrev pub variables : List ℕ → ℕ
+variables s = getD s 0 0
+
+-- ---- the claim: eight bytes, "then t points, each of n exponent bytes", "then t coefficients, signed 32-bit"
+
+-- "Byte 1: t, terms"
+abbrev pub termCount : List ℕ → ℕ
+termCount c = getD c 1 0
+
+abbrev pub pointAt : ℕ → ℕ → ℕ
+pointAt n i = place 8 i n
+
+abbrev pub coefficientAt : ℕ → ℕ → ℕ → ℕ
+coefficientAt n t i = place (place 8 t n) i 4
+
+-- "The length is 8 + t × (n + 4)"
+abbrev pub claimLength : ℕ → ℕ → ℕ
+claimLength n t = place 8 t (n + 4)
+
+-- ---- the proof: eight bytes, "then k rows, each two points v and w of n exponent bytes", "then k weight triples p, q, r"
+
+-- "Bytes 2 and 3: k, rows"
+abbrev pub rowCount : List ℕ → ℕ
+rowCount s = getD s 2 0 + getD s 3 0 * 256
+
+abbrev pub vAt : ℕ → ℕ → ℕ
+vAt n i = place 8 i (2 * n)
+
+abbrev pub wAt : ℕ → ℕ → ℕ
+wAt n i = vAt n i + n
+
+abbrev pub tripleAt : ℕ → ℕ → ℕ → ℕ
+tripleAt n k i = place (place 8 k (2 * n)) i 12
+
+-- "The length is 8 + k × (2n + 12)"
+abbrev pub proofLength : ℕ → ℕ → ℕ
+proofLength n k = place 8 k (2 * n + 12)
+
+-- ---- bytes that have room for a sheet, as the functions that read or write its parts ask
+
+pub record ClaimRoom (c : List ℕ) (n t : ℕ) : Type 0 where
+  pub few : n ≤ 8
+  pub terms : t ≤ 64
+  pub long : claimLength n t ≤ length c
+
+pub record ProofRoom (s : List ℕ) (n k : ℕ) : Type 0 where
+  pub few : n ≤ 8
+  pub rows : k ≤ 256
+  pub long : proofLength n k ≤ length s

@@ -1,0 +1,35 @@
+// The claim sheet's fields.
+use crate::layout::place_of;
+use integers::words::read_i32;
+use monomials::points::Point;
+use monomials::points::point_at;
+ghost use mathlib.Core.Path.{_≡_};
+ghost use Prim.Native.Nat.{_<_, _≤_};
+ghost use lib.ListN.{length};
+ghost use Rattle.monomials.specs.Points.{pointOf};
+ghost use Rattle.sheets.specs.Layout.{ClaimRoom};
+ghost use Rattle.sheets.specs.ClaimSheet.{floorOf, termPoint, coefficientOf};
+
+// The floor b.
+pub fn floor(claim: &[u8]) -> i64
+    requires { ⌜ 8 ≤ length (now claim) ⌝ }
+    ensures { λ r. ⌜ r ≡ floorOf (now (claim .entry)) ⌝ }
+{
+    read_i32(claim, 4)
+}
+
+// The point of term i.
+pub fn term_point(claim: &[u8], n: usize, t: usize, i: usize) -> Point
+    requires { ⌜ (ClaimRoom (now claim) n t) × (i < t) ⌝ }
+    ensures { λ r. ⌜ r ≡ pointOf (termPoint (now (claim .entry)) n i) ⌝ }
+{
+    point_at(claim, place_of(8, i, n), n)
+}
+
+// The coefficient of term i.
+pub fn coefficient(claim: &[u8], n: usize, t: usize, i: usize) -> i64
+    requires { ⌜ (ClaimRoom (now claim) n t) × (i < t) ⌝ }
+    ensures { λ r. ⌜ r ≡ coefficientOf (now (claim .entry)) n t i ⌝ }
+{
+    read_i32(claim, place_of(place_of(8, t, n), i, 4))
+}
