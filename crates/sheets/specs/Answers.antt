@@ -1,6 +1,6 @@
 -- Answers: verdicts in document 01's numbers, and checks in the order of their numbers.
 use mathlib.Core.Path.{_≡_}
-use mathlib.Core.Bool.{Bool, cond, _||_}
+use mathlib.Core.Bool.{Bool, true, false, cond, _||_}
 use Prim.Native.Nat.{ℕ}
 use lib.Dec.{eqb, leb}
 use Rattle.sheets.specs.declared.answers.Sheet.the-variants.{Claim, Proof, Output, Offsets}
@@ -46,10 +46,14 @@ unfoldable pub refuseAt : Found → ℕ → Answer → Answer
 refuseAt (At i) number later = refused number i
 refuseAt Nothing number later = later
 
+-- no sheet is at fault
+unfoldable pub blameless : Answer → Bool
+blameless answer = elim (answer .blamed) [ none ↦ true | claim ↦ false | proof ↦ false | output ↦ false | offsets ↦ false ]
+
 -- the checks of one sheet, and those of the next
 unfoldable pub andThen : Answer → Answer → Answer
-andThen answer later = cond (eqb (answer .number) 0) later answer
+andThen answer later = cond (blameless answer) later answer
 
--- every check passed
+-- every check is passed
 abbrev pub Passes : Answer → Type 0
-Passes answer = answer .number ≡ 0
+Passes answer = blameless answer ≡ true

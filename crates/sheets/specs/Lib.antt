@@ -6,3 +6,4 @@ pub mod ClaimSheet
 pub mod ClaimChecks
 pub mod ProofSheet
 pub mod ProofChecks
+pub mod WellFormed

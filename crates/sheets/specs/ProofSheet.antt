@@ -1,5 +1,5 @@
 -- The proof sheet: its scale and its rows, as the bytes give them, and weights written back.
-use mathlib.Core.Bool.{Bool, cond}
+use mathlib.Core.Bool.{Bool, true, false, cond}
 use mathlib.Core.List.{List}
 use Prim.Native.Nat.{ℕ, zero, suc, _+_}
 use lib.IntN.{ℤ, pos}
@@ -58,6 +58,13 @@ byValue a = record { v = pointOf (a .v); w = pointOf (a .w); weights = a .weight
 unfoldable pub tripleFor : Weights → Triple
 tripleFor (Pair p q r) = record { p = p; q = q; r = r }
 tripleFor (Lone p) = record { p = p; q = pos 0; r = pos 0 }
+
+-- a lone row has one weight, a pair three
+abbrev pub Suits : Bool → Weights → Type 0
+Suits true (Lone p) = Unit {0}
+Suits true (Pair p q r) = ⊥
+Suits false (Lone p) = ⊥
+Suits false (Pair p q r) = Unit {0}
 
 -- numbers of 32 bits
 pub record Narrow (x : Triple) : Type 0 where

@@ -7,3 +7,4 @@ pub mod layout;
 pub mod proof_checks;
 pub mod proof_sheet;
 pub mod searches;
+pub mod well_formed;

@@ -14,7 +14,7 @@ use borrow.Author.Tests.{lt-ltb, le-ltb, eq-eqb, eqb-true}
 use borrow.Author.Count.{below-more}
 use Rattle.monomials.specs.Lists.{table}
 use Rattle.monomials.specs.Points.{Exponents, exponents, pointOf, bytesAt, every, everyPair, samePoint, risesTo, midpointOf}
-use Rattle.monomials.proofs.Lists.{table-length, table-get}
+use Rattle.monomials.proofs.Lists.{table-length, table-get, table-same}
 use Rattle.monomials.specs.declared.points.Point.{Point}
 
 -- ---- points by value
@@ -256,6 +256,12 @@ bytes-length s at n = table-length (λ i. getD s (at + i) 0) n
 pub bytes-get : (s : List ℕ) (at n i : ℕ) → i < n → getD (bytesAt s at n) i 0 ≡ getD s (at + i) 0
 unfolding bytesAt
 bytes-get s at n i h = table-get (λ j. getD s (at + j) 0) 0 n i h
+
+-- equal bytes are equal exponents
+pub bytes-same : (s t : List ℕ) (at n : ℕ) → ((i : ℕ) → i < n → getD s (at + i) 0 ≡ getD t (at + i) 0)
+    → bytesAt s at n ≡ bytesAt t at n
+unfolding bytesAt
+bytes-same s t at n h = table-same (λ i. getD s (at + i) 0) (λ i. getD t (at + i) 0) n h
 
 pub exponents-of : (α : Exponents) → exponents (pointOf α) ≡ α
 unfolding exponents pointOf

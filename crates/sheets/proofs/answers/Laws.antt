@@ -1,20 +1,62 @@
--- Laws of answers: what it says of each check that all are passed.
-use mathlib.Core.Path.{_≡_, refl}
-use mathlib.Core.Bool.{Bool, true, false}
-use Prim.Native.Nat.{ℕ, _<_}
-use native.Mathlib.Omega.{arith}
-use Rattle.sheets.specs.Answers.{Answer, refused, refuseIf, refuseAt, Passes}
+-- Laws of answers: what it says of each check that all are passed, and the ways through checks one after another.
+use mathlib.Core.Path.{_≡_, refl, sym, _∙_}
+use mathlib.Core.Bool.{Bool, true, false, cond, _||_, false≢true}
+use Prim.Native.Nat.{ℕ}
+use lib.Dec.{eqb, leb}
+use Rattle.sheets.specs.Answers.{Answer, Blamed, none, claim, proof, output, offsets, says, blames, accepted, refused, refuseIf, refuseAt, blameless, andThen, Passes}
+use Rattle.sheets.specs.declared.answers.Sheet.{Sheet}
+use Rattle.sheets.specs.declared.answers.Sheet.the-variants.{Claim, Proof, Output, Offsets}
+use Rattle.sheets.specs.declared.answers.Verdict.{Verdict}
+use Rattle.sheets.specs.declared.answers.Verdict.the-variants.{Accepted, Refused}
 use Rattle.sheets.specs.declared.searches.Found.{Found}
 use Rattle.sheets.specs.declared.searches.Found.the-variants.{At, Nothing}
 
-pub passes-if : (b : Bool) (number : ℕ) (later : Answer) → 0 < number → Passes (refuseIf b number later)
-    → (b ≡ false) × Passes later
-unfolding refuseIf refused
-passes-if true number later l h = absurd (omega arith)
-passes-if false number later l h = (refl, h)
+-- a refusal blames a sheet
+refused-blames : (number index : ℕ) → blameless (refused number index) ≡ false
+unfolding blameless refused blames
+refused-blames number index = go (leb number 7 || eqb number 21) (eqb number 11) (eqb number 20)
+  where
+    go : (a b d : Bool) → blameless (record { number = number; blamed = cond a claim (cond b output (cond d offsets proof)); value = index }) ≡ false
+    go true b d = refl
+    go false true d = refl
+    go false false true = refl
+    go false false false = refl
 
-pub passes-at : (f : Found) (number : ℕ) (later : Answer) → 0 < number → Passes (refuseAt f number later)
-    → (f ≡ Nothing) × Passes later
-unfolding refuseAt refused
-passes-at (At i) number later l h = absurd (omega arith)
-passes-at Nothing number later l h = (refl, h)
+pub passes-if : (b : Bool) (number : ℕ) (later : Answer) → Passes (refuseIf b number later) → (b ≡ false) × Passes later
+unfolding refuseIf
+passes-if true number later h = absurd (false≢true (sym (refused-blames number 0) ∙ h))
+passes-if false number later h = (refl, h)
+
+pub passes-at : (f : Found) (number : ℕ) (later : Answer) → Passes (refuseAt f number later) → (f ≡ Nothing) × Passes later
+unfolding refuseAt
+passes-at (At i) number later h = absurd (false≢true (sym (refused-blames number i) ∙ h))
+passes-at Nothing number later h = (refl, h)
+
+pub passes-then : (a later : Answer) → Passes (andThen a later) → Passes a × Passes later
+unfolding andThen
+passes-then a later h = go (blameless a) refl h
+  where
+    go : (b : Bool) → blameless a ≡ b → blameless (cond b later a) ≡ true → Passes a × Passes later
+    go true e k = (e, k)
+    go false e k = absurd (false≢true (sym e ∙ k))
+
+-- v is the verdict on the checks before, r on those after
+module _ (v : Verdict) (a : Answer) (e : says v ≡ a) where
+  pub then-refused : (x : Sheet) (later : Answer) → v ≡ Refused x → says v ≡ andThen a later
+  unfolding says blameless andThen
+  then-refused x later h = rw (← e, h) (go x)
+    where
+      go : (x : Sheet) → says (Refused x) ≡ cond (blameless (says (Refused x))) later (says (Refused x))
+      go (Claim number index) = refl
+      go (Proof number index) = refl
+      go (Output number index) = refl
+      go (Offsets number index) = refl
+
+  module _ (k : ℕ) (h : v ≡ Accepted k) where
+    pub passed : Passes a
+    unfolding blameless says accepted
+    passed = rw (← e, h)
+
+    pub then-passed : (r : Verdict) (later : Answer) → says r ≡ later → says r ≡ andThen a later
+    unfolding andThen
+    then-passed r later q = rw passed q

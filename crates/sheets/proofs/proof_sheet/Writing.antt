@@ -1,0 +1,176 @@
+-- Laws of weights written back: no other byte changes, what is written reads back, and what was read and is written again gives
+-- the same sheet.
+use mathlib.Core.Path.{_≡_, refl, sym, _∙_, ap, ap₂}
+use mathlib.Core.Bool.{Bool, true, false}
+use mathlib.Core.List.{List}
+use Prim.Native.Nat.{ℕ, zero, suc, _+_, _*_, _<_, _≤_}
+use native.Mathlib.Decide.{decLt}
+use native.Mathlib.Nat.{mul-le-mul-right}
+use native.Mathlib.Omega.{arith}
+use lib.IntN.{ℤ, pos}
+use lib.ListN.{length, getD}
+use Rattle.integers.specs.Words.{i32At, withI32}
+use Rattle.integers.proofs.words.Laws.{Bytes, written-length, written-before, written-after, read-before, read-after, read-written, written-read}
+use Rattle.monomials.specs.Points.{samePoint}
+use Rattle.monomials.specs.Lists.{table}
+use Rattle.monomials.specs.Rows as Formal
+use Rattle.monomials.proofs.Lists.{table-same}
+use Rattle.monomials.proofs.points.Laws.{bytes-same}
+use Rattle.monomials.specs.declared.rows.Weights.{Weights}
+use Rattle.monomials.specs.declared.rows.Weights.the-variants.{Pair, Lone}
+use Rattle.sheets.specs.Layout.{variables, rowCount, place, vAt, wAt, tripleAt, proofLength, ProofRoom}
+use Rattle.sheets.specs.ProofSheet.{vOf, wOf, wordsAt, tripleOf, weightsOf, rowOf, rowsOf, tripleFor, Suits, Narrow, withTriple, withWeights, withRows}
+use Rattle.sheets.specs.declared.proof_sheet.Triple.{Triple}
+
+-- ---- one triple
+
+module _ (s : List ℕ) (at : ℕ) (x : Triple) where
+  abbrev one : List ℕ
+  one = withI32 s at (x .p)
+
+  abbrev two : List ℕ
+  two = withI32 one (at + 4) (x .q)
+
+  pub triple-length : length (withTriple s at x) ≡ length s
+  unfolding withTriple
+  triple-length = written-length two (at + 8) (x .r) ∙ written-length one (at + 4) (x .q) ∙ written-length s at (x .p)
+
+  pub triple-before : (j : ℕ) → j < at → getD (withTriple s at x) j 0 ≡ getD s j 0
+  unfolding withTriple
+  triple-before j h =
+      written-before two (at + 8) (x .r) j (omega arith) ∙ written-before one (at + 4) (x .q) j (omega arith)
+      ∙ written-before s at (x .p) j h
+
+  pub triple-after : (j : ℕ) → at + 12 ≤ j → getD (withTriple s at x) j 0 ≡ getD s j 0
+  unfolding withTriple
+  triple-after j h =
+      written-after two (at + 8) (x .r) j (omega arith) ∙ written-after one (at + 4) (x .q) j (omega arith)
+      ∙ written-after s at (x .p) j (omega arith)
+
+  pub triple-reads : at + 12 ≤ length s → Narrow x → wordsAt (withTriple s at x) at ≡ x
+  unfolding withTriple wordsAt
+  triple-reads h f =
+      let l₁ = written-length s at (x .p) in
+      let l₂ = written-length one (at + 4) (x .q) ∙ l₁ in
+      rw (
+        read-before two (at + 8) (x .r) at (omega arith),
+        read-before one (at + 4) (x .q) at (omega arith),
+        read-written s at (x .p) (omega arith) (f .p-fits),
+        read-before two (at + 8) (x .r) (at + 4) (omega arith),
+        read-written one (at + 4) (x .q) (omega arith) (f .q-fits),
+        read-written two (at + 8) (x .r) (omega arith) (f .r-fits),
+      )
+
+  pub triple-earlier : (p : ℕ) → p + 12 ≤ at → wordsAt (withTriple s at x) p ≡ wordsAt s p
+  unfolding withTriple wordsAt
+  triple-earlier p h = rw (same p (omega arith), same (p + 4) (omega arith), same (p + 8) (omega arith))
+    where
+      same : (p : ℕ) → p + 4 ≤ at → i32At (withI32 two (at + 8) (x .r)) p ≡ i32At s p
+      same p h =
+          read-before two (at + 8) (x .r) p (omega arith) ∙ read-before one (at + 4) (x .q) p (omega arith)
+          ∙ read-before s at (x .p) p h
+
+-- what was read and is written again gives the same bytes
+pub triple-again : (s : List ℕ) (at : ℕ) → Bytes s → withTriple s at (wordsAt s at) ≡ s
+unfolding withTriple wordsAt
+triple-again s at b = rw (written-read s at b, written-read s (at + 4) b, written-read s (at + 8) b)
+
+-- ---- the weights of the first rows
+
+module _ (weights : ℕ → Weights) (s : List ℕ) (n k : ℕ) where
+  pub rows-length : (i : ℕ) → length (withRows weights s n k i) ≡ length s
+  unfolding withRows withWeights
+  rows-length zero = refl
+  rows-length (suc i) = triple-length (withRows weights s n k i) (tripleAt n k i) (tripleFor (weights i)) ∙ rows-length i
+
+  -- header and points stay
+  pub rows-before : (i j : ℕ) → j < place 8 k (2 * n) → getD (withRows weights s n k i) j 0 ≡ getD s j 0
+  unfolding withRows withWeights
+  rows-before zero j h = refl
+  rows-before (suc i) j h =
+      triple-before (withRows weights s n k i) (tripleAt n k i) (tripleFor (weights i)) j (omega arith) ∙ rows-before i j h
+
+  -- and so does what comes after the proof
+  pub rows-after : (i j : ℕ) → i ≤ k → proofLength n k ≤ j → getD (withRows weights s n k i) j 0 ≡ getD s j 0
+  unfolding withRows withWeights
+  rows-after zero j l h = refl
+  rows-after (suc i) j l h =
+      triple-after (withRows weights s n k i) (tripleAt n k i) (tripleFor (weights i)) j (omega (arith, mul-le-mul-right 12 l))
+      ∙ rows-after i j (omega arith) h
+
+  -- each triple reads back
+  pub rows-read : (i j : ℕ) → j < i → i ≤ k → proofLength n k ≤ length s → ((j : ℕ) → j < k → Narrow (tripleFor (weights j)))
+      → tripleOf (withRows weights s n k i) n k j ≡ tripleFor (weights j)
+  unfolding withRows withWeights tripleOf
+  rows-read zero j h l r f = absurd (omega arith)
+  rows-read (suc i) j h l r f = go (decLt j i) (λ g. rows-read i j g (omega arith) r f)
+    where
+      go : Dec (j < i) → (j < i → wordsAt (withRows weights s n k i) (tripleAt n k j) ≡ tripleFor (weights j))
+          → wordsAt (withTriple (withRows weights s n k i) (tripleAt n k i) (tripleFor (weights i))) (tripleAt n k j) ≡ tripleFor (weights j)
+      go (yes g) below =
+          triple-earlier (withRows weights s n k i) (tripleAt n k i) (tripleFor (weights i)) (tripleAt n k j) (omega (arith, mul-le-mul-right 12 g))
+          ∙ below g
+      go (no g) below =
+          let q : j ≡ i = omega arith in
+          rw q (triple-reads (withRows weights s n k i) (tripleAt n k i) (tripleFor (weights i)) (rw rows-length (omega (arith, mul-le-mul-right 12 l))) (f i l))
+
+  -- weights written as they were give the same sheet, byte by byte
+  pub rows-again : (i : ℕ) → Bytes s → ((j : ℕ) → j < i → tripleFor (weights j) ≡ tripleOf s n k j) → withRows weights s n k i ≡ s
+  unfolding withRows withWeights tripleOf
+  rows-again zero b h = refl
+  rows-again (suc i) b h =
+      rw (rows-again i b (λ j l. h j (omega arith)), h i (omega arith)) (triple-again s (tripleAt n k i) b)
+
+-- ---- rows
+
+-- weights that suit a row are read back as they are
+suits-read : (lone : Bool) (a : Weights) → Suits lone a → weightsOf lone (tripleFor a) ≡ a
+unfolding weightsOf tripleFor
+suits-read true (Lone p) h = refl
+suits-read false (Pair p q r) h = refl
+suits-read true (Pair p q r) h = absurd h
+suits-read false (Lone p) h = absurd h
+
+-- and a lone row's triple is written as it was, where q and r are zero
+lone-again : (lone : Bool) (x : Triple) → (lone ≡ true → (x .q ≡ pos 0) × (x .r ≡ pos 0)) → tripleFor (weightsOf lone x) ≡ x
+unfolding weightsOf tripleFor
+lone-again true x h = let z = h refl in sym (ap₂ (λ (q r : ℤ). record { p = x .p; q = q; r = r }) (z .0) (z .1))
+lone-again false x h = refl
+
+module _ (s : List ℕ) (n k : ℕ) where
+  -- a sheet whose weights are all written back as they were is the same sheet
+  pub sheet-again : Bytes s
+      → ((i : ℕ) → i < k → samePoint (vOf s n i) (wOf s n i) ≡ true → (tripleOf s n k i .q ≡ pos 0) × (tripleOf s n k i .r ≡ pos 0))
+      → withRows (λ i. rowOf s n k i .weights) s n k k ≡ s
+  unfolding rowOf
+  sheet-again b h =
+      rows-again (λ i. rowOf s n k i .weights) s n k k b
+      (λ i l. lone-again (samePoint (vOf s n i) (wOf s n i)) (tripleOf s n k i) (h i l))
+
+  -- what is written reads back as the same rows with those weights
+  module _ (weights : ℕ → Weights) (room : ProofRoom s n k) (narrow : (i : ℕ) → i < k → Narrow (tripleFor (weights i)))
+      (suits : (i : ℕ) → i < k → Suits (samePoint (vOf s n i) (wOf s n i)) (weights i)) where
+    abbrev written : List ℕ
+    written = withRows weights s n k k
+
+    v-kept : (i : ℕ) → i < k → vOf written n i ≡ vOf s n i
+    unfolding vOf
+    v-kept i l = bytes-same written s (vAt n i) n (λ j h. rows-before weights s n k k (vAt n i + j) (omega (arith, mul-le-mul-right (2 * n) l)))
+
+    w-kept : (i : ℕ) → i < k → wOf written n i ≡ wOf s n i
+    unfolding wOf
+    w-kept i l = bytes-same written s (wAt n i) n (λ j h. rows-before weights s n k k (wAt n i + j) (omega (arith, mul-le-mul-right (2 * n) l)))
+
+    pub row-written : (i : ℕ) → i < k → rowOf written n k i ≡ record { v = vOf s n i; w = wOf s n i; weights = weights i }
+    unfolding rowOf
+    row-written i l =
+        rw (v-kept i l, w-kept i l, rows-read weights s n k k i l (omega arith) (room .long) narrow,
+        suits-read (samePoint (vOf s n i) (wOf s n i)) (weights i) (suits i l))
+
+    pub sheet-read : n ≡ variables s → k ≡ rowCount s
+        → rowsOf written ≡ table (λ i. record { v = vOf s n i; w = wOf s n i; weights = weights i }) k
+    unfolding rowsOf
+    sheet-read en ek =
+        let e0 : variables written ≡ n = rows-before weights s n k k 0 (omega arith) ∙ sym en in
+        let ek′ : rowCount written ≡ k = rw (rows-before weights s n k k 2 (omega arith), rows-before weights s n k k 3 (omega arith)) (sym ek) in
+        rw (e0, ek′) (table-same (rowOf written n k) (λ i. record { v = vOf s n i; w = wOf s n i; weights = weights i }) k row-written)

@@ -1,0 +1,239 @@
+-- Well-formed sheets: what it says of their numbers and points that every check is passed.
+use mathlib.Core.Path.{_≡_, refl, sym, _∙_}
+use mathlib.Core.Bool.{Bool, true, false, not, _&&_, _||_, and-eq-true-iff, true≢false}
+use mathlib.Core.List.{List}
+use Prim.Native.Nat.{ℕ, zero, suc, _+_, _-_, _*_, _<_, _≤_}
+use native.Mathlib.Omega.{arith}
+use lib.Dec.{eqb, ltb, leb}
+use lib.IntN.{ℤ, pos, natAbs}
+use lib.ListN.{length, getD}
+use borrow.Author.Tests.{ltb-false, leb-true, eqb-true, eqb-false, not-false, lt-ltb}
+use Rattle.integers.proofs.Integers.{abs-zero}
+use Rattle.monomials.specs.Lists.{All}
+use Rattle.monomials.specs.Points.{samePoint, risesTo, hasMidpoint, exponentsWithin}
+use Rattle.monomials.specs.Decomposition.{Sized, Placed, Whole}
+use Rattle.monomials.proofs.Lists.{all-table}
+use Rattle.monomials.proofs.points.Laws.{bytes-length}
+use Rattle.sheets.specs.Answers.{says, Passes}
+use Rattle.sheets.specs.Bounds.{greatestExponent, greatestWeight, greatestRows, greatestScale, beyond}
+use Rattle.sheets.specs.Layout.{variables, termCount, rowCount, claimLength, proofLength, ClaimRoom, ProofRoom}
+use Rattle.sheets.specs.ClaimSheet.{floorOf, termPoint, coefficientOf, termOf, termsOf}
+use Rattle.sheets.specs.ClaimChecks as C
+use Rattle.sheets.specs.ProofSheet.{scaleOf, vOf, wOf, tripleOf, weightsOf, rowOf, rowsOf}
+use Rattle.sheets.specs.ProofChecks as P
+use Rattle.sheets.specs.WellFormed.{sheetsAnswer, WellFormed, ClaimFacts, Light, ProofFacts}
+use Rattle.sheets.specs.declared.answers.Sheet.{Sheet}
+use Rattle.sheets.specs.declared.answers.Verdict.{Verdict}
+use Rattle.sheets.specs.declared.answers.Verdict.the-variants.{Accepted, Refused}
+use Rattle.sheets.specs.declared.claim_checks.TermRule.the-variants as T
+use Rattle.sheets.specs.declared.proof_checks.RowRule.the-variants as R
+use Rattle.sheets.specs.declared.proof_sheet.Triple.{Triple}
+use Rattle.sheets.proofs.answers.Laws.{passes-if, passes-at, passes-then, passed, then-passed, then-refused}
+use Rattle.sheets.proofs.bounds.Laws.{within-bound}
+use Rattle.sheets.proofs.searches.Laws.{first-nothing}
+use Rattle.sheets.proofs.claim_checks.Laws.{Counts, header-counts}
+
+-- ---- tests that fail
+
+nor : (a b : Bool) → a || b ≡ false → (a ≡ false) × (b ≡ false)
+nor true b h = absurd (true≢false h)
+nor false b h = (refl, h)
+
+nand : (a b : Bool) → a && b ≡ false → a ≡ true → b ≡ false
+nand true b h e = h
+nand false b h e = absurd (true≢false (sym e))
+
+positive : (m : ℕ) → eqb m 0 ≡ false → 1 ≤ m
+positive m h = let z = eqb-false m 0 h in omega arith
+
+-- ---- the claim
+
+module _ (c : List ℕ) (n t i : ℕ) where
+  coefficient-facts : C.breaks (T.Coefficient greatestWeight) c n t i ≡ false
+      → (1 ≤ natAbs (coefficientOf c n t i)) × (natAbs (coefficientOf c n t i) ≤ greatestWeight)
+  unfolding C.breaks
+  coefficient-facts h =
+      let z = nor (eqb (natAbs (coefficientOf c n t i)) 0) _ h in (positive _ (z .0), within-bound greatestWeight _ (z .1))
+
+  low-fact : C.breaks (T.Exponent greatestExponent) c n t i ≡ false → exponentsWithin greatestExponent (termPoint c n i) ≡ true
+  unfolding C.breaks
+  low-fact h = not-false _ h
+
+  rising-fact : C.breaks T.Order c n t (suc i) ≡ false → risesTo (termPoint c n i) (termPoint c n (suc i)) ≡ true
+  unfolding C.breaks
+  rising-fact h =
+      let e : suc i - 1 ≡ i = omega arith in
+      rw e at (not-false (risesTo (termPoint c n (suc i - 1)) (termPoint c n (suc i))) (nand (ltb 0 (suc i)) _ h (lt-ltb 0 (suc i) (omega arith))))
+
+pub claim-facts : (c : List ℕ) → Passes (C.claimAnswer c) → ClaimFacts c (variables c) (termCount c)
+unfolding C.claimAnswer C.termsAnswer
+claim-facts c h =
+    let p₁ = passes-if _ 1 _ h in
+    let p₂ = passes-if _ 2 _ (p₁ .1) in
+    let p₃ = passes-if _ 3 _ (p₂ .1) in
+    let p₄ = passes-if _ 4 _ (p₃ .1) in
+    let p₅ = passes-at _ 5 _ (p₄ .1) in
+    let p₆ = passes-at _ 6 _ (p₅ .1) in
+    let p₇ = passes-at _ 7 _ (p₆ .1) in
+    let counts = header-counts c (not-false _ (p₂ .0)) in
+    record {
+      some = counts .some;
+      few = counts .few;
+      terms = counts .terms;
+      sized = eqb-true _ _ (not-false _ (p₃ .0));
+      floor = within-bound greatestWeight (floorOf c) (p₄ .0);
+      nonzero = λ i l. coefficient-facts c _ _ i (first-nothing _ _ (p₅ .0) i l) .0;
+      light = λ i l. coefficient-facts c _ _ i (first-nothing _ _ (p₅ .0) i l) .1;
+      low = λ i l. low-fact c _ _ i (first-nothing _ _ (p₆ .0) i l);
+      rising = λ i l. rising-fact c _ _ i (first-nothing _ _ (p₇ .0) (suc i) l);
+    }
+
+-- ---- the proof
+
+module _ (s : List ℕ) (n k i : ℕ) where
+  low-facts : P.breaks (R.Exponent greatestExponent) s n k i ≡ false
+      → (exponentsWithin greatestExponent (vOf s n i) ≡ true) × (exponentsWithin greatestExponent (wOf s n i) ≡ true)
+  unfolding P.breaks
+  low-facts h = let z = nor _ _ h in (not-false _ (z .0), not-false _ (z .1))
+
+  whole-fact : P.breaks R.Midpoint s n k i ≡ false → hasMidpoint (vOf s n i) (wOf s n i) ≡ true
+  unfolding P.breaks
+  whole-fact h = not-false _ h
+
+  unused-facts : P.breaks R.Unused s n k i ≡ false → samePoint (vOf s n i) (wOf s n i) ≡ true
+      → (tripleOf s n k i .q ≡ pos 0) × (tripleOf s n k i .r ≡ pos 0)
+  unfolding P.breaks P.carries
+  unused-facts h e =
+      let z = nor _ _ (nand (samePoint (vOf s n i) (wOf s n i)) _ h e) in
+      (abs-zero _ (eqb-true _ _ (not-false _ (z .0))), abs-zero _ (eqb-true _ _ (not-false _ (z .1))))
+
+  light-fact : P.breaks (R.Weight greatestWeight) s n k i ≡ false → Light greatestWeight (tripleOf s n k i)
+  unfolding P.breaks P.anyBeyond
+  light-fact h =
+      let y = nor _ _ h in
+      let z = nor _ _ (y .0) in
+      record { p-light = within-bound _ _ (z .0); q-light = within-bound _ _ (z .1); r-light = within-bound _ _ (y .1) }
+
+-- a proof of n variables and k rows that passes 8 to 10
+pub record Header (s : List ℕ) (n k : ℕ) : Type 0 where
+  pub long : 8 ≤ length s
+  pub same : variables s ≡ n
+  pub rows : k ≤ greatestRows
+  pub scaled : 1 ≤ scaleOf s
+  pub scale : scaleOf s ≤ greatestScale
+  pub sized : length s ≡ proofLength n k
+
+header : (n : ℕ) (s : List ℕ) → Passes (P.headerAnswer n s) → Header s n (rowCount s)
+unfolding P.headerAnswer P.headerRight
+header n s h =
+    let p₈ = passes-if _ 8 _ h in
+    let p₉ = passes-if _ 9 _ (p₈ .1) in
+    let p₁₀ = passes-if _ 10 _ (p₉ .1) in
+    let d = and-eq-true-iff _ _ .0 (not-false _ (p₉ .0)) in
+    let e = and-eq-true-iff _ _ .0 (d .0) in
+    let f = and-eq-true-iff _ _ .0 (e .0) in
+    let same = eqb-true (variables s) n (and-eq-true-iff _ _ .0 (f .0) .0) in
+    record {
+      long = ltb-false _ _ (p₈ .0);
+      same = same;
+      rows = leb-true _ _ (f .1);
+      scaled = leb-true _ _ (e .1);
+      scale = leb-true _ _ (d .1);
+      sized = rw same at (eqb-true (length s) (proofLength (variables s) (rowCount s)) (not-false _ (p₁₀ .0)));
+    }
+
+pub proof-facts : (n : ℕ) (s : List ℕ) → Passes (P.headerAnswer n s) → Passes (P.rowsAnswer s n (rowCount s))
+    → ProofFacts s n (rowCount s)
+unfolding P.rowsAnswer
+proof-facts n s g h =
+    let p₁₂ = passes-at _ 12 _ h in
+    let p₁₃ = passes-at _ 13 _ (p₁₂ .1) in
+    let p₁₄ = passes-at _ 14 _ (p₁₃ .1) in
+    let p₁₅ = passes-at _ 15 _ (p₁₄ .1) in
+    let a = header n s g in
+    record {
+      same = a .same;
+      rows = a .rows;
+      scaled = a .scaled;
+      scale = a .scale;
+      sized = a .sized;
+      v-low = λ i l. low-facts s n _ i (first-nothing _ _ (p₁₂ .0) i l) .0;
+      w-low = λ i l. low-facts s n _ i (first-nothing _ _ (p₁₂ .0) i l) .1;
+      whole = λ i l. whole-fact s n _ i (first-nothing _ _ (p₁₃ .0) i l);
+      unused = λ i l. unused-facts s n _ i (first-nothing _ _ (p₁₄ .0) i l);
+      light = λ i l. light-fact s n _ i (first-nothing _ _ (p₁₅ .0) i l);
+    }
+
+-- ---- both
+
+module _ (c s : List ℕ) (f : WellFormed c s) where
+  pub claim-formed : ClaimFacts c (variables c) (termCount c)
+  unfolding sheetsAnswer
+  claim-formed = claim-facts c (passes-then _ _ f .0)
+
+  pub proof-formed : ProofFacts s (variables c) (rowCount s)
+  unfolding sheetsAnswer
+  proof-formed = let g = passes-then _ _ (passes-then _ _ f .1) in proof-facts (variables c) s (g .0) (g .1)
+
+-- ---- room to read them, and what they are as formal sums and rows
+
+pub claim-room : (c : List ℕ) (n t : ℕ) → ClaimFacts c n t → ClaimRoom c n t
+claim-room c n t f = record { few = f .few; terms = f .terms; long = omega (arith, f .sized) }
+
+pub proof-room : (s : List ℕ) (n k : ℕ) → n ≤ 8 → ProofFacts s n k → ProofRoom s n k
+proof-room s n k h f = record { few = h; rows = f .rows; long = omega (arith, f .sized) }
+
+-- every term of a claim has as many exponents as the claim has variables
+pub terms-sized : (c : List ℕ) → Sized (variables c) (termsOf c)
+unfolding termsOf termOf termPoint
+terms-sized c = all-table (termOf c (variables c) (termCount c)) _ (termCount c) (λ i l. bytes-length c _ (variables c))
+
+-- and every row has its two points, a pair with a whole midpoint
+pub rows-placed : (s : List ℕ) (n : ℕ) → ProofFacts s n (rowCount s) → All (Placed n) (rowsOf s)
+unfolding rowsOf rowOf vOf wOf weightsOf
+rows-placed s n f =
+    rw (f .same) (all-table (rowOf s n (rowCount s)) (Placed n) (rowCount s) (λ i l. record {
+      v-length = bytes-length s _ n;
+      w-length = bytes-length s _ n;
+      whole = go (samePoint (vOf s n i) (wOf s n i)) i l;
+    }))
+  where
+    go : (lone : Bool) (i : ℕ) → i < rowCount s → Whole (vOf s n i) (wOf s n i) (weightsOf lone (tripleOf s n (rowCount s) i))
+    go true i l = tt
+    go false i l = f .whole i l
+
+-- ---- the ways through check_sheets: v and u are the verdicts on the claim and on the proof's header
+
+module _ (c s : List ℕ) (v : Verdict) (e : says v ≡ C.claimAnswer c) where
+  pub sheets-claim : (x : Sheet) → v ≡ Refused x → says v ≡ sheetsAnswer c s
+  unfolding sheetsAnswer
+  sheets-claim x h = then-refused v _ e x _ h
+
+  module _ (j : ℕ) (h : v ≡ Accepted j) where
+    claim-passed : ClaimFacts c (variables c) (termCount c)
+    claim-passed = claim-facts c (passed v _ e j h)
+
+    pub claim-long : 0 < length c
+    claim-long = omega (arith, claim-passed .sized)
+
+    module _ (n : ℕ) (en : n ≡ variables c) (u : Verdict) (eu : says u ≡ P.headerAnswer n s) where
+      pub sheets-header : (x : Sheet) → u ≡ Refused x → says u ≡ sheetsAnswer c s
+      unfolding sheetsAnswer
+      sheets-header x g = then-passed v _ e j h u _ (then-refused u _ (rw en at eu) x _ g)
+
+      module _ (i : ℕ) (g : u ≡ Accepted i) where
+        header-passed : Header s n (rowCount s)
+        header-passed = header n s (passed u _ eu i g)
+
+        pub proof-long : 8 ≤ length s
+        proof-long = header-passed .long
+
+        module _ (k : ℕ) (ek : k ≡ rowCount s) where
+          pub rows-room : ProofRoom s n k
+          rows-room =
+              let a = header-passed in
+              rw ek (record { few = rw en (claim-passed .few); rows = a .rows; long = omega (arith, a .sized) })
+
+          pub sheets-rows : (r : Verdict) → says r ≡ P.rowsAnswer s n k → says r ≡ sheetsAnswer c s
+          unfolding sheetsAnswer
+          sheets-rows r er = then-passed v _ e j h r _ (then-passed u _ (rw en at eu) i g r _ (rw (en, ek) at er))
