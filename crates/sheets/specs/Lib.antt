@@ -7,3 +7,4 @@ pub mod ClaimChecks
 pub mod ProofSheet
 pub mod ProofChecks
 pub mod WellFormed
+pub mod Cases

@@ -164,8 +164,12 @@ module _ (s : List ℕ) (n k : ℕ) where
     pub row-written : (i : ℕ) → i < k → rowOf written n k i ≡ record { v = vOf s n i; w = wOf s n i; weights = weights i }
     unfolding rowOf
     row-written i l =
-        rw (v-kept i l, w-kept i l, rows-read weights s n k k i l (omega arith) (room .long) narrow,
-        suits-read (samePoint (vOf s n i) (wOf s n i)) (weights i) (suits i l))
+        rw (
+          v-kept i l,
+          w-kept i l,
+          rows-read weights s n k k i l (omega arith) (room .long) narrow,
+          suits-read (samePoint (vOf s n i) (wOf s n i)) (weights i) (suits i l),
+        )
 
     pub sheet-read : n ≡ variables s → k ≡ rowCount s
         → rowsOf written ≡ table (λ i. record { v = vOf s n i; w = wOf s n i; weights = weights i }) k
