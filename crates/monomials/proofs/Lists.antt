@@ -1,5 +1,5 @@
 -- Laws of lists by an index, and of what holds of every element.
-use mathlib.Core.Path.{_≡_, refl, _∙_, ap}
+use mathlib.Core.Path.{_≡_, refl, _∙_}
 use mathlib.Core.List.{List, [], _∷_, _++_}
 use Prim.Native.Nat.{ℕ, zero, suc, _+_, _<_}
 use native.Mathlib.Decide.{decLt}
@@ -41,7 +41,8 @@ module _ {A : Type 0} (f : ℕ → A) where
   pub all-table : (P : A → Type 0) (n : ℕ) → ((i : ℕ) → i < n → P (f i)) → All P (table f n)
   unfolding table
   all-table P zero h = tt
-  all-table P (suc n) h = all-append P (table f n) (f n ∷ []) (all-table P n (λ i l. h i (omega arith))) (h n (omega arith), tt)
+  all-table P (suc n) h =
+      all-append P (table f n) (f n ∷ []) (all-table P n (λ i l. h i (omega arith))) (h n (omega arith), tt)
 
   -- lists with equal entries are equal
   pub table-same : (g : ℕ → A) (n : ℕ) → ((i : ℕ) → i < n → f i ≡ g i) → table f n ≡ table g n

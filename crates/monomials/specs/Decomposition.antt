@@ -1,6 +1,6 @@
 -- Decomposition: rows that hold, and whose weights add up to the target at every point.
 use mathlib.Core.Path.{_≡_}
-use mathlib.Core.List.{List, [], _∷_}
+use mathlib.Core.List.{List}
 use Prim.Native.Nat.{ℕ, _<_}
 use mathlib.Core.Bool.{true}
 use lib.IntN.{ℤ}

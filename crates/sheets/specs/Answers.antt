@@ -32,7 +32,11 @@ says (Refused (Offsets number index)) = record { number = number; blamed = offse
 
 -- "1 to 7 and 21 the claim, 8 to 10 and 12 to 19 the proof, 11 the output, 20 the offsets"
 unfoldable pub blames : ℕ → Blamed
-blames number = cond (leb number 7 || eqb number 21) claim (cond (eqb number 11) output (cond (eqb number 20) offsets proof))
+blames number =
+    cond (leb number 7 || eqb number 21) claim
+    (cond (eqb number 11) output
+    (cond (eqb number 20) offsets
+    proof))
 
 unfoldable pub refused : ℕ → ℕ → Answer
 refused number index = record { number = number; blamed = blames number; value = index }
@@ -48,7 +52,8 @@ refuseAt Nothing number later = later
 
 -- no sheet is at fault
 unfoldable pub blameless : Answer → Bool
-blameless answer = elim (answer .blamed) [ none ↦ true | claim ↦ false | proof ↦ false | output ↦ false | offsets ↦ false ]
+blameless answer =
+    elim (answer .blamed) [ none ↦ true | claim ↦ false | proof ↦ false | output ↦ false | offsets ↦ false ]
 
 -- the checks of one sheet, and those of the next
 unfoldable pub andThen : Answer → Answer → Answer

@@ -1,7 +1,7 @@
--- Cases: the table's examples for 1 to 10 and 12 to 15, sheets that break two rules, and sheets at the limits, with their answers.
+-- Cases: the table's examples for 1 to 10 and 12 to 15, sheets that break two rules, sheets at the limits, and their answers.
 use mathlib.Core.Path.{_≡_}
 use mathlib.Core.List.{List, [], _∷_, _++_, map}
-use Prim.Native.Nat.{ℕ, zero, suc, _+_, _-_, _^_}
+use Prim.Native.Nat.{ℕ, _+_, _-_, _^_}
 use lib.IntN.{ℤ, pos, negsuc}
 use lib.ListN.{length, replicate}
 use mir.Syntax.{w32}
@@ -65,7 +65,9 @@ full z = claimOf 8 z (table (λ i. (57 + i) ∷ replicate 7 120) 64) (replicate 
 
 -- 256 rows in one variable at the greatest scale, of which the last has an exponent over 120
 unfoldable pub manyRows : List ℕ
-manyRows = 1 ∷ 0 ∷ 0 ∷ 1 ∷ word (pos (2 ^ 20)) ++ (joined (replicate 255 (0 ∷ 120 ∷ [])) ++ (0 ∷ 121 ∷ []) ++ replicate 3072 0)
+manyRows =
+    1 ∷ 0 ∷ 0 ∷ 1 ∷ word (pos (2 ^ 20))
+    ++ (joined (replicate 255 (0 ∷ 120 ∷ [])) ++ (0 ∷ 121 ∷ []) ++ replicate 3072 0)
 
 unfoldable pub cases : List Case
 cases =

@@ -16,9 +16,10 @@ use Rattle.sheets.specs.declared.claim_checks.TermRule.the-variants.{Coe
 
 -- "Byte 0: n, variables, 1 to 8. Byte 1: t, terms, 0 to 64. Bytes 2 and 3: zero"
 unfoldable pub headerRight : List ℕ → Bool
-headerRight c = leb 1 (variables c) && leb (variables c) 8 && leb (termCount c) 64 && eqb (getD c 2 0) 0 && eqb (getD c 3 0) 0
+headerRight c =
+    leb 1 (variables c) && leb (variables c) 8 && leb (termCount c) 64 && eqb (getD c 2 0) 0 && eqb (getD c 3 0) 0
 
--- term i breaks a rule: its coefficient is zero or beyond the limit; it has an exponent over the limit; it is "not above the one before"
+-- term i breaks a rule: "coefficient zero or beyond", "exponent over" the limit, "point not above the one before"
 unfoldable pub breaks : TermRule → List ℕ → ℕ → ℕ → ℕ → Bool
 breaks (Coefficient limit) c n t i = eqb (natAbs (coefficientOf c n t i)) 0 || beyond limit (coefficientOf c n t i)
 breaks (Exponent limit) c n t i = not (exponentsWithin limit (termPoint c n i))

@@ -18,7 +18,8 @@ use Rattle.sheets.specs.declared.proof_sheet.Triple.{Triple}
 -- "Byte 0: n, as in the claim. Byte 1: zero. Bytes 2 and 3: k, rows, 0 to 256. Bytes 4 to 7: the scale S, 1 to 2^20"
 unfoldable pub headerRight : ℕ → ℕ → List ℕ → Bool
 headerRight limit n s =
-    eqb (variables s) n && eqb (getD s 1 0) 0 && leb (rowCount s) limit && leb 1 (scaleOf s) && leb (scaleOf s) greatestScale
+    eqb (variables s) n && eqb (getD s 1 0) 0 && leb (rowCount s) limit
+    && leb 1 (scaleOf s) && leb (scaleOf s) greatestScale
 
 -- 8 to 10, where n is the claim's
 unfoldable pub headerAnswer : ℕ → List ℕ → Answer
@@ -36,8 +37,7 @@ carries x = not (eqb (natAbs (x .q)) 0) || not (eqb (natAbs (x .r)) 0)
 unfoldable pub anyBeyond : ℕ → Triple → Bool
 anyBeyond limit x = beyond limit (x .p) || beyond limit (x .q) || beyond limit (x .r)
 
--- row i breaks a rule: it has an exponent over the limit; there is "no whole midpoint"; it is lone, and q or r is not zero; a
--- proposed weight is beyond the limit
+-- row i breaks a rule: "exponent over" the limit, "no whole midpoint", "lone row, q or r not zero", "proposed weight beyond" it
 unfoldable pub breaks : RowRule → List ℕ → ℕ → ℕ → ℕ → Bool
 breaks (Exponent limit) s n k i = not (exponentsWithin limit (vOf s n i)) || not (exponentsWithin limit (wOf s n i))
 breaks Midpoint s n k i = not (hasMidpoint (vOf s n i) (wOf s n i))

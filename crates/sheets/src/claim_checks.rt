@@ -6,9 +6,10 @@ use crate::bounds::GREATEST_WEIGHT;
 use crate::bounds::is_beyond;
 use crate::claim_sheet::coefficient;
 use crate::claim_sheet::floor;
+use crate::claim_sheet::term_count;
 use crate::claim_sheet::term_point;
-use crate::layout::count;
 use crate::layout::place_of;
+use crate::layout::variables;
 use crate::searches::Found;
 use integers::magnitudes::magnitude;
 use monomials::points::exponents_within;
@@ -131,8 +132,8 @@ pub fn check_claim(claim: &[u8]) -> Verdict
     if header_wrong(claim) {
         return Verdict::Refused(Sheet::Claim(2, 0));
     }
-    let n = count(claim[0]);
-    let t = count(claim[1]);
+    let n = variables(claim);
+    let t = term_count(claim);
     if claim.len() != place_of(8, t, n + 4) {
         return Verdict::Refused(Sheet::Claim(3, 0));
     }

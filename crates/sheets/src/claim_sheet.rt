@@ -1,4 +1,5 @@
 // The claim sheet's fields.
+use crate::layout::count;
 use crate::layout::place_of;
 use integers::words::read_i32;
 use monomials::points::Point;
@@ -7,8 +8,16 @@ ghost use mathlib.Core.Path.{_≡_};
 ghost use Prim.Native.Nat.{_<_, _≤_};
 ghost use lib.ListN.{length};
 ghost use Rattle.monomials.specs.Points.{pointOf};
-ghost use Rattle.sheets.specs.Layout.{ClaimRoom};
+ghost use Rattle.sheets.specs.Layout.{termCount, ClaimRoom};
 ghost use Rattle.sheets.specs.ClaimSheet.{floorOf, termPoint, coefficientOf};
+
+// The number of terms t.
+pub fn term_count(claim: &[u8]) -> usize
+    requires { ⌜ 8 ≤ length (now claim) ⌝ }
+    ensures { λ r. ⌜ (r ≡ termCount (now (claim .entry))) × (r ≤ 255) ⌝ }
+{
+    count(claim[1])
+}
 
 // The floor b.
 pub fn floor(claim: &[u8]) -> i64

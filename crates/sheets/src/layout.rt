@@ -1,10 +1,11 @@
-// Places in a sheet: entries of one size stand one after another, and a byte holds a count.
+// Places in a sheet, and what both sheets begin with.
 ghost use mathlib.Core.Path.{_≡_};
 ghost use Prim.Native.Nat.{_≤_};
-ghost use Rattle.sheets.specs.Layout.{place};
+ghost use lib.ListN.{length};
+ghost use Rattle.sheets.specs.Layout.{place, variables};
 
-// Where entry i begins.
-pub fn place_of(from: usize, i: usize, size: usize) -> usize
+// Where entry i begins, of entries of one size that stand one after another.
+pub(crate) fn place_of(from: usize, i: usize, size: usize) -> usize
     requires { ⌜ (from ≤ 16777216) × (i ≤ 65535) × (size ≤ 1023) ⌝ }
     ensures { λ r. ⌜ r ≡ place from i size ⌝ }
 {
@@ -12,8 +13,16 @@ pub fn place_of(from: usize, i: usize, size: usize) -> usize
 }
 
 // A byte as a count.
-pub fn count(b: u8) -> usize
+pub(crate) fn count(b: u8) -> usize
     ensures { λ r. ⌜ (r ≡ b) × (r ≤ 255) ⌝ }
 {
     b as usize
+}
+
+// The number of variables n.
+pub fn variables(sheet: &[u8]) -> usize
+    requires { ⌜ 8 ≤ length (now sheet) ⌝ }
+    ensures { λ r. ⌜ (r ≡ variables (now (sheet .entry))) × (r ≤ 255) ⌝ }
+{
+    count(sheet[0])
 }

@@ -6,8 +6,8 @@ use crate::bounds::GREATEST_ROWS;
 use crate::bounds::GREATEST_SCALE;
 use crate::bounds::GREATEST_WEIGHT;
 use crate::bounds::is_beyond;
-use crate::layout::count;
 use crate::layout::place_of;
+use crate::layout::variables;
 use crate::proof_sheet::Triple;
 use crate::proof_sheet::row_count;
 use crate::proof_sheet::row_triple;
@@ -41,7 +41,7 @@ fn header_wrong(proof: &[u8], n: usize, limit: usize) -> bool
     requires { ⌜ 8 ≤ length (now proof) ⌝ }
     ensures { λ r. ⌜ r ≡ not (headerRight limit n (now (proof .entry))) ⌝ }
 {
-    if count(proof[0]) != n {
+    if variables(proof) != n {
         return true;
     }
     if proof[1] != 0 {
@@ -68,7 +68,7 @@ pub fn check_header(proof: &[u8], n: usize) -> Verdict
         return Verdict::Refused(Sheet::Proof(9, 0));
     }
     let k = row_count(proof);
-    if proof.len() != place_of(8, k, 2 * count(proof[0]) + 12) {
+    if proof.len() != place_of(8, k, 2 * variables(proof) + 12) {
         return Verdict::Refused(Sheet::Proof(10, 0));
     }
     Verdict::Accepted(0)

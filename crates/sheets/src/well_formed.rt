@@ -1,7 +1,7 @@
 // Whether two sheets are well-formed.
 use crate::answers::Verdict;
 use crate::claim_checks::check_claim;
-use crate::layout::count;
+use crate::layout::variables;
 use crate::proof_checks::check_header;
 use crate::proof_checks::check_rows;
 use crate::proof_sheet::row_count;
@@ -17,7 +17,7 @@ pub fn check_sheets(claim: &[u8], proof: &[u8]) -> Verdict
     let Verdict::Accepted(_) = first else {
         return first;
     };
-    let n = count(claim[0]);
+    let n = variables(claim);
     let second = check_header(proof, n);
     let Verdict::Accepted(_) = second else {
         return second;

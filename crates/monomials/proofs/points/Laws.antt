@@ -5,11 +5,10 @@ use mathlib.Core.List.{List, [], _∷_, _++_, append-assoc}
 use Prim.Native.Nat.{ℕ, zero, suc, _+_, _-_, _/_, _<_, _≤_, min}
 use native.Mathlib.Nat.{le-of-lt}
 use native.Mathlib.Numerals.{add-one}
-use native.Mathlib.Decide.{decLt}
 use native.Mathlib.Omega.{arith}
 use lib.Dec.{eqb, ltb}
-use lib.ListN.{length, getD, set, drop, replicate, length-append, length-take, List·getD-append}
-use lib.Seq.{drop-cons, drop-nil, getD-take, set-at, getD-at, take-append-seam, ext-getD}
+use lib.ListN.{length, getD, set, drop, replicate, length-append, length-take}
+use lib.Seq.{drop-cons, drop-nil, getD-take, set-at, take-append-seam, ext-getD}
 use borrow.Author.Tests.{lt-ltb, le-ltb, eq-eqb, eqb-true}
 use borrow.Author.Count.{below-more}
 use Rattle.monomials.specs.Lists.{table}

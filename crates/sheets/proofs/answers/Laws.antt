@@ -3,7 +3,7 @@ use mathlib.Core.Path.{_≡_, refl, sym, _∙_}
 use mathlib.Core.Bool.{Bool, true, false, cond, _||_, false≢true}
 use Prim.Native.Nat.{ℕ}
 use lib.Dec.{eqb, leb}
-use Rattle.sheets.specs.Answers.{Answer, Blamed, none, claim, proof, output, offsets, says, blames, accepted, refused, refuseIf, refuseAt, blameless, andThen, Passes}
+use Rattle.sheets.specs.Answers.{Answer, claim, proof, output, offsets, says, blames, accepted, refused, refuseIf, refuseAt, blameless, andThen, Passes}
 use Rattle.sheets.specs.declared.answers.Sheet.{Sheet}
 use Rattle.sheets.specs.declared.answers.Sheet.the-variants.{Claim, Proof, Output, Offsets}
 use Rattle.sheets.specs.declared.answers.Verdict.{Verdict}
@@ -16,7 +16,9 @@ refused-blames : (number index : ℕ) → blameless (refused number index) ≡ f
 unfolding blameless refused blames
 refused-blames number index = go (leb number 7 || eqb number 21) (eqb number 11) (eqb number 20)
   where
-    go : (a b d : Bool) → blameless (record { number = number; blamed = cond a claim (cond b output (cond d offsets proof)); value = index }) ≡ false
+    go : (a b d : Bool)
+        → blameless (record { number = number; blamed = cond a claim (cond b output (cond d offsets proof)); value = index })
+        ≡ false
     go true b d = refl
     go false true d = refl
     go false false true = refl
@@ -27,7 +29,8 @@ unfolding refuseIf
 passes-if true number later h = absurd (false≢true (sym (refused-blames number 0) ∙ h))
 passes-if false number later h = (refl, h)
 
-pub passes-at : (f : Found) (number : ℕ) (later : Answer) → Passes (refuseAt f number later) → (f ≡ Nothing) × Passes later
+pub passes-at : (f : Found) (number : ℕ) (later : Answer) → Passes (refuseAt f number later)
+    → (f ≡ Nothing) × Passes later
 unfolding refuseAt
 passes-at (At i) number later h = absurd (false≢true (sym (refused-blames number i) ∙ h))
 passes-at Nothing number later h = (refl, h)

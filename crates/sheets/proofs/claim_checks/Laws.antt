@@ -1,21 +1,21 @@
--- The ways through the checks of the claim, and what a claim that passes them is.
-use mathlib.Core.Path.{_≡_, refl, sym, _∙_, ap}
-use mathlib.Core.Bool.{Bool, true, false, not, _&&_, _||_, and-eq-true-iff}
+-- The ways through the checks of the claim, one law for each.
+use mathlib.Core.Path.{_≡_, sym, _∙_, ap}
+use mathlib.Core.Bool.{Bool, true, false, not, and-eq-true-iff, _&&_}
 use mathlib.Core.List.{List}
-use Prim.Native.Nat.{ℕ, _+_, _-_, _*_, _<_, _≤_}
+use Prim.Native.Nat.{ℕ, _+_, _-_, _<_, _≤_}
 use native.Mathlib.Nat.{pos-of-ne-zero}
 use native.Mathlib.Omega.{arith}
-use lib.Dec.{eqb, ltb, leb}
+use lib.Dec.{eqb, leb}
 use lib.IntN.{ℤ, natAbs}
 use lib.ListN.{length, getD}
-use borrow.Author.Tests.{eq-eqb, ne-eqb, lt-ltb, le-ltb, le-leb, lt-leb, leb-true, eqb-true, not-false}
-use Rattle.monomials.specs.Points.{Exponents, exponents, pointOf, risesTo, exponentsWithin}
+use borrow.Author.Tests.{eq-eqb, ne-eqb, lt-ltb, le-ltb, le-leb, lt-leb, leb-true, not-false}
+use Rattle.monomials.specs.Points.{exponents, pointOf, risesTo, exponentsWithin}
 use Rattle.monomials.specs.declared.points.Point.{Point}
 use Rattle.monomials.proofs.points.Laws.{exponents-of}
-use Rattle.sheets.specs.Answers.{Answer, says, blames, accepted, refused, refuseIf, refuseAt}
+use Rattle.sheets.specs.Answers.{says, blames, refused, refuseIf, refuseAt}
 use Rattle.sheets.specs.Searches.{first}
 use Rattle.sheets.specs.Bounds.{greatestExponent, greatestWeight, beyond}
-use Rattle.sheets.specs.Layout.{variables, termCount, place, claimLength, ClaimRoom}
+use Rattle.sheets.specs.Layout.{variables, termCount, place, ClaimRoom}
 use Rattle.sheets.specs.ClaimSheet.{floorOf, termPoint, coefficientOf}
 use Rattle.sheets.specs.ClaimChecks.{headerRight, breaks, termsAnswer, claimAnswer}
 use Rattle.sheets.specs.declared.answers.Sheet.the-variants.{Claim}
@@ -44,17 +44,21 @@ module _ (c : List ℕ) where
       header-terms h = rw (le-leb 1 (variables c) p, le-leb (variables c) 8 q, lt-leb (termCount c) 64 h)
 
       module _ (r : termCount c ≤ 64) where
+        right : leb 1 (variables c) && leb (variables c) 8 && leb (termCount c) 64 ≡ true
+        right = rw (le-leb 1 (variables c) p, le-leb (variables c) 8 q, le-leb (termCount c) 64 r)
+
         pub header-two : (getD c 2 0 ≡ 0 → ⊥) → true ≡ not (headerRight c)
         unfolding headerRight
-        header-two h = rw (le-leb 1 (variables c) p, le-leb (variables c) 8 q, le-leb (termCount c) 64 r, ne-eqb (getD c 2 0) 0 h)
+        header-two h = rw (right, ne-eqb (getD c 2 0) 0 h)
 
         pub header-three : getD c 2 0 ≡ 0 → not (eqb (getD c 3 0) 0) ≡ not (headerRight c)
         unfolding headerRight
-        header-three h = rw (le-leb 1 (variables c) p, le-leb (variables c) 8 q, le-leb (termCount c) 64 r, eq-eqb (getD c 2 0) 0 h)
+        header-three h = rw (right, eq-eqb (getD c 2 0) 0 h)
 
 -- ---- 5: z is the coefficient, z′ what the machine reads back of it
 
-module _ (c : List ℕ) (n t i limit m : ℕ) (z z′ : ℤ) (h : z ≡ coefficientOf c n t i) (e : z′ ≡ z) (f : m ≡ natAbs z′) where
+module _ (c : List ℕ) (n t i limit m : ℕ) (z z′ : ℤ)
+    (h : z ≡ coefficientOf c n t i) (e : z′ ≡ z) (f : m ≡ natAbs z′) where
   size : natAbs (coefficientOf c n t i) ≡ m
   size = sym (f ∙ ap natAbs (e ∙ h))
 

@@ -1,16 +1,16 @@
 -- Laws of the claim sheet: where its fields lie, and its terms by their index.
-use mathlib.Core.Path.{_≡_, refl, sym, _∙_, ap}
+use mathlib.Core.Path.{_≡_, _∙_}
 use mathlib.Core.List.{List}
-use Prim.Native.Nat.{ℕ, _+_, _*_, _<_, _≤_}
+use Prim.Native.Nat.{ℕ, _+_, _<_, _≤_}
 use native.Mathlib.Nat.{mul-le-mul, mul-le-mul-right}
 use native.Mathlib.Omega.{arith}
-use lib.IntN.{ℤ, pos}
+use lib.IntN.{ℤ}
 use lib.ListN.{length, getD}
 use Rattle.integers.specs.Words.{i32At}
 use Rattle.monomials.proofs.Lists.{table-length, table-get}
 use Rattle.monomials.specs.Points.{Exponents, pointOf, bytesAt}
 use Rattle.monomials.specs.declared.points.Point.{Point}
-use Rattle.sheets.specs.Layout.{variables, termCount, place, pointAt, coefficientAt, claimLength, ClaimRoom}
+use Rattle.sheets.specs.Layout.{variables, termCount, place, pointAt, ClaimRoom}
 use Rattle.sheets.specs.ClaimSheet.{floorOf, termPoint, coefficientOf, termOf, termsOf}
 
 -- floor: z is the word read, z′ what the machine reads back of it

@@ -1,24 +1,22 @@
--- The ways through the checks of the proof, and what a proof that passes them is.
-use mathlib.Core.Path.{_≡_, refl, sym, _∙_, ap}
-use mathlib.Core.Bool.{Bool, true, false, not, _&&_, _||_, and-eq-true-iff}
+-- The ways through the checks of the proof, one law for each.
+use mathlib.Core.Path.{_≡_, refl, _∙_, ap}
+use mathlib.Core.Bool.{Bool, true, false, not, _&&_}
 use mathlib.Core.List.{List}
 use Prim.Native.Nat.{ℕ, _+_, _-_, _*_, _<_, _≤_}
-use native.Mathlib.Omega.{arith}
 use lib.Dec.{eqb, ltb, leb}
 use lib.IntN.{ℤ, natAbs}
 use lib.ListN.{length, getD}
-use borrow.Author.Tests.{eq-eqb, ne-eqb, lt-ltb, le-ltb, le-leb, lt-leb, leb-true, leb-false, eqb-true, not-false}
+use borrow.Author.Tests.{eq-eqb, ne-eqb, lt-ltb, le-ltb, le-leb, lt-leb, leb-true, leb-false}
 use Rattle.monomials.specs.Points.{exponents, pointOf, samePoint, hasMidpoint, exponentsWithin}
 use Rattle.monomials.specs.declared.points.Point.{Point}
 use Rattle.monomials.proofs.points.Laws.{exponents-of}
-use Rattle.sheets.specs.Answers.{Answer, says, blames, accepted, refused, refuseIf, refuseAt}
+use Rattle.sheets.specs.Answers.{says, blames, refused, refuseIf, refuseAt}
 use Rattle.sheets.specs.Searches.{first}
 use Rattle.sheets.specs.Bounds.{greatestExponent, greatestWeight, greatestRows, greatestScale, beyond}
-use Rattle.sheets.specs.Layout.{variables, rowCount, place, proofLength, ProofRoom}
+use Rattle.sheets.specs.Layout.{variables, rowCount, place}
 use Rattle.sheets.specs.ProofSheet.{scaleOf, vOf, wOf, tripleOf}
 use Rattle.sheets.specs.ProofChecks.{headerRight, headerAnswer, carries, anyBeyond, breaks, rowsAnswer}
 use Rattle.sheets.specs.declared.answers.Sheet.the-variants.{Proof}
-use Rattle.sheets.specs.declared.answers.Verdict.{Verdict}
 use Rattle.sheets.specs.declared.answers.Verdict.the-variants.{Accepted, Refused}
 use Rattle.sheets.specs.declared.proof_checks.RowRule.{RowRule}
 use Rattle.sheets.specs.declared.proof_checks.RowRule.the-variants.{Exponent, Midpoint, Unused, Weight}
@@ -51,15 +49,16 @@ module _ (s : List ℕ) (limit n m : ℕ) (em : m ≡ variables s) where
       header-rows h = rw (← em, eq-eqb m n p, eq-eqb (getD s 1 0) 0 q, ← ek, lt-leb k limit h)
 
       module _ (r : k ≤ limit) (u : ℕ) (eu : u ≡ scaleOf s) where
+        right : eqb (variables s) n && eqb (getD s 1 0) 0 && leb (rowCount s) limit ≡ true
+        right = rw (← em, eq-eqb m n p, eq-eqb (getD s 1 0) 0 q, ← ek, le-leb k limit r)
+
         pub header-scaleless : u < 1 → true ≡ not (headerRight limit n s)
         unfolding headerRight
-        header-scaleless h =
-            rw (← em, eq-eqb m n p, eq-eqb (getD s 1 0) 0 q, ← ek, le-leb k limit r, ← eu, lt-leb 1 u h)
+        header-scaleless h = rw (right, ← eu, lt-leb 1 u h)
 
         pub header-scale : 1 ≤ u → ltb greatestScale u ≡ not (headerRight limit n s)
         unfolding headerRight
-        header-scale h =
-            rw (← em, eq-eqb m n p, eq-eqb (getD s 1 0) 0 q, ← ek, le-leb k limit r, ← eu, le-leb 1 u h) (over greatestScale u)
+        header-scale h = rw (right, ← eu, le-leb 1 u h) (over greatestScale u)
 
 -- ---- 8 to 10
 
@@ -73,7 +72,8 @@ module _ (s : List ℕ) (n : ℕ) where
     unfolding says headerAnswer refused blames refuseIf
     header-9 h = rw (le-ltb (length s) 8 long, ← e, h)
 
-    module _ (p : r ≡ false) (k m l : ℕ) (ek : k ≡ rowCount s) (em : m ≡ variables s) (el : l ≡ place 8 k (2 * m + 12)) where
+    module _ (p : r ≡ false) (k m l : ℕ)
+        (ek : k ≡ rowCount s) (em : m ≡ variables s) (el : l ≡ place 8 k (2 * m + 12)) where
       pub header-10 : (length s ≡ l → ⊥) → says (Refused (Proof 10 0)) ≡ headerAnswer n s
       unfolding says headerAnswer refused blames refuseIf
       header-10 h = rw (le-ltb (length s) 8 long, ← e, p, ← ek, ← em, ← el, ne-eqb (length s) l h)
@@ -112,7 +112,8 @@ module _ (s : List ℕ) (n k i : ℕ) (v : Point) (ev : v ≡ pointOf (vOf s n i
       unfolding breaks
       unused-pair h = rw (← v-is, ← w-is, ← el, h)
 
-      pub unused-lone : lone ≡ true → (x : Triple) (b : Bool) → x ≡ tripleOf s n k i → b ≡ carries x → b ≡ breaks Unused s n k i
+      pub unused-lone : lone ≡ true → (x : Triple) (b : Bool) → x ≡ tripleOf s n k i → b ≡ carries x
+          → b ≡ breaks Unused s n k i
       unfolding breaks
       unused-lone h x b ex eb = rw (← v-is, ← w-is, ← el, h, ← ex) eb
 

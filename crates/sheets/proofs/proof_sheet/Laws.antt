@@ -1,19 +1,19 @@
 -- Laws of the proof sheet: where its fields lie, its rows by their index, and weights written back.
-use mathlib.Core.Path.{_≡_, refl, sym, _∙_, ap}
+use mathlib.Core.Path.{_≡_, _∙_}
 use mathlib.Core.Bool.{Bool, true, false}
 use mathlib.Core.List.{List}
 use Prim.Native.Nat.{ℕ, _+_, _*_, _<_, _≤_}
 use native.Mathlib.Nat.{mul-le-mul, mul-le-mul-right}
 use native.Mathlib.Omega.{arith}
 use lib.IntN.{ℤ, pos}
-use lib.ListN.{length, getD}
+use lib.ListN.{length}
 use Rattle.integers.specs.Words.{u32At, i32At, withI32}
 use Rattle.monomials.proofs.points.Laws.{exponents-of}
-use Rattle.monomials.specs.Points.{Exponents, exponents, pointOf, bytesAt, samePoint}
+use Rattle.monomials.specs.Points.{exponents, pointOf, bytesAt, samePoint}
 use Rattle.monomials.specs.declared.points.Point.{Point}
 use Rattle.monomials.specs.declared.rows.Weights.{Weights}
 use Rattle.monomials.specs.declared.rows.Weights.the-variants.{Pair, Lone}
-use Rattle.sheets.specs.Layout.{variables, rowCount, place, vAt, wAt, tripleAt, proofLength, ProofRoom}
+use Rattle.sheets.specs.Layout.{place, vAt, tripleAt, ProofRoom}
 use Rattle.sheets.specs.ProofSheet.{scaleOf, vOf, wOf, wordsAt, tripleOf, weightsOf, rowOf, byValue, tripleFor, Narrow, withTriple, withWeights}
 use Rattle.sheets.specs.declared.proof_sheet.Triple.{Triple}
 
@@ -33,7 +33,8 @@ module _ (s : List ℕ) (n k i from : ℕ) (room : ProofRoom s n k) (l : i < k) 
   pub w-inside : from + n + n ≤ length s
   w-inside = omega (arith, mul-le-mul-right (2 * n) l)
 
-pub v-read : (s : List ℕ) (n i from : ℕ) (r : Point) → from ≡ vAt n i → r ≡ pointOf (bytesAt s from n) → r ≡ pointOf (vOf s n i)
+pub v-read : (s : List ℕ) (n i from : ℕ) (r : Point) → from ≡ vAt n i → r ≡ pointOf (bytesAt s from n)
+    → r ≡ pointOf (vOf s n i)
 unfolding vOf
 v-read s n i from r e h = h ∙ rw e
 
@@ -56,7 +57,8 @@ pub triple-inside : (s : List ℕ) (n k i at : ℕ) → ProofRoom s n k → i < 
 triple-inside s n k i at room l e = omega (arith, mul-le-mul-right 12 l)
 
 -- a prime marks a number as the machine reads it back
-pub triple-read : (s : List ℕ) (n k i at : ℕ) (p p′ q q′ r r′ : ℤ) → at ≡ tripleAt n k i → p ≡ i32At s at → q ≡ i32At s (at + 4)
+pub triple-read : (s : List ℕ) (n k i at : ℕ) (p p′ q q′ r r′ : ℤ) → at ≡ tripleAt n k i → p ≡ i32At s at
+    → q ≡ i32At s (at + 4)
     → r ≡ i32At s (at + 8) → p′ ≡ p → q′ ≡ q → r′ ≡ r → record { p = p′; q = q′; r = r′ } ≡ tripleOf s n k i
 unfolding tripleOf wordsAt
 triple-read s n k i at p p′ q q′ r r′ e ep eq er bp bq br = rw (bp, bq, br, ep, eq, er, e)
@@ -71,7 +73,8 @@ unfolding weightsOf
 weights-pair lone x p q r h ep eq er = rw (h, ep, eq, er)
 
 pub row-read : (s : List ℕ) (n k i : ℕ) (v w : Point) (lone : Bool) (x : Triple) (a : Weights) → v ≡ pointOf (vOf s n i)
-    → w ≡ pointOf (wOf s n i) → lone ≡ samePoint (exponents v) (exponents w) → x ≡ tripleOf s n k i → a ≡ weightsOf lone x
+    → w ≡ pointOf (wOf s n i) → lone ≡ samePoint (exponents v) (exponents w) → x ≡ tripleOf s n k i
+    → a ≡ weightsOf lone x
     → record { v = v; w = w; weights = a } ≡ byValue (rowOf s n k i)
 unfolding byValue rowOf
 row-read s n k i v w lone x a ev ew el ex ea =
@@ -88,7 +91,8 @@ pub for-lone : (a : Weights) (p p′ : ℤ) → a ≡ Lone p → p′ ≡ p → 
 unfolding tripleFor
 for-lone a p p′ e ep = rw (e, ep)
 
-pub triple-written : (out o₁ o₂ o₃ : List ℕ) (at : ℕ) (x : Triple) (p q r : ℤ) → o₁ ≡ withI32 out at p → o₂ ≡ withI32 o₁ (at + 4) q
+pub triple-written : (out o₁ o₂ o₃ : List ℕ) (at : ℕ) (x : Triple) (p q r : ℤ) → o₁ ≡ withI32 out at p
+    → o₂ ≡ withI32 o₁ (at + 4) q
     → o₃ ≡ withI32 o₂ (at + 8) r → p ≡ x .p → q ≡ x .q → r ≡ x .r → o₃ ≡ withTriple out at x
 unfolding withTriple
 triple-written out o₁ o₂ o₃ at x p q r e₁ e₂ e₃ ep eq er = e₃ ∙ rw (e₂, e₁, ep, eq, er)

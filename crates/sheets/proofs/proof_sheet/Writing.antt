@@ -1,6 +1,6 @@
--- Laws of weights written back: no other byte changes, what is written reads back, and what was read and is written again gives
--- the same sheet.
-use mathlib.Core.Path.{_≡_, refl, sym, _∙_, ap, ap₂}
+-- Laws of weights written back: no other byte changes, what is written reads back, and a sheet written back as it was is the
+-- same.
+use mathlib.Core.Path.{_≡_, refl, sym, _∙_, ap₂}
 use mathlib.Core.Bool.{Bool, true, false}
 use mathlib.Core.List.{List}
 use Prim.Native.Nat.{ℕ, zero, suc, _+_, _*_, _<_, _≤_}
@@ -10,10 +10,10 @@ use native.Mathlib.Omega.{arith}
 use lib.IntN.{ℤ, pos}
 use lib.ListN.{length, getD}
 use Rattle.integers.specs.Words.{i32At, withI32}
-use Rattle.integers.proofs.words.Laws.{Bytes, written-length, written-before, written-after, read-before, read-after, read-written, written-read}
-use Rattle.monomials.specs.Points.{samePoint}
+use Rattle.integers.proofs.words.Laws.{Bytes, written-length, written-before, written-after, read-before, read-written, written-read}
+use Rattle.monomials.specs.Points.{bytesAt, samePoint}
 use Rattle.monomials.specs.Lists.{table}
-use Rattle.monomials.specs.Rows as Formal
+use Rattle.monomials.specs.Rows.{Row}
 use Rattle.monomials.proofs.Lists.{table-same}
 use Rattle.monomials.proofs.points.Laws.{bytes-same}
 use Rattle.monomials.specs.declared.rows.Weights.{Weights}
@@ -78,44 +78,49 @@ triple-again s at b = rw (written-read s at b, written-read s (at + 4) b, writte
 -- ---- the weights of the first rows
 
 module _ (weights : ℕ → Weights) (s : List ℕ) (n k : ℕ) where
-  pub rows-length : (i : ℕ) → length (withRows weights s n k i) ≡ length s
+  -- the bytes with i rows written, and the triple that is written next
+  abbrev so : ℕ → List ℕ
+  so i = withRows weights s n k i
+
+  abbrev next : ℕ → Triple
+  next i = tripleFor (weights i)
+
+  pub rows-length : (i : ℕ) → length (so i) ≡ length s
   unfolding withRows withWeights
   rows-length zero = refl
-  rows-length (suc i) = triple-length (withRows weights s n k i) (tripleAt n k i) (tripleFor (weights i)) ∙ rows-length i
+  rows-length (suc i) = triple-length (so i) (tripleAt n k i) (next i) ∙ rows-length i
 
   -- header and points stay
-  pub rows-before : (i j : ℕ) → j < place 8 k (2 * n) → getD (withRows weights s n k i) j 0 ≡ getD s j 0
+  pub rows-before : (i j : ℕ) → j < place 8 k (2 * n) → getD (so i) j 0 ≡ getD s j 0
   unfolding withRows withWeights
   rows-before zero j h = refl
-  rows-before (suc i) j h =
-      triple-before (withRows weights s n k i) (tripleAt n k i) (tripleFor (weights i)) j (omega arith) ∙ rows-before i j h
+  rows-before (suc i) j h = triple-before (so i) (tripleAt n k i) (next i) j (omega arith) ∙ rows-before i j h
 
   -- and so does what comes after the proof
-  pub rows-after : (i j : ℕ) → i ≤ k → proofLength n k ≤ j → getD (withRows weights s n k i) j 0 ≡ getD s j 0
+  pub rows-after : (i j : ℕ) → i ≤ k → proofLength n k ≤ j → getD (so i) j 0 ≡ getD s j 0
   unfolding withRows withWeights
   rows-after zero j l h = refl
   rows-after (suc i) j l h =
-      triple-after (withRows weights s n k i) (tripleAt n k i) (tripleFor (weights i)) j (omega (arith, mul-le-mul-right 12 l))
-      ∙ rows-after i j (omega arith) h
+      triple-after (so i) (tripleAt n k i) (next i) j (omega (arith, mul-le-mul-right 12 l)) ∙ rows-after i j (omega arith) h
 
   -- each triple reads back
-  pub rows-read : (i j : ℕ) → j < i → i ≤ k → proofLength n k ≤ length s → ((j : ℕ) → j < k → Narrow (tripleFor (weights j)))
-      → tripleOf (withRows weights s n k i) n k j ≡ tripleFor (weights j)
+  pub rows-read : (i j : ℕ) → j < i → i ≤ k → proofLength n k ≤ length s → ((j : ℕ) → j < k → Narrow (next j))
+      → tripleOf (so i) n k j ≡ next j
   unfolding withRows withWeights tripleOf
   rows-read zero j h l r f = absurd (omega arith)
   rows-read (suc i) j h l r f = go (decLt j i) (λ g. rows-read i j g (omega arith) r f)
     where
-      go : Dec (j < i) → (j < i → wordsAt (withRows weights s n k i) (tripleAt n k j) ≡ tripleFor (weights j))
-          → wordsAt (withTriple (withRows weights s n k i) (tripleAt n k i) (tripleFor (weights i))) (tripleAt n k j) ≡ tripleFor (weights j)
+      go : Dec (j < i) → (j < i → wordsAt (so i) (tripleAt n k j) ≡ next j)
+          → wordsAt (withTriple (so i) (tripleAt n k i) (next i)) (tripleAt n k j) ≡ next j
       go (yes g) below =
-          triple-earlier (withRows weights s n k i) (tripleAt n k i) (tripleFor (weights i)) (tripleAt n k j) (omega (arith, mul-le-mul-right 12 g))
-          ∙ below g
+          triple-earlier (so i) (tripleAt n k i) (next i) (tripleAt n k j) (omega (arith, mul-le-mul-right 12 g)) ∙ below g
       go (no g) below =
           let q : j ≡ i = omega arith in
-          rw q (triple-reads (withRows weights s n k i) (tripleAt n k i) (tripleFor (weights i)) (rw rows-length (omega (arith, mul-le-mul-right 12 l))) (f i l))
+          let room : tripleAt n k i + 12 ≤ length (so i) = rw rows-length (omega (arith, mul-le-mul-right 12 l)) in
+          rw q (triple-reads (so i) (tripleAt n k i) (next i) room (f i l))
 
   -- weights written as they were give the same sheet, byte by byte
-  pub rows-again : (i : ℕ) → Bytes s → ((j : ℕ) → j < i → tripleFor (weights j) ≡ tripleOf s n k j) → withRows weights s n k i ≡ s
+  pub rows-again : (i : ℕ) → Bytes s → ((j : ℕ) → j < i → next j ≡ tripleOf s n k j) → so i ≡ s
   unfolding withRows withWeights tripleOf
   rows-again zero b h = refl
   rows-again (suc i) b h =
@@ -132,49 +137,51 @@ suits-read true (Pair p q r) h = absurd h
 suits-read false (Lone p) h = absurd h
 
 -- and a lone row's triple is written as it was, where q and r are zero
-lone-again : (lone : Bool) (x : Triple) → (lone ≡ true → (x .q ≡ pos 0) × (x .r ≡ pos 0)) → tripleFor (weightsOf lone x) ≡ x
+lone-again : (lone : Bool) (x : Triple) → (lone ≡ true → (x .q ≡ pos 0) × (x .r ≡ pos 0))
+    → tripleFor (weightsOf lone x) ≡ x
 unfolding weightsOf tripleFor
 lone-again true x h = let z = h refl in sym (ap₂ (λ (q r : ℤ). record { p = x .p; q = q; r = r }) (z .0) (z .1))
 lone-again false x h = refl
 
 module _ (s : List ℕ) (n k : ℕ) where
+  abbrev lone : ℕ → Bool
+  lone i = samePoint (vOf s n i) (wOf s n i)
+
   -- a sheet whose weights are all written back as they were is the same sheet
   pub sheet-again : Bytes s
-      → ((i : ℕ) → i < k → samePoint (vOf s n i) (wOf s n i) ≡ true → (tripleOf s n k i .q ≡ pos 0) × (tripleOf s n k i .r ≡ pos 0))
+      → ((i : ℕ) → i < k → lone i ≡ true → (tripleOf s n k i .q ≡ pos 0) × (tripleOf s n k i .r ≡ pos 0))
       → withRows (λ i. rowOf s n k i .weights) s n k k ≡ s
   unfolding rowOf
   sheet-again b h =
-      rows-again (λ i. rowOf s n k i .weights) s n k k b
-      (λ i l. lone-again (samePoint (vOf s n i) (wOf s n i)) (tripleOf s n k i) (h i l))
+      rows-again (λ i. rowOf s n k i .weights) s n k k b (λ i l. lone-again (lone i) (tripleOf s n k i) (h i l))
 
   -- what is written reads back as the same rows with those weights
   module _ (weights : ℕ → Weights) (room : ProofRoom s n k) (narrow : (i : ℕ) → i < k → Narrow (tripleFor (weights i)))
-      (suits : (i : ℕ) → i < k → Suits (samePoint (vOf s n i) (wOf s n i)) (weights i)) where
+      (suits : (i : ℕ) → i < k → Suits (lone i) (weights i)) where
     abbrev written : List ℕ
     written = withRows weights s n k k
 
-    v-kept : (i : ℕ) → i < k → vOf written n i ≡ vOf s n i
-    unfolding vOf
-    v-kept i l = bytes-same written s (vAt n i) n (λ j h. rows-before weights s n k k (vAt n i + j) (omega (arith, mul-le-mul-right (2 * n) l)))
+    abbrev row : ℕ → Row
+    row i = record { v = vOf s n i; w = wOf s n i; weights = weights i }
 
-    w-kept : (i : ℕ) → i < k → wOf written n i ≡ wOf s n i
-    unfolding wOf
-    w-kept i l = bytes-same written s (wAt n i) n (λ j h. rows-before weights s n k k (wAt n i + j) (omega (arith, mul-le-mul-right (2 * n) l)))
+    points-kept : (i at : ℕ) → i < k → at + n ≤ vAt n i + 2 * n → bytesAt written at n ≡ bytesAt s at n
+    points-kept i at l h =
+        bytes-same written s at n (λ j m. rows-before weights s n k k (at + j) (omega (arith, mul-le-mul-right (2 * n) l)))
 
-    pub row-written : (i : ℕ) → i < k → rowOf written n k i ≡ record { v = vOf s n i; w = wOf s n i; weights = weights i }
-    unfolding rowOf
+    pub row-written : (i : ℕ) → i < k → rowOf written n k i ≡ row i
+    unfolding rowOf vOf wOf
     row-written i l =
         rw (
-          v-kept i l,
-          w-kept i l,
+          points-kept i (vAt n i) l (omega arith),
+          points-kept i (wAt n i) l (omega arith),
           rows-read weights s n k k i l (omega arith) (room .long) narrow,
-          suits-read (samePoint (vOf s n i) (wOf s n i)) (weights i) (suits i l),
+          suits-read (lone i) (weights i) (suits i l),
         )
 
-    pub sheet-read : n ≡ variables s → k ≡ rowCount s
-        → rowsOf written ≡ table (λ i. record { v = vOf s n i; w = wOf s n i; weights = weights i }) k
+    pub sheet-read : n ≡ variables s → k ≡ rowCount s → rowsOf written ≡ table row k
     unfolding rowsOf
     sheet-read en ek =
-        let e0 : variables written ≡ n = rows-before weights s n k k 0 (omega arith) ∙ sym en in
-        let ek′ : rowCount written ≡ k = rw (rows-before weights s n k k 2 (omega arith), rows-before weights s n k k 3 (omega arith)) (sym ek) in
-        rw (e0, ek′) (table-same (rowOf written n k) (λ i. record { v = vOf s n i; w = wOf s n i; weights = weights i }) k row-written)
+        let kept = rows-before weights s n k k in
+        let wn : variables written ≡ n = kept 0 (omega arith) ∙ sym en in
+        let wk : rowCount written ≡ k = rw (kept 2 (omega arith), kept 3 (omega arith)) (sym ek) in
+        rw (wn, wk) (table-same (rowOf written n k) row k row-written)

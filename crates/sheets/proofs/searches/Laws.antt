@@ -1,4 +1,4 @@
--- Laws of searches: the ways through a loop that looks for the first index at which something is wrong, and what it found.
+-- Laws of searches: the ways through a loop that looks for the first index at which something is wrong.
 use mathlib.Core.Path.{_≡_, refl, sym, _∙_}
 use mathlib.Core.Bool.{Bool, true, false}
 use mathlib.Core.Logic.{⊎-elim}

@@ -1,12 +1,12 @@
 -- Well-formed sheets: what it says of their numbers and points that every check is passed.
-use mathlib.Core.Path.{_≡_, refl, sym, _∙_}
-use mathlib.Core.Bool.{Bool, true, false, not, _&&_, _||_, and-eq-true-iff, true≢false}
+use mathlib.Core.Path.{_≡_, refl, sym}
+use mathlib.Core.Bool.{Bool, true, false, _&&_, _||_, and-eq-true-iff, true≢false}
 use mathlib.Core.List.{List}
-use Prim.Native.Nat.{ℕ, zero, suc, _+_, _-_, _*_, _<_, _≤_}
+use Prim.Native.Nat.{ℕ, suc, _-_, _<_, _≤_}
 use native.Mathlib.Omega.{arith}
-use lib.Dec.{eqb, ltb, leb}
-use lib.IntN.{ℤ, pos, natAbs}
-use lib.ListN.{length, getD}
+use lib.Dec.{eqb, ltb}
+use lib.IntN.{pos, natAbs}
+use lib.ListN.{length}
 use borrow.Author.Tests.{ltb-false, leb-true, eqb-true, eqb-false, not-false, lt-ltb}
 use Rattle.integers.proofs.Integers.{abs-zero}
 use Rattle.monomials.specs.Lists.{All}
@@ -15,8 +15,8 @@ use Rattle.monomials.specs.Decomposition.{Sized, Placed, Whole}
 use Rattle.monomials.proofs.Lists.{all-table}
 use Rattle.monomials.proofs.points.Laws.{bytes-length}
 use Rattle.sheets.specs.Answers.{says, Passes}
-use Rattle.sheets.specs.Bounds.{greatestExponent, greatestWeight, greatestRows, greatestScale, beyond}
-use Rattle.sheets.specs.Layout.{variables, termCount, rowCount, claimLength, proofLength, ClaimRoom, ProofRoom}
+use Rattle.sheets.specs.Bounds.{greatestExponent, greatestWeight, greatestRows, greatestScale}
+use Rattle.sheets.specs.Layout.{variables, termCount, rowCount, proofLength, ClaimRoom, ProofRoom}
 use Rattle.sheets.specs.ClaimSheet.{floorOf, termPoint, coefficientOf, termOf, termsOf}
 use Rattle.sheets.specs.ClaimChecks as C
 use Rattle.sheets.specs.ProofSheet.{scaleOf, vOf, wOf, tripleOf, weightsOf, rowOf, rowsOf}
@@ -27,11 +27,10 @@ use Rattle.sheets.specs.declared.answers.Verdict.{Verdict}
 use Rattle.sheets.specs.declared.answers.Verdict.the-variants.{Accepted, Refused}
 use Rattle.sheets.specs.declared.claim_checks.TermRule.the-variants as T
 use Rattle.sheets.specs.declared.proof_checks.RowRule.the-variants as R
-use Rattle.sheets.specs.declared.proof_sheet.Triple.{Triple}
 use Rattle.sheets.proofs.answers.Laws.{passes-if, passes-at, passes-then, passed, then-passed, then-refused}
 use Rattle.sheets.proofs.bounds.Laws.{within-bound}
 use Rattle.sheets.proofs.searches.Laws.{first-nothing}
-use Rattle.sheets.proofs.claim_checks.Laws.{Counts, header-counts}
+use Rattle.sheets.proofs.claim_checks.Laws.{header-counts}
 
 -- ---- tests that fail
 
@@ -53,9 +52,11 @@ module _ (c : List ℕ) (n t i : ℕ) where
       → (1 ≤ natAbs (coefficientOf c n t i)) × (natAbs (coefficientOf c n t i) ≤ greatestWeight)
   unfolding C.breaks
   coefficient-facts h =
-      let z = nor (eqb (natAbs (coefficientOf c n t i)) 0) _ h in (positive _ (z .0), within-bound greatestWeight _ (z .1))
+      let z = nor (eqb (natAbs (coefficientOf c n t i)) 0) _ h in
+      (positive _ (z .0), within-bound greatestWeight _ (z .1))
 
-  low-fact : C.breaks (T.Exponent greatestExponent) c n t i ≡ false → exponentsWithin greatestExponent (termPoint c n i) ≡ true
+  low-fact : C.breaks (T.Exponent greatestExponent) c n t i ≡ false
+      → exponentsWithin greatestExponent (termPoint c n i) ≡ true
   unfolding C.breaks
   low-fact h = not-false _ h
 
@@ -63,7 +64,8 @@ module _ (c : List ℕ) (n t i : ℕ) where
   unfolding C.breaks
   rising-fact h =
       let e : suc i - 1 ≡ i = omega arith in
-      rw e at (not-false (risesTo (termPoint c n (suc i - 1)) (termPoint c n (suc i))) (nand (ltb 0 (suc i)) _ h (lt-ltb 0 (suc i) (omega arith))))
+      let z = nand (ltb 0 (suc i)) _ h (lt-ltb 0 (suc i) (omega arith)) in
+      rw e at (not-false (risesTo (termPoint c n (suc i - 1)) (termPoint c n (suc i))) z)
 
 pub claim-facts : (c : List ℕ) → Passes (C.claimAnswer c) → ClaimFacts c (variables c) (termCount c)
 unfolding C.claimAnswer C.termsAnswer
@@ -198,7 +200,8 @@ rows-placed s n f =
       whole = go (samePoint (vOf s n i) (wOf s n i)) i l;
     }))
   where
-    go : (lone : Bool) (i : ℕ) → i < rowCount s → Whole (vOf s n i) (wOf s n i) (weightsOf lone (tripleOf s n (rowCount s) i))
+    go : (lone : Bool) (i : ℕ) → i < rowCount s
+        → Whole (vOf s n i) (wOf s n i) (weightsOf lone (tripleOf s n (rowCount s) i))
     go true i l = tt
     go false i l = f .whole i l
 
@@ -213,7 +216,7 @@ module _ (c s : List ℕ) (v : Verdict) (e : says v ≡ C.claimAnswer c) where
     claim-passed : ClaimFacts c (variables c) (termCount c)
     claim-passed = claim-facts c (passed v _ e j h)
 
-    pub claim-long : 0 < length c
+    pub claim-long : 8 ≤ length c
     claim-long = omega (arith, claim-passed .sized)
 
     module _ (n : ℕ) (en : n ≡ variables c) (u : Verdict) (eu : says u ≡ P.headerAnswer n s) where

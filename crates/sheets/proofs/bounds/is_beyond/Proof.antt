@@ -3,9 +3,6 @@ use Rattle.sheets.proofs.bounds.Laws.{beyond-is}
 use borrow.Author.Needs.{needs}
 use Rattle.sheets.proofs.bounds.is_beyond.Statement.{statement}
 use Rattle.sheets.proofs.bounds.is_beyond.Tie as tie
-use Rattle.sheets.proofs.bounds.is_beyond.Reads as reads
-use Rattle.sheets.proofs.bounds.is_beyond.Lts as lts
-use Rattle.integers.proofs.magnitudes.magnitude.Reads as magnitude-reads
 
 magnitude-requires : tie.Need-magnitude-requires
 magnitude-requires c κs = search needs

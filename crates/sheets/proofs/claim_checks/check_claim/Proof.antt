@@ -3,14 +3,6 @@ use Rattle.sheets.proofs.claim_checks.Laws.{claim-1, claim-2, claim-3, 
 use borrow.Author.Needs.{needs}
 use Rattle.sheets.proofs.claim_checks.check_claim.Statement.{statement}
 use Rattle.sheets.proofs.claim_checks.check_claim.Tie as tie
-use Rattle.sheets.proofs.claim_checks.check_claim.Reads as reads
-use Rattle.sheets.proofs.claim_checks.check_claim.Lts as lts
-use Rattle.sheets.proofs.bounds.is_beyond.Reads as is-beyond-reads
-use Rattle.sheets.proofs.claim_checks.check_terms.Reads as check-terms-reads
-use Rattle.sheets.proofs.claim_checks.header_wrong.Reads as header-wrong-reads
-use Rattle.sheets.proofs.claim_sheet.floor.Reads as floor-reads
-use Rattle.sheets.proofs.layout.count.Reads as count-reads
-use Rattle.sheets.proofs.layout.place_of.Reads as place-of-reads
 
 returns : tie.Need-returns
 returns c = search claim-1
@@ -21,17 +13,11 @@ header-wrong-requires c κs = search needs
 returns-2 : tie.Need-returns-2
 returns-2 c = search claim-2
 
-shared-slice-read-count : tie.Need-shared-slice-read-count
-shared-slice-read-count c = search needs
+variables-requires : tie.Need-variables-requires
+variables-requires c κs = search needs
 
-count-requires : tie.Need-count-requires
-count-requires c κs = search needs
-
-shared-slice-read-count-2 : tie.Need-shared-slice-read-count-2
-shared-slice-read-count-2 c = search needs
-
-count-requires-2 : tie.Need-count-requires-2
-count-requires-2 c κs = search needs
+term-count-requires : tie.Need-term-count-requires
+term-count-requires c κs = search needs
 
 add-place-of : tie.Need-add-place-of
 add-place-of c = search needs
@@ -64,10 +50,8 @@ check-claim-spec =
     returns
     header-wrong-requires
     returns-2
-    shared-slice-read-count
-    count-requires
-    shared-slice-read-count-2
-    count-requires-2
+    variables-requires
+    term-count-requires
     add-place-of
     place-of-requires
     returns-3

@@ -2,9 +2,6 @@ use Rattle.sheets.proofs.claim_checks.Laws.{terms-5, terms-6, terms-7, 
 use borrow.Author.Needs.{needs}
 use Rattle.sheets.proofs.claim_checks.check_terms.Statement.{statement}
 use Rattle.sheets.proofs.claim_checks.check_terms.Tie as tie
-use Rattle.sheets.proofs.claim_checks.check_terms.Reads as reads
-use Rattle.sheets.proofs.claim_checks.check_terms.Lts as lts
-use Rattle.sheets.proofs.claim_checks.first_term.Reads as first-term-reads
 
 first-term-requires : tie.Need-first-term-requires
 first-term-requires c κs = search needs

@@ -3,11 +3,6 @@ use Rattle.sheets.proofs.claim_checks.Laws.{coefficient-zero, coefficie
 use borrow.Author.Needs.{needs}
 use Rattle.sheets.proofs.claim_checks.coefficient_wrong.Statement.{statement}
 use Rattle.sheets.proofs.claim_checks.coefficient_wrong.Tie as tie
-use Rattle.sheets.proofs.claim_checks.coefficient_wrong.Reads as reads
-use Rattle.sheets.proofs.claim_checks.coefficient_wrong.Lts as lts
-use Rattle.integers.proofs.magnitudes.magnitude.Reads as magnitude-reads
-use Rattle.sheets.proofs.bounds.is_beyond.Reads as is-beyond-reads
-use Rattle.sheets.proofs.claim_sheet.coefficient.Reads as coefficient-reads
 
 coefficient-requires : tie.Need-coefficient-requires
 coefficient-requires c κs = search needs

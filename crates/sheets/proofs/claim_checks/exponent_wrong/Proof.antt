@@ -2,10 +2,6 @@ use Rattle.sheets.proofs.claim_checks.Laws.{exponent-judged}
 use borrow.Author.Needs.{needs}
 use Rattle.sheets.proofs.claim_checks.exponent_wrong.Statement.{statement}
 use Rattle.sheets.proofs.claim_checks.exponent_wrong.Tie as tie
-use Rattle.sheets.proofs.claim_checks.exponent_wrong.Reads as reads
-use Rattle.sheets.proofs.claim_checks.exponent_wrong.Lts as lts
-use Rattle.monomials.proofs.points.exponents_within.Reads as exponents-within-reads
-use Rattle.sheets.proofs.claim_sheet.term_point.Reads as term-point-reads
 
 term-point-requires : tie.Need-term-point-requires
 term-point-requires c κs = search needs

@@ -7,9 +7,6 @@ use Rattle.sheets.specs.ClaimChecks.{breaks}
 use Rattle.sheets.proofs.searches.Laws.{first-none, first-at, first-on, first-end}
 use Rattle.sheets.proofs.claim_checks.first_term.Statement.{statement}
 use Rattle.sheets.proofs.claim_checks.first_term.Tie as tie
-use Rattle.sheets.proofs.claim_checks.first_term.Reads as reads
-use Rattle.sheets.proofs.claim_checks.first_term.Lts as lts
-use Rattle.sheets.proofs.claim_checks.term_wrong.Reads as term-wrong-reads
 
 abbrev Inv-loop : tie.InvT-loop
 Inv-loop rule claim n t i₀ i = (i ≤ t) × (first (breaks rule claim n t) i ≡ Nothing)

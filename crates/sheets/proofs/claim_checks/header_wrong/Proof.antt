@@ -2,8 +2,6 @@ use Rattle.sheets.proofs.claim_checks.Laws.{header-none, header-many, h
 use borrow.Author.Needs.{needs}
 use Rattle.sheets.proofs.claim_checks.header_wrong.Statement.{statement}
 use Rattle.sheets.proofs.claim_checks.header_wrong.Tie as tie
-use Rattle.sheets.proofs.claim_checks.header_wrong.Reads as reads
-use Rattle.sheets.proofs.claim_checks.header_wrong.Lts as lts
 
 shared-slice-read-if1 : tie.Need-shared-slice-read-if1
 shared-slice-read-if1 c = search needs

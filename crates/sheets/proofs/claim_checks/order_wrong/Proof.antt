@@ -2,10 +2,6 @@ use Rattle.sheets.proofs.claim_checks.Laws.{order-first, order-later}
 use borrow.Author.Needs.{needs}
 use Rattle.sheets.proofs.claim_checks.order_wrong.Statement.{statement}
 use Rattle.sheets.proofs.claim_checks.order_wrong.Tie as tie
-use Rattle.sheets.proofs.claim_checks.order_wrong.Reads as reads
-use Rattle.sheets.proofs.claim_checks.order_wrong.Lts as lts
-use Rattle.monomials.proofs.points.rises.Reads as rises-reads
-use Rattle.sheets.proofs.claim_sheet.term_point.Reads as term-point-reads
 
 returns : tie.Need-returns
 returns c = search order-first

@@ -2,11 +2,6 @@ use Rattle.sheets.proofs.claim_checks.Laws.{rule-is}
 use borrow.Author.Needs.{needs}
 use Rattle.sheets.proofs.claim_checks.term_wrong.Statement.{statement}
 use Rattle.sheets.proofs.claim_checks.term_wrong.Tie as tie
-use Rattle.sheets.proofs.claim_checks.term_wrong.Reads as reads
-use Rattle.sheets.proofs.claim_checks.term_wrong.Lts as lts
-use Rattle.sheets.proofs.claim_checks.coefficient_wrong.Reads as coefficient-wrong-reads
-use Rattle.sheets.proofs.claim_checks.exponent_wrong.Reads as exponent-wrong-reads
-use Rattle.sheets.proofs.claim_checks.order_wrong.Reads as order-wrong-reads
 
 enum-known-rule : tie.Need-enum-known-rule
 enum-known-rule c = search needs

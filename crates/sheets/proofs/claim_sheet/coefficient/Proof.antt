@@ -3,10 +3,6 @@ use Rattle.sheets.proofs.claim_sheet.Laws.{points-low, coefficient-insi
 use borrow.Author.Needs.{needs}
 use Rattle.sheets.proofs.claim_sheet.coefficient.Statement.{statement}
 use Rattle.sheets.proofs.claim_sheet.coefficient.Tie as tie
-use Rattle.sheets.proofs.claim_sheet.coefficient.Reads as reads
-use Rattle.sheets.proofs.claim_sheet.coefficient.Lts as lts
-use Rattle.integers.proofs.words.read_i32.Reads as read-i32-reads
-use Rattle.sheets.proofs.layout.place_of.Reads as place-of-reads
 
 place-of-requires : tie.Need-place-of-requires
 place-of-requires c κs = search needs

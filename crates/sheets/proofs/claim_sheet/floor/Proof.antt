@@ -3,9 +3,6 @@ use Rattle.sheets.proofs.claim_sheet.Laws.{floor-read}
 use borrow.Author.Needs.{needs}
 use Rattle.sheets.proofs.claim_sheet.floor.Statement.{statement}
 use Rattle.sheets.proofs.claim_sheet.floor.Tie as tie
-use Rattle.sheets.proofs.claim_sheet.floor.Reads as reads
-use Rattle.sheets.proofs.claim_sheet.floor.Lts as lts
-use Rattle.integers.proofs.words.read_i32.Reads as read-i32-reads
 
 read-i32-requires : tie.Need-read-i32-requires
 read-i32-requires c κs = search needs

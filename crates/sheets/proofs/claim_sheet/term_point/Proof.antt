@@ -2,10 +2,6 @@ use Rattle.sheets.proofs.claim_sheet.Laws.{point-inside, point-read}
 use borrow.Author.Needs.{needs}
 use Rattle.sheets.proofs.claim_sheet.term_point.Statement.{statement}
 use Rattle.sheets.proofs.claim_sheet.term_point.Tie as tie
-use Rattle.sheets.proofs.claim_sheet.term_point.Reads as reads
-use Rattle.sheets.proofs.claim_sheet.term_point.Lts as lts
-use Rattle.monomials.proofs.points.point_at.Reads as point-at-reads
-use Rattle.sheets.proofs.layout.place_of.Reads as place-of-reads
 
 place-of-requires : tie.Need-place-of-requires
 place-of-requires c κs = search needs

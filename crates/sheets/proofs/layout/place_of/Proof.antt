@@ -3,8 +3,6 @@ use native.Mathlib.Nat.{mul-le-mul}
 use borrow.Author.Needs.{needs}
 use Rattle.sheets.proofs.layout.place_of.Statement.{statement}
 use Rattle.sheets.proofs.layout.place_of.Tie as tie
-use Rattle.sheets.proofs.layout.place_of.Reads as reads
-use Rattle.sheets.proofs.layout.place_of.Lts as lts
 
 mul-result : tie.Need-mul-result
 mul-result c = omega (arith, mul-le-mul (c .pre .1) (c .pre .2))

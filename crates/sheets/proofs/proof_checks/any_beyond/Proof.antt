@@ -3,9 +3,6 @@ use Rattle.sheets.proofs.proof_checks.Laws.{beyond-p, beyond-q, beyond-
 use borrow.Author.Needs.{needs}
 use Rattle.sheets.proofs.proof_checks.any_beyond.Statement.{statement}
 use Rattle.sheets.proofs.proof_checks.any_beyond.Tie as tie
-use Rattle.sheets.proofs.proof_checks.any_beyond.Reads as reads
-use Rattle.sheets.proofs.proof_checks.any_beyond.Lts as lts
-use Rattle.sheets.proofs.bounds.is_beyond.Reads as is-beyond-reads
 
 is-beyond-requires : tie.Need-is-beyond-requires
 is-beyond-requires c κs = search needs

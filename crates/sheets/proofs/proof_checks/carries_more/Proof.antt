@@ -3,9 +3,6 @@ use Rattle.sheets.proofs.proof_checks.Laws.{carries-q, carries-r}
 use borrow.Author.Needs.{needs}
 use Rattle.sheets.proofs.proof_checks.carries_more.Statement.{statement}
 use Rattle.sheets.proofs.proof_checks.carries_more.Tie as tie
-use Rattle.sheets.proofs.proof_checks.carries_more.Reads as reads
-use Rattle.sheets.proofs.proof_checks.carries_more.Lts as lts
-use Rattle.integers.proofs.magnitudes.magnitude.Reads as magnitude-reads
 
 magnitude-requires : tie.Need-magnitude-requires
 magnitude-requires c κs = search needs

@@ -2,12 +2,6 @@ use Rattle.sheets.proofs.proof_checks.Laws.{header-8, header-9, header-
 use borrow.Author.Needs.{needs}
 use Rattle.sheets.proofs.proof_checks.check_header.Statement.{statement}
 use Rattle.sheets.proofs.proof_checks.check_header.Tie as tie
-use Rattle.sheets.proofs.proof_checks.check_header.Reads as reads
-use Rattle.sheets.proofs.proof_checks.check_header.Lts as lts
-use Rattle.sheets.proofs.layout.count.Reads as count-reads
-use Rattle.sheets.proofs.layout.place_of.Reads as place-of-reads
-use Rattle.sheets.proofs.proof_checks.header_wrong.Reads as header-wrong-reads
-use Rattle.sheets.proofs.proof_sheet.row_count.Reads as row-count-reads
 
 returns : tie.Need-returns
 returns c = search header-8
@@ -21,11 +15,8 @@ returns-2 c = search header-9
 row-count-requires : tie.Need-row-count-requires
 row-count-requires c κs = search needs
 
-shared-slice-read-count : tie.Need-shared-slice-read-count
-shared-slice-read-count c = search needs
-
-count-requires : tie.Need-count-requires
-count-requires c κs = search needs
+variables-requires : tie.Need-variables-requires
+variables-requires c κs = search needs
 
 mul-place-of : tie.Need-mul-place-of
 mul-place-of c = search needs
@@ -50,8 +41,7 @@ check-header-spec =
     header-wrong-requires
     returns-2
     row-count-requires
-    shared-slice-read-count
-    count-requires
+    variables-requires
     mul-place-of
     add-place-of
     place-of-requires

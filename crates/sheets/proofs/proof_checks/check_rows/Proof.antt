@@ -2,9 +2,6 @@ use Rattle.sheets.proofs.proof_checks.Laws.{rows-12, rows-13, rows-14, 
 use borrow.Author.Needs.{needs}
 use Rattle.sheets.proofs.proof_checks.check_rows.Statement.{statement}
 use Rattle.sheets.proofs.proof_checks.check_rows.Tie as tie
-use Rattle.sheets.proofs.proof_checks.check_rows.Reads as reads
-use Rattle.sheets.proofs.proof_checks.check_rows.Lts as lts
-use Rattle.sheets.proofs.proof_checks.first_row.Reads as first-row-reads
 
 first-row-requires : tie.Need-first-row-requires
 first-row-requires c κs = search needs

@@ -2,11 +2,6 @@ use Rattle.sheets.proofs.proof_checks.Laws.{v-high, w-judged}
 use borrow.Author.Needs.{needs}
 use Rattle.sheets.proofs.proof_checks.exponent_wrong.Statement.{statement}
 use Rattle.sheets.proofs.proof_checks.exponent_wrong.Tie as tie
-use Rattle.sheets.proofs.proof_checks.exponent_wrong.Reads as reads
-use Rattle.sheets.proofs.proof_checks.exponent_wrong.Lts as lts
-use Rattle.monomials.proofs.points.exponents_within.Reads as exponents-within-reads
-use Rattle.sheets.proofs.proof_sheet.row_v.Reads as row-v-reads
-use Rattle.sheets.proofs.proof_sheet.row_w.Reads as row-w-reads
 
 row-v-requires : tie.Need-row-v-requires
 row-v-requires c κs = search needs

@@ -7,9 +7,6 @@ use Rattle.sheets.specs.ProofChecks.{breaks}
 use Rattle.sheets.proofs.searches.Laws.{first-none, first-at, first-on, first-end}
 use Rattle.sheets.proofs.proof_checks.first_row.Statement.{statement}
 use Rattle.sheets.proofs.proof_checks.first_row.Tie as tie
-use Rattle.sheets.proofs.proof_checks.first_row.Reads as reads
-use Rattle.sheets.proofs.proof_checks.first_row.Lts as lts
-use Rattle.sheets.proofs.proof_checks.row_wrong.Reads as row-wrong-reads
 
 abbrev Inv-loop : tie.InvT-loop
 Inv-loop rule proof n k i₀ i = (i ≤ k) × (first (breaks rule proof n k) i ≡ Nothing)

@@ -2,17 +2,9 @@ use Rattle.sheets.proofs.proof_checks.Laws.{header-other, header-one, h
 use borrow.Author.Needs.{needs}
 use Rattle.sheets.proofs.proof_checks.header_wrong.Statement.{statement}
 use Rattle.sheets.proofs.proof_checks.header_wrong.Tie as tie
-use Rattle.sheets.proofs.proof_checks.header_wrong.Reads as reads
-use Rattle.sheets.proofs.proof_checks.header_wrong.Lts as lts
-use Rattle.sheets.proofs.layout.count.Reads as count-reads
-use Rattle.sheets.proofs.proof_sheet.row_count.Reads as row-count-reads
-use Rattle.sheets.proofs.proof_sheet.scale.Reads as scale-reads
 
-shared-slice-read-count : tie.Need-shared-slice-read-count
-shared-slice-read-count c = search needs
-
-count-requires : tie.Need-count-requires
-count-requires c κs = search needs
+variables-requires : tie.Need-variables-requires
+variables-requires c κs = search needs
 
 returns : tie.Need-returns
 returns c = search header-other
@@ -42,8 +34,7 @@ pub header-wrong-spec : {M : Type 1} → statement M
 header-wrong-spec =
     tie.close
     (tie.spec
-    shared-slice-read-count
-    count-requires
+    variables-requires
     returns
     shared-slice-read-if2
     returns-2

@@ -2,13 +2,6 @@ use Rattle.sheets.proofs.proof_checks.Laws.{rule-is, weight-judged}
 use borrow.Author.Needs.{needs}
 use Rattle.sheets.proofs.proof_checks.row_wrong.Statement.{statement}
 use Rattle.sheets.proofs.proof_checks.row_wrong.Tie as tie
-use Rattle.sheets.proofs.proof_checks.row_wrong.Reads as reads
-use Rattle.sheets.proofs.proof_checks.row_wrong.Lts as lts
-use Rattle.sheets.proofs.proof_checks.any_beyond.Reads as any-beyond-reads
-use Rattle.sheets.proofs.proof_checks.exponent_wrong.Reads as exponent-wrong-reads
-use Rattle.sheets.proofs.proof_checks.midpoint_wrong.Reads as midpoint-wrong-reads
-use Rattle.sheets.proofs.proof_checks.unused_wrong.Reads as unused-wrong-reads
-use Rattle.sheets.proofs.proof_sheet.row_triple.Reads as row-triple-reads
 
 enum-known-rule : tie.Need-enum-known-rule
 enum-known-rule c = search needs

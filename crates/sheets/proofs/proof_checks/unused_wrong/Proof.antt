@@ -2,13 +2,6 @@ use Rattle.sheets.proofs.proof_checks.Laws.{unused-lone, unused-pair}
 use borrow.Author.Needs.{needs}
 use Rattle.sheets.proofs.proof_checks.unused_wrong.Statement.{statement}
 use Rattle.sheets.proofs.proof_checks.unused_wrong.Tie as tie
-use Rattle.sheets.proofs.proof_checks.unused_wrong.Reads as reads
-use Rattle.sheets.proofs.proof_checks.unused_wrong.Lts as lts
-use Rattle.monomials.proofs.points.same.Reads as same-reads
-use Rattle.sheets.proofs.proof_checks.carries_more.Reads as carries-more-reads
-use Rattle.sheets.proofs.proof_sheet.row_triple.Reads as row-triple-reads
-use Rattle.sheets.proofs.proof_sheet.row_v.Reads as row-v-reads
-use Rattle.sheets.proofs.proof_sheet.row_w.Reads as row-w-reads
 
 row-v-requires : tie.Need-row-v-requires
 row-v-requires c κs = search needs

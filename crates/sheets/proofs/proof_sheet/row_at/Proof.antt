@@ -2,13 +2,6 @@ use Rattle.sheets.proofs.proof_sheet.Laws.{row-read}
 use borrow.Author.Needs.{needs}
 use Rattle.sheets.proofs.proof_sheet.row_at.Statement.{statement}
 use Rattle.sheets.proofs.proof_sheet.row_at.Tie as tie
-use Rattle.sheets.proofs.proof_sheet.row_at.Reads as reads
-use Rattle.sheets.proofs.proof_sheet.row_at.Lts as lts
-use Rattle.monomials.proofs.points.same.Reads as same-reads
-use Rattle.sheets.proofs.proof_sheet.row_triple.Reads as row-triple-reads
-use Rattle.sheets.proofs.proof_sheet.row_v.Reads as row-v-reads
-use Rattle.sheets.proofs.proof_sheet.row_w.Reads as row-w-reads
-use Rattle.sheets.proofs.proof_sheet.weights_of.Reads as weights-of-reads
 
 row-v-requires : tie.Need-row-v-requires
 row-v-requires c κs = search needs

@@ -2,9 +2,6 @@ use Rattle.sheets.proofs.proof_sheet.Laws.{row-low}
 use borrow.Author.Needs.{needs}
 use Rattle.sheets.proofs.proof_sheet.row_place.Statement.{statement}
 use Rattle.sheets.proofs.proof_sheet.row_place.Tie as tie
-use Rattle.sheets.proofs.proof_sheet.row_place.Reads as reads
-use Rattle.sheets.proofs.proof_sheet.row_place.Lts as lts
-use Rattle.sheets.proofs.layout.place_of.Reads as place-of-reads
 
 mul-place-of : tie.Need-mul-place-of
 mul-place-of c = search needs

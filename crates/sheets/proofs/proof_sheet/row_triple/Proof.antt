@@ -3,10 +3,6 @@ use Rattle.sheets.proofs.proof_sheet.Laws.{triple-read}
 use borrow.Author.Needs.{needs}
 use Rattle.sheets.proofs.proof_sheet.row_triple.Statement.{statement}
 use Rattle.sheets.proofs.proof_sheet.row_triple.Tie as tie
-use Rattle.sheets.proofs.proof_sheet.row_triple.Reads as reads
-use Rattle.sheets.proofs.proof_sheet.row_triple.Lts as lts
-use Rattle.integers.proofs.words.read_i32.Reads as read-i32-reads
-use Rattle.sheets.proofs.proof_sheet.triple_place.Reads as triple-place-reads
 
 triple-place-requires : tie.Need-triple-place-requires
 triple-place-requires c κs = search needs

@@ -2,10 +2,6 @@ use Rattle.sheets.proofs.proof_sheet.Laws.{w-inside, w-read}
 use borrow.Author.Needs.{needs}
 use Rattle.sheets.proofs.proof_sheet.row_w.Statement.{statement}
 use Rattle.sheets.proofs.proof_sheet.row_w.Tie as tie
-use Rattle.sheets.proofs.proof_sheet.row_w.Reads as reads
-use Rattle.sheets.proofs.proof_sheet.row_w.Lts as lts
-use Rattle.monomials.proofs.points.point_at.Reads as point-at-reads
-use Rattle.sheets.proofs.proof_sheet.row_place.Reads as row-place-reads
 
 row-place-requires : tie.Need-row-place-requires
 row-place-requires c κs = search needs

@@ -2,9 +2,6 @@ use Rattle.sheets.proofs.proof_sheet.Laws.{scale-read}
 use borrow.Author.Needs.{needs}
 use Rattle.sheets.proofs.proof_sheet.scale.Statement.{statement}
 use Rattle.sheets.proofs.proof_sheet.scale.Tie as tie
-use Rattle.sheets.proofs.proof_sheet.scale.Reads as reads
-use Rattle.sheets.proofs.proof_sheet.scale.Lts as lts
-use Rattle.integers.proofs.words.read_u32.Reads as read-u32-reads
 
 read-u32-requires : tie.Need-read-u32-requires
 read-u32-requires c κs = search needs

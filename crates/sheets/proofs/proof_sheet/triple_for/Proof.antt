@@ -3,8 +3,6 @@ use Rattle.sheets.proofs.proof_sheet.Laws.{for-pair, for-lone}
 use borrow.Author.Needs.{needs}
 use Rattle.sheets.proofs.proof_sheet.triple_for.Statement.{statement}
 use Rattle.sheets.proofs.proof_sheet.triple_for.Tie as tie
-use Rattle.sheets.proofs.proof_sheet.triple_for.Reads as reads
-use Rattle.sheets.proofs.proof_sheet.triple_for.Lts as lts
 
 enum-known-weights : tie.Need-enum-known-weights
 enum-known-weights c = search needs

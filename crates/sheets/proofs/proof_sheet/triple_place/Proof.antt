@@ -2,9 +2,6 @@ use Rattle.sheets.proofs.proof_sheet.Laws.{rows-low, triple-low, triple
 use borrow.Author.Needs.{needs}
 use Rattle.sheets.proofs.proof_sheet.triple_place.Statement.{statement}
 use Rattle.sheets.proofs.proof_sheet.triple_place.Tie as tie
-use Rattle.sheets.proofs.proof_sheet.triple_place.Reads as reads
-use Rattle.sheets.proofs.proof_sheet.triple_place.Lts as lts
-use Rattle.sheets.proofs.layout.place_of.Reads as place-of-reads
 
 mul-place-of : tie.Need-mul-place-of
 mul-place-of c = search needs

@@ -1,10 +1,7 @@
-use borrow.Author.Needs.{needs}
 use mir.Facts.{toZ-ofZ}
 use Rattle.sheets.proofs.proof_sheet.Laws.{weights-lone, weights-pair}
 use Rattle.sheets.proofs.proof_sheet.weights_of.Statement.{statement}
 use Rattle.sheets.proofs.proof_sheet.weights_of.Tie as tie
-use Rattle.sheets.proofs.proof_sheet.weights_of.Reads as reads
-use Rattle.sheets.proofs.proof_sheet.weights_of.Lts as lts
 
 returns : tie.Need-returns
 returns c = search (weights-lone, toZ-ofZ)

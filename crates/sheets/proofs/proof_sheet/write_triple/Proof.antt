@@ -3,9 +3,6 @@ use Rattle.sheets.proofs.proof_sheet.Laws.{triple-written}
 use borrow.Author.Needs.{needs}
 use Rattle.sheets.proofs.proof_sheet.write_triple.Statement.{statement}
 use Rattle.sheets.proofs.proof_sheet.write_triple.Tie as tie
-use Rattle.sheets.proofs.proof_sheet.write_triple.Reads as reads
-use Rattle.sheets.proofs.proof_sheet.write_triple.Lts as lts
-use Rattle.integers.proofs.words.write_i32.Reads as write-i32-reads
 
 write-i32-requires : tie.Need-write-i32-requires
 write-i32-requires c κs = search needs

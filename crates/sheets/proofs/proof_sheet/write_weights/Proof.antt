@@ -2,11 +2,6 @@ use Rattle.sheets.proofs.proof_sheet.Laws.{triple-inside, narrow-here, 
 use borrow.Author.Needs.{needs}
 use Rattle.sheets.proofs.proof_sheet.write_weights.Statement.{statement}
 use Rattle.sheets.proofs.proof_sheet.write_weights.Tie as tie
-use Rattle.sheets.proofs.proof_sheet.write_weights.Reads as reads
-use Rattle.sheets.proofs.proof_sheet.write_weights.Lts as lts
-use Rattle.sheets.proofs.proof_sheet.triple_for.Reads as triple-for-reads
-use Rattle.sheets.proofs.proof_sheet.triple_place.Reads as triple-place-reads
-use Rattle.sheets.proofs.proof_sheet.write_triple.Reads as write-triple-reads
 
 triple-place-requires : tie.Need-triple-place-requires
 triple-place-requires c κs = search needs

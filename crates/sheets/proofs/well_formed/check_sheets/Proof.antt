@@ -2,13 +2,6 @@ use Rattle.sheets.proofs.well_formed.Laws.{sheets-claim, claim-long, sh
 use borrow.Author.Needs.{needs}
 use Rattle.sheets.proofs.well_formed.check_sheets.Statement.{statement}
 use Rattle.sheets.proofs.well_formed.check_sheets.Tie as tie
-use Rattle.sheets.proofs.well_formed.check_sheets.Reads as reads
-use Rattle.sheets.proofs.well_formed.check_sheets.Lts as lts
-use Rattle.sheets.proofs.claim_checks.check_claim.Reads as check-claim-reads
-use Rattle.sheets.proofs.layout.count.Reads as count-reads
-use Rattle.sheets.proofs.proof_checks.check_header.Reads as check-header-reads
-use Rattle.sheets.proofs.proof_checks.check_rows.Reads as check-rows-reads
-use Rattle.sheets.proofs.proof_sheet.row_count.Reads as row-count-reads
 
 check-claim-requires : tie.Need-check-claim-requires
 check-claim-requires c κs = search needs
@@ -22,11 +15,8 @@ enum-told-2 c = search needs
 returns : tie.Need-returns
 returns c = search sheets-claim
 
-shared-slice-read-count : tie.Need-shared-slice-read-count
-shared-slice-read-count c = search claim-long
-
-count-requires : tie.Need-count-requires
-count-requires c κs = search needs
+variables-requires : tie.Need-variables-requires
+variables-requires c κs = search claim-long
 
 check-header-requires : tie.Need-check-header-requires
 check-header-requires c κs = search needs
@@ -57,8 +47,7 @@ check-sheets-spec =
     enum-told
     enum-told-2
     returns
-    shared-slice-read-count
-    count-requires
+    variables-requires
     check-header-requires
     enum-told-3
     enum-told-4
