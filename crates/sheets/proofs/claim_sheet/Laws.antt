@@ -1,4 +1,4 @@
--- Laws of the claim sheet: where its fields lie, and its terms by their index.
+-- Laws of the claim sheet: the ways through the code that reads its fields, and its terms by their index.
 use mathlib.Core.Path.{_≡_, _∙_}
 use mathlib.Core.List.{List}
 use Prim.Native.Nat.{ℕ, _+_, _<_, _≤_}
@@ -8,15 +8,9 @@ use lib.IntN.{ℤ}
 use lib.ListN.{length, getD}
 use Rattle.integers.specs.Words.{i32At}
 use Rattle.monomials.proofs.Lists.{table-length, table-get}
-use Rattle.monomials.specs.Points.{Exponents, pointOf, bytesAt}
-use Rattle.monomials.specs.declared.points.Point.{Point}
+use Rattle.monomials.specs.Points.{Exponents}
 use Rattle.sheets.specs.Layout.{variables, termCount, place, pointAt, ClaimRoom}
-use Rattle.sheets.specs.ClaimSheet.{floorOf, termPoint, coefficientOf, termOf, termsOf}
-
--- floor: z is the word read, z′ what the machine reads back of it
-pub floor-read : (c : List ℕ) (z z′ : ℤ) → z ≡ i32At c 4 → z′ ≡ z → z′ ≡ floorOf c
-unfolding floorOf
-floor-read c z z′ h e = e ∙ h
+use Rattle.sheets.specs.ClaimSheet.{termPoint, coefficientOf, termOf, termsOf}
 
 module _ (c : List ℕ) (n t i : ℕ) (room : ClaimRoom c n t) (l : i < t) where
   -- term_point
@@ -30,11 +24,7 @@ module _ (c : List ℕ) (n t i : ℕ) (room : ClaimRoom c n t) (l : i < t) where
   pub coefficient-inside : (from at : ℕ) → from ≡ place 8 t n → at ≡ place from i 4 → at + 4 ≤ length c
   coefficient-inside from at e f = omega arith
 
-pub point-read : (c : List ℕ) (n i at : ℕ) (r : Point) → at ≡ pointAt n i → r ≡ pointOf (bytesAt c at n)
-    → r ≡ pointOf (termPoint c n i)
-unfolding termPoint
-point-read c n i at r e h = h ∙ rw e
-
+-- z is the word read, z′ what the machine reads back of it
 pub coefficient-read : (c : List ℕ) (n t i from at : ℕ) (z z′ : ℤ) → from ≡ place 8 t n → at ≡ place from i 4
     → z ≡ i32At c at → z′ ≡ z → z′ ≡ coefficientOf c n t i
 unfolding coefficientOf

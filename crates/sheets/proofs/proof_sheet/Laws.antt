@@ -1,4 +1,4 @@
--- Laws of the proof sheet: where its fields lie, its rows by their index, and weights written back.
+-- Laws of the proof sheet: the ways through the code that reads and writes its fields, and its rows by their index.
 use mathlib.Core.Path.{_≡_, _∙_}
 use mathlib.Core.Bool.{Bool, true, false}
 use mathlib.Core.List.{List}
@@ -6,22 +6,20 @@ use Prim.Native.Nat.{ℕ, _+_, _*_, _<_, _≤_}
 use native.Mathlib.Nat.{mul-le-mul, mul-le-mul-right}
 use native.Mathlib.Omega.{arith}
 use lib.IntN.{ℤ, pos}
-use lib.ListN.{length}
-use Rattle.integers.specs.Words.{u32At, i32At, withI32}
+use lib.ListN.{length, getD}
+use Rattle.integers.specs.Words.{i32At, withI32}
+use Rattle.monomials.proofs.Lists.{table-length, table-get}
 use Rattle.monomials.proofs.points.Laws.{exponents-of}
-use Rattle.monomials.specs.Points.{exponents, pointOf, bytesAt, samePoint}
+use Rattle.monomials.specs.Rows as Formal
+use Rattle.monomials.specs.Points.{exponents, pointOf, samePoint}
 use Rattle.monomials.specs.declared.points.Point.{Point}
 use Rattle.monomials.specs.declared.rows.Weights.{Weights}
 use Rattle.monomials.specs.declared.rows.Weights.the-variants.{Pair, Lone}
-use Rattle.sheets.specs.Layout.{place, vAt, tripleAt, ProofRoom}
-use Rattle.sheets.specs.ProofSheet.{scaleOf, vOf, wOf, wordsAt, tripleOf, weightsOf, rowOf, byValue, tripleFor, Narrow, withTriple, withWeights}
+use Rattle.sheets.specs.Layout.{variables, rowCount, place, vAt, tripleAt, ProofRoom}
+use Rattle.sheets.specs.ProofSheet.{vOf, wOf, wordsAt, tripleOf, weightsOf, rowOf, rowsOf, byValue, tripleFor, Narrow, withTriple}
 use Rattle.sheets.specs.declared.proof_sheet.Triple.{Triple}
 
--- ---- the ways through the code: where a field is read from
-
-pub scale-read : (s : List ℕ) (u : ℕ) → u ≡ u32At s 4 → u ≡ scaleOf s
-unfolding scaleOf
-scale-read s u h = h
+-- ---- fields read
 
 pub row-low : (n k i from : ℕ) → n ≤ 8 → k ≤ 256 → i < k → from ≡ vAt n i → from ≤ 4088
 row-low n k i from few rows l e = let h : i ≤ 255 = omega arith in omega (arith, mul-le-mul h few)
@@ -32,16 +30,6 @@ module _ (s : List ℕ) (n k i from : ℕ) (room : ProofRoom s n k) (l : i < k) 
 
   pub w-inside : from + n + n ≤ length s
   w-inside = omega (arith, mul-le-mul-right (2 * n) l)
-
-pub v-read : (s : List ℕ) (n i from : ℕ) (r : Point) → from ≡ vAt n i → r ≡ pointOf (bytesAt s from n)
-    → r ≡ pointOf (vOf s n i)
-unfolding vOf
-v-read s n i from r e h = h ∙ rw e
-
-pub w-read : (s : List ℕ) (n i from : ℕ) (r : Point) → from ≡ vAt n i → r ≡ pointOf (bytesAt s (from + n) n)
-    → r ≡ pointOf (wOf s n i)
-unfolding wOf
-w-read s n i from r e h = h ∙ rw e
 
 module _ (n k i : ℕ) (few : n ≤ 8) (rows : k ≤ 256) (from : ℕ) (e : from ≡ place 8 k (2 * n)) where
   pub rows-low : from ≤ 16777216
@@ -80,7 +68,7 @@ unfolding byValue rowOf
 row-read s n k i v w lone x a ev ew el ex ea =
     rw (ea, ex, el, ev, ew, exponents-of (vOf s n i), exponents-of (wOf s n i))
 
--- ---- and written to
+-- ---- fields written
 
 pub for-pair : (a : Weights) (p p′ q q′ r r′ : ℤ) → a ≡ Pair p q r → p′ ≡ p → q′ ≡ q → r′ ≡ r
     → record { p = p′; q = q′; r = r′ } ≡ tripleFor a
@@ -97,10 +85,16 @@ pub triple-written : (out o₁ o₂ o₃ : List ℕ) (at : ℕ) (x : Triple) (p 
 unfolding withTriple
 triple-written out o₁ o₂ o₃ at x p q r e₁ e₂ e₃ ep eq er = e₃ ∙ rw (e₂, e₁, ep, eq, er)
 
-module _ (n k i at : ℕ) (a : Weights) (x : Triple) (ex : x ≡ tripleFor a) (ea : at ≡ tripleAt n k i) where
-  pub narrow-here : Narrow (tripleFor a) → Narrow x
-  narrow-here h = rw ex h
+pub narrow-here : (a : Weights) (x : Triple) → x ≡ tripleFor a → Narrow (tripleFor a) → Narrow x
+narrow-here a x e h = rw e h
 
-  pub weights-written : (out o : List ℕ) → o ≡ withTriple out at x → o ≡ withWeights out n k i a
-  unfolding withWeights
-  weights-written out o h = h ∙ rw (ex, ea)
+-- ---- rows by their index
+
+pub rows-length : (s : List ℕ) → length (rowsOf s) ≡ rowCount s
+unfolding rowsOf
+rows-length s = table-length (rowOf s (variables s) (rowCount s)) (rowCount s)
+
+pub rows-get : (s : List ℕ) (d : Formal.Row) (i : ℕ) → i < rowCount s
+    → getD (rowsOf s) i d ≡ rowOf s (variables s) (rowCount s) i
+unfolding rowsOf
+rows-get s d i l = table-get (rowOf s (variables s) (rowCount s)) d (rowCount s) i l

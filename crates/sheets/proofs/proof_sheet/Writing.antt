@@ -85,30 +85,30 @@ module _ (weights : ℕ → Weights) (s : List ℕ) (n k : ℕ) where
   abbrev next : ℕ → Triple
   next i = tripleFor (weights i)
 
-  pub rows-length : (i : ℕ) → length (so i) ≡ length s
+  pub all-length : (i : ℕ) → length (so i) ≡ length s
   unfolding withRows withWeights
-  rows-length zero = refl
-  rows-length (suc i) = triple-length (so i) (tripleAt n k i) (next i) ∙ rows-length i
+  all-length zero = refl
+  all-length (suc i) = triple-length (so i) (tripleAt n k i) (next i) ∙ all-length i
 
   -- header and points stay
-  pub rows-before : (i j : ℕ) → j < place 8 k (2 * n) → getD (so i) j 0 ≡ getD s j 0
+  pub all-before : (i j : ℕ) → j < place 8 k (2 * n) → getD (so i) j 0 ≡ getD s j 0
   unfolding withRows withWeights
-  rows-before zero j h = refl
-  rows-before (suc i) j h = triple-before (so i) (tripleAt n k i) (next i) j (omega arith) ∙ rows-before i j h
+  all-before zero j h = refl
+  all-before (suc i) j h = triple-before (so i) (tripleAt n k i) (next i) j (omega arith) ∙ all-before i j h
 
   -- and so does what comes after the proof
-  pub rows-after : (i j : ℕ) → i ≤ k → proofLength n k ≤ j → getD (so i) j 0 ≡ getD s j 0
+  pub all-after : (i j : ℕ) → i ≤ k → proofLength n k ≤ j → getD (so i) j 0 ≡ getD s j 0
   unfolding withRows withWeights
-  rows-after zero j l h = refl
-  rows-after (suc i) j l h =
-      triple-after (so i) (tripleAt n k i) (next i) j (omega (arith, mul-le-mul-right 12 l)) ∙ rows-after i j (omega arith) h
+  all-after zero j l h = refl
+  all-after (suc i) j l h =
+      triple-after (so i) (tripleAt n k i) (next i) j (omega (arith, mul-le-mul-right 12 l)) ∙ all-after i j (omega arith) h
 
   -- each triple reads back
-  pub rows-read : (i j : ℕ) → j < i → i ≤ k → proofLength n k ≤ length s → ((j : ℕ) → j < k → Narrow (next j))
+  pub all-read : (i j : ℕ) → j < i → i ≤ k → proofLength n k ≤ length s → ((j : ℕ) → j < k → Narrow (next j))
       → tripleOf (so i) n k j ≡ next j
   unfolding withRows withWeights tripleOf
-  rows-read zero j h l r f = absurd (omega arith)
-  rows-read (suc i) j h l r f = go (decLt j i) (λ g. rows-read i j g (omega arith) r f)
+  all-read zero j h l r f = absurd (omega arith)
+  all-read (suc i) j h l r f = go (decLt j i) (λ g. all-read i j g (omega arith) r f)
     where
       go : Dec (j < i) → (j < i → wordsAt (so i) (tripleAt n k j) ≡ next j)
           → wordsAt (withTriple (so i) (tripleAt n k i) (next i)) (tripleAt n k j) ≡ next j
@@ -116,15 +116,15 @@ module _ (weights : ℕ → Weights) (s : List ℕ) (n k : ℕ) where
           triple-earlier (so i) (tripleAt n k i) (next i) (tripleAt n k j) (omega (arith, mul-le-mul-right 12 g)) ∙ below g
       go (no g) below =
           let q : j ≡ i = omega arith in
-          let room : tripleAt n k i + 12 ≤ length (so i) = rw rows-length (omega (arith, mul-le-mul-right 12 l)) in
+          let room : tripleAt n k i + 12 ≤ length (so i) = rw all-length (omega (arith, mul-le-mul-right 12 l)) in
           rw q (triple-reads (so i) (tripleAt n k i) (next i) room (f i l))
 
   -- weights written as they were give the same sheet, byte by byte
-  pub rows-again : (i : ℕ) → Bytes s → ((j : ℕ) → j < i → next j ≡ tripleOf s n k j) → so i ≡ s
+  pub all-again : (i : ℕ) → Bytes s → ((j : ℕ) → j < i → next j ≡ tripleOf s n k j) → so i ≡ s
   unfolding withRows withWeights tripleOf
-  rows-again zero b h = refl
-  rows-again (suc i) b h =
-      rw (rows-again i b (λ j l. h j (omega arith)), h i (omega arith)) (triple-again s (tripleAt n k i) b)
+  all-again zero b h = refl
+  all-again (suc i) b h =
+      rw (all-again i b (λ j l. h j (omega arith)), h i (omega arith)) (triple-again s (tripleAt n k i) b)
 
 -- ---- rows
 
@@ -153,7 +153,7 @@ module _ (s : List ℕ) (n k : ℕ) where
       → withRows (λ i. rowOf s n k i .weights) s n k k ≡ s
   unfolding rowOf
   sheet-again b h =
-      rows-again (λ i. rowOf s n k i .weights) s n k k b (λ i l. lone-again (lone i) (tripleOf s n k i) (h i l))
+      all-again (λ i. rowOf s n k i .weights) s n k k b (λ i l. lone-again (lone i) (tripleOf s n k i) (h i l))
 
   -- what is written reads back as the same rows with those weights
   module _ (weights : ℕ → Weights) (room : ProofRoom s n k) (narrow : (i : ℕ) → i < k → Narrow (tripleFor (weights i)))
@@ -166,7 +166,7 @@ module _ (s : List ℕ) (n k : ℕ) where
 
     points-kept : (i at : ℕ) → i < k → at + n ≤ vAt n i + 2 * n → bytesAt written at n ≡ bytesAt s at n
     points-kept i at l h =
-        bytes-same written s at n (λ j m. rows-before weights s n k k (at + j) (omega (arith, mul-le-mul-right (2 * n) l)))
+        bytes-same written s at n (λ j m. all-before weights s n k k (at + j) (omega (arith, mul-le-mul-right (2 * n) l)))
 
     pub row-written : (i : ℕ) → i < k → rowOf written n k i ≡ row i
     unfolding rowOf vOf wOf
@@ -174,14 +174,14 @@ module _ (s : List ℕ) (n k : ℕ) where
         rw (
           points-kept i (vAt n i) l (omega arith),
           points-kept i (wAt n i) l (omega arith),
-          rows-read weights s n k k i l (omega arith) (room .long) narrow,
+          all-read weights s n k k i l (omega arith) (room .long) narrow,
           suits-read (lone i) (weights i) (suits i l),
         )
 
     pub sheet-read : n ≡ variables s → k ≡ rowCount s → rowsOf written ≡ table row k
     unfolding rowsOf
     sheet-read en ek =
-        let kept = rows-before weights s n k k in
+        let kept = all-before weights s n k k in
         let wn : variables written ≡ n = kept 0 (omega arith) ∙ sym en in
         let wk : rowCount written ≡ k = rw (kept 2 (omega arith), kept 3 (omega arith)) (sym ek) in
         rw (wn, wk) (table-same (rowOf written n k) row k row-written)

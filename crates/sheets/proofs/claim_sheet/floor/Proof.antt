@@ -1,5 +1,5 @@
 use mir.Facts.{toZ-ofZ}
-use Rattle.sheets.proofs.claim_sheet.Laws.{floor-read}
+use Rattle.sheets.specs.ClaimSheet.{floorOf}
 use borrow.Author.Needs.{needs}
 use Rattle.sheets.proofs.claim_sheet.floor.Statement.{statement}
 use Rattle.sheets.proofs.claim_sheet.floor.Tie as tie
@@ -8,7 +8,8 @@ read-i32-requires : tie.Need-read-i32-requires
 read-i32-requires c κs = search needs
 
 returns : tie.Need-returns
-returns c = search (floor-read, toZ-ofZ)
+unfolding floorOf
+returns c = search (needs, toZ-ofZ)
 
 pub floor-spec : {M : Type 1} → statement M
 floor-spec = tie.close (tie.spec read-i32-requires returns)

@@ -1,4 +1,5 @@
-use Rattle.sheets.proofs.claim_sheet.Laws.{point-inside, point-read}
+use Rattle.sheets.specs.ClaimSheet.{termPoint}
+use Rattle.sheets.proofs.claim_sheet.Laws.{point-inside}
 use borrow.Author.Needs.{needs}
 use Rattle.sheets.proofs.claim_sheet.term_point.Statement.{statement}
 use Rattle.sheets.proofs.claim_sheet.term_point.Tie as tie
@@ -10,7 +11,8 @@ point-at-requires : tie.Need-point-at-requires
 point-at-requires c κs = search (needs, point-inside)
 
 returns : tie.Need-returns
-returns c = search point-read
+unfolding termPoint
+returns c = cc
 
 pub term-point-spec : {M : Type 1} → statement M
 term-point-spec = tie.close (tie.spec place-of-requires point-at-requires returns)

@@ -1,4 +1,5 @@
-use Rattle.sheets.proofs.proof_sheet.Laws.{v-inside, v-read}
+use Rattle.sheets.specs.ProofSheet.{vOf}
+use Rattle.sheets.proofs.proof_sheet.Laws.{v-inside}
 use borrow.Author.Needs.{needs}
 use Rattle.sheets.proofs.proof_sheet.row_v.Statement.{statement}
 use Rattle.sheets.proofs.proof_sheet.row_v.Tie as tie
@@ -10,7 +11,8 @@ point-at-requires : tie.Need-point-at-requires
 point-at-requires c κs = search (needs, v-inside)
 
 returns : tie.Need-returns
-returns c = search v-read
+unfolding vOf
+returns c = cc
 
 pub row-v-spec : {M : Type 1} → statement M
 row-v-spec = tie.close (tie.spec row-place-requires point-at-requires returns)

@@ -1,4 +1,5 @@
-use Rattle.sheets.proofs.proof_sheet.Laws.{w-inside, w-read}
+use Rattle.sheets.specs.ProofSheet.{wOf}
+use Rattle.sheets.proofs.proof_sheet.Laws.{w-inside}
 use borrow.Author.Needs.{needs}
 use Rattle.sheets.proofs.proof_sheet.row_w.Statement.{statement}
 use Rattle.sheets.proofs.proof_sheet.row_w.Tie as tie
@@ -13,7 +14,8 @@ point-at-requires : tie.Need-point-at-requires
 point-at-requires c κs = search (needs, w-inside)
 
 returns : tie.Need-returns
-returns c = search w-read
+unfolding wOf
+returns c = cc
 
 pub row-w-spec : {M : Type 1} → statement M
 row-w-spec = tie.close (tie.spec row-place-requires add-point-at point-at-requires returns)

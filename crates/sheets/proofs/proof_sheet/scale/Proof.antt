@@ -1,4 +1,4 @@
-use Rattle.sheets.proofs.proof_sheet.Laws.{scale-read}
+use Rattle.sheets.specs.ProofSheet.{scaleOf}
 use borrow.Author.Needs.{needs}
 use Rattle.sheets.proofs.proof_sheet.scale.Statement.{statement}
 use Rattle.sheets.proofs.proof_sheet.scale.Tie as tie
@@ -7,7 +7,8 @@ read-u32-requires : tie.Need-read-u32-requires
 read-u32-requires c κs = search needs
 
 returns : tie.Need-returns
-returns c = search scale-read
+unfolding scaleOf
+returns c = search needs
 
 pub scale-spec : {M : Type 1} → statement M
 scale-spec = tie.close (tie.spec read-u32-requires returns)

@@ -1,4 +1,5 @@
-use Rattle.sheets.proofs.proof_sheet.Laws.{triple-inside, narrow-here, weights-written}
+use Rattle.sheets.specs.ProofSheet.{withWeights}
+use Rattle.sheets.proofs.proof_sheet.Laws.{triple-inside, narrow-here}
 use borrow.Author.Needs.{needs}
 use Rattle.sheets.proofs.proof_sheet.write_weights.Statement.{statement}
 use Rattle.sheets.proofs.proof_sheet.write_weights.Tie as tie
@@ -16,7 +17,8 @@ same-length : tie.Need-same-length
 same-length c = search needs
 
 returns : tie.Need-returns
-returns c = search weights-written
+unfolding withWeights
+returns c = cc
 
 pub write-weights-spec : {M : Type 1} → statement M
 write-weights-spec =
