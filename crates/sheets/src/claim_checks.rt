@@ -26,11 +26,15 @@ ghost use Rattle.sheets.specs.declared.claim_checks.TermRule.the-variant
 
 // What every term has to keep, with its limit.
 pub enum TermRule {
+    // 5
     Coefficient(u64),
+    // 6
     Exponent(u8),
+    // 7
     Order,
 }
 
+// 2: whether n, t or bytes 2 and 3 are wrong.
 fn header_wrong(claim: &[u8]) -> bool
     requires { ⌜ 8 ≤ length (now claim) ⌝ }
     ensures { λ r. ⌜ r ≡ not (headerRight (now (claim .entry))) ⌝ }
@@ -50,6 +54,7 @@ fn header_wrong(claim: &[u8]) -> bool
     claim[3] != 0
 }
 
+// 5: whether coefficient i is zero or beyond the limit.
 fn coefficient_wrong(claim: &[u8], n: usize, t: usize, i: usize, limit: u64) -> bool
     requires { ⌜ (ClaimRoom (now claim) n t) × (i < t) ⌝ }
     ensures { λ r. ⌜ r ≡ breaks (Coefficient limit) (now (claim .entry)) n t i ⌝ }
@@ -61,6 +66,7 @@ fn coefficient_wrong(claim: &[u8], n: usize, t: usize, i: usize, limit: u64) -> 
     is_beyond(x, limit)
 }
 
+// 6: whether term i has an exponent over the limit.
 fn exponent_wrong(claim: &[u8], n: usize, t: usize, i: usize, limit: u8) -> bool
     requires { ⌜ (ClaimRoom (now claim) n t) × (i < t) ⌝ }
     ensures { λ r. ⌜ r ≡ breaks (Exponent limit) (now (claim .entry)) n t i ⌝ }
@@ -68,6 +74,7 @@ fn exponent_wrong(claim: &[u8], n: usize, t: usize, i: usize, limit: u8) -> bool
     !exponents_within(term_point(claim, n, t, i), limit)
 }
 
+// 7: whether point i is not above the one before.
 fn order_wrong(claim: &[u8], n: usize, t: usize, i: usize) -> bool
     requires { ⌜ (ClaimRoom (now claim) n t) × (i < t) ⌝ }
     ensures { λ r. ⌜ r ≡ breaks Order (now (claim .entry)) n t i ⌝ }

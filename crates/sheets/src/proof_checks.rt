@@ -31,12 +31,17 @@ ghost use Rattle.sheets.specs.declared.proof_checks.RowRule.the-variants
 
 // What every row has to keep, with its limit.
 pub enum RowRule {
+    // 12
     Exponent(u8),
+    // 13
     Midpoint,
+    // 14: a lone row does not use q and r
     Unused,
+    // 15
     Weight(u64),
 }
 
+// 9: whether n is not the claim's, or byte 1, k or S is wrong.
 fn header_wrong(proof: &[u8], n: usize, limit: usize) -> bool
     requires { ⌜ 8 ≤ length (now proof) ⌝ }
     ensures { λ r. ⌜ r ≡ not (headerRight limit n (now (proof .entry))) ⌝ }
@@ -74,6 +79,7 @@ pub fn check_header(proof: &[u8], n: usize) -> Verdict
     Verdict::Accepted(0)
 }
 
+// 12: whether row i has an exponent over the limit.
 fn exponent_wrong(proof: &[u8], n: usize, k: usize, i: usize, limit: u8) -> bool
     requires { ⌜ (ProofRoom (now proof) n k) × (i < k) ⌝ }
     ensures { λ r. ⌜ r ≡ breaks (Exponent limit) (now (proof .entry)) n k i ⌝ }
@@ -84,6 +90,7 @@ fn exponent_wrong(proof: &[u8], n: usize, k: usize, i: usize, limit: u8) -> bool
     true
 }
 
+// 13: whether row i has no whole midpoint.
 fn midpoint_wrong(proof: &[u8], n: usize, k: usize, i: usize) -> bool
     requires { ⌜ (ProofRoom (now proof) n k) × (i < k) ⌝ }
     ensures { λ r. ⌜ r ≡ breaks Midpoint (now (proof .entry)) n k i ⌝ }
@@ -101,6 +108,7 @@ fn carries_more(x: Triple) -> bool
     magnitude(x.r) != 0
 }
 
+// 14: whether row i is lone, and q or r is not zero.
 fn unused_wrong(proof: &[u8], n: usize, k: usize, i: usize) -> bool
     requires { ⌜ (ProofRoom (now proof) n k) × (i < k) ⌝ }
     ensures { λ r. ⌜ r ≡ breaks Unused (now (proof .entry)) n k i ⌝ }
@@ -111,7 +119,7 @@ fn unused_wrong(proof: &[u8], n: usize, k: usize, i: usize) -> bool
     false
 }
 
-// Whether one of three numbers is beyond ± a limit.
+// 15: whether one of three weights is beyond ± a limit.
 fn any_beyond(x: Triple, limit: u64) -> bool
     ensures { λ r. ⌜ r ≡ anyBeyond limit x ⌝ }
 {

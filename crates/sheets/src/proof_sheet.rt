@@ -122,6 +122,7 @@ fn triple_for(weights: Weights) -> Triple
     }
 }
 
+// Three numbers from a place on. Their twelve bytes change, and no other.
 fn write_triple(out: &mut [u8], at: usize, x: Triple)
     requires { ⌜ (at + 12 ≤ length (now out)) × (Narrow x) ⌝ }
     ensures { λ _. ⌜ now (out .exit) ≡ withTriple (now (out .entry)) at x ⌝ }
@@ -131,7 +132,7 @@ fn write_triple(out: &mut [u8], at: usize, x: Triple)
     write_i32(out, at + 8, x.r);
 }
 
-// Row i's weights in a proof that is lent. Its twelve bytes change, and no other.
+// Row i's weights, in bytes that have room for the proof: q and r of a lone row become zero.
 pub fn write_weights(out: &mut [u8], n: usize, k: usize, i: usize, weights: Weights)
     requires { ⌜ (ProofRoom (now out) n k) × (i < k) × (Narrow (tripleFor weights)) ⌝ }
     ensures { λ _. ⌜ now (out .exit) ≡ withWeights (now (out .entry)) n k i weights ⌝ }

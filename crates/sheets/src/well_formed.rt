@@ -9,7 +9,7 @@ ghost use mathlib.Core.Path.{_≡_};
 ghost use Rattle.sheets.specs.Answers.{says};
 ghost use Rattle.sheets.specs.WellFormed.{sheetsAnswer};
 
-// The checks 1 to 10 and 12 to 15.
+// The checks 1 to 10 and 12 to 15, in this order.
 pub fn check_sheets(claim: &[u8], proof: &[u8]) -> Verdict
     ensures { λ r. ⌜ says r ≡ sheetsAnswer (now (claim .entry)) (now (proof .entry)) ⌝ }
 {
