@@ -3,7 +3,6 @@ use mathlib.Core.Path.{_≡_, refl, _∙_}
 use mathlib.Core.List.{List, [], _∷_, _++_}
 use Prim.Native.Nat.{ℕ, zero, suc, _+_, _<_}
 use native.Mathlib.Decide.{decLt}
-use native.Mathlib.Numerals.{add-one}
 use native.Mathlib.Omega.{arith}
 use lib.ListN.{length, getD, length-append, List·getD-append}
 use lib.Seq.{getD-at}
@@ -14,14 +13,6 @@ all-append P [] M s t = t
 all-append P (a ∷ L) M s t = (s .0, all-append P L M (s .1) t)
 
 module _ {A : Type 0} (f : ℕ → A) where
-  pub table-none : table f 0 ≡ []
-  unfolding table
-  table-none = refl
-
-  pub table-on : (n : ℕ) → table f (n + 1) ≡ table f n ++ (f n ∷ [])
-  unfolding table
-  table-on n = rw add-one refl
-
   pub table-length : (n : ℕ) → length (table f n) ≡ n
   unfolding table
   table-length zero = refl
