@@ -63,14 +63,15 @@ oneRow v w p q r = proofOf 1 (pos 1) 1 ((v ∷ []) ∷ (w ∷ []) ∷ []) (p ∷
 unfoldable pub full : ℤ → List ℕ
 full z = claimOf 8 z (table (λ i. (57 + i) ∷ replicate 7 120) 64) (replicate 64 z)
 
--- 256 rows in one variable at the greatest scale, of which the last has an exponent over 120
-unfoldable pub manyRows : List ℕ
-manyRows =
-    1 ∷ 0 ∷ 0 ∷ 1 ∷ word (pos (2 ^ 20))
-    ++ (joined (replicate 255 (0 ∷ 120 ∷ [])) ++ (0 ∷ 121 ∷ []) ++ replicate 3072 0)
+-- 256 rows in one variable at the greatest scale, by the last exponent; every weight is zero
+unfoldable pub manyPoints : ℕ → List ℕ
+manyPoints e = 1 ∷ 0 ∷ 0 ∷ 1 ∷ word (pos (2 ^ 20)) ++ (joined (replicate 255 (0 ∷ 120 ∷ [])) ++ (0 ∷ e ∷ []))
 
-unfoldable pub cases : List Case
-cases =
+unfoldable pub manyRows : ℕ → List ℕ
+manyRows e = manyPoints e ++ replicate 3072 0
+
+unfoldable pub small : List Case
+small =
     -- 1 to 4
     claims [] (refused 1 0)
     ∷ claims (claimOf 0 (pos 0) [] []) (refused 2 0)
@@ -108,8 +109,11 @@ cases =
     ∷ record { claim = full (pos (2 ^ 30)); proof = proofOf 8 (pos 1) 0 [] []; answer = accepted 0 }
     ∷ record { claim = full (negsuc (2 ^ 30 - 1)); proof = proofOf 8 (pos 1) 0 [] []; answer = accepted 0 }
     ∷ proves (oneRow 0 120 (pos (2 ^ 30)) (pos (2 ^ 30)) (negsuc (2 ^ 30 - 1))) (accepted 0)
-    ∷ proves manyRows (refused 12 255)
+    ∷ proves (manyRows 121) (refused 12 255)
     ∷ []
+
+unfoldable pub cases : List Case
+cases = proves (manyRows 120) (accepted 0) ∷ small
 
 -- the definitions give every answer
 abbrev pub Worked : Type 0

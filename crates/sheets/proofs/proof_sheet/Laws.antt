@@ -46,8 +46,8 @@ triple-inside s n k i at room l e = omega (arith, mul-le-mul-right 12 l)
 
 -- a prime marks a number as the machine reads it back
 pub triple-read : (s : List ℕ) (n k i at : ℕ) (p p′ q q′ r r′ : ℤ) → at ≡ tripleAt n k i → p ≡ i32At s at
-    → q ≡ i32At s (at + 4)
-    → r ≡ i32At s (at + 8) → p′ ≡ p → q′ ≡ q → r′ ≡ r → record { p = p′; q = q′; r = r′ } ≡ tripleOf s n k i
+    → q ≡ i32At s (at + 4) → r ≡ i32At s (at + 8) → p′ ≡ p → q′ ≡ q → r′ ≡ r
+    → record { p = p′; q = q′; r = r′ } ≡ tripleOf s n k i
 unfolding tripleOf wordsAt
 triple-read s n k i at p p′ q q′ r r′ e ep eq er bp bq br = rw (bp, bq, br, ep, eq, er, e)
 
@@ -62,8 +62,7 @@ weights-pair lone x p q r h ep eq er = rw (h, ep, eq, er)
 
 pub row-read : (s : List ℕ) (n k i : ℕ) (v w : Point) (lone : Bool) (x : Triple) (a : Weights) → v ≡ pointOf (vOf s n i)
     → w ≡ pointOf (wOf s n i) → lone ≡ samePoint (exponents v) (exponents w) → x ≡ tripleOf s n k i
-    → a ≡ weightsOf lone x
-    → record { v = v; w = w; weights = a } ≡ byValue (rowOf s n k i)
+    → a ≡ weightsOf lone x → record { v = v; w = w; weights = a } ≡ byValue (rowOf s n k i)
 unfolding byValue rowOf
 row-read s n k i v w lone x a ev ew el ex ea =
     rw (ea, ex, el, ev, ew, exponents-of (vOf s n i), exponents-of (wOf s n i))
@@ -80,8 +79,8 @@ unfolding tripleFor
 for-lone a p p′ e ep = rw (e, ep)
 
 pub triple-written : (out o₁ o₂ o₃ : List ℕ) (at : ℕ) (x : Triple) (p q r : ℤ) → o₁ ≡ withI32 out at p
-    → o₂ ≡ withI32 o₁ (at + 4) q
-    → o₃ ≡ withI32 o₂ (at + 8) r → p ≡ x .p → q ≡ x .q → r ≡ x .r → o₃ ≡ withTriple out at x
+    → o₂ ≡ withI32 o₁ (at + 4) q → o₃ ≡ withI32 o₂ (at + 8) r → p ≡ x .p → q ≡ x .q → r ≡ x .r
+    → o₃ ≡ withTriple out at x
 unfolding withTriple
 triple-written out o₁ o₂ o₃ at x p q r e₁ e₂ e₃ ep eq er = e₃ ∙ rw (e₂, e₁, ep, eq, er)
 
