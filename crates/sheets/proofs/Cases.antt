@@ -24,8 +24,7 @@ use Rattle.sheets.specs.Cases.{Case, joined, word, words, claimOf, proof
 use Rattle.sheets.specs.declared.answers.Verdict.the-variants.{Accepted}
 use Rattle.sheets.specs.declared.proof_checks.RowRule.the-variants as R
 use Rattle.sheets.specs.declared.searches.Found.the-variants.{Nothing}
-use Rattle.sheets.proofs.answers.Laws.{then-passed}
-use Rattle.sheets.proofs.proof_checks.Laws.{rows-pass}
+use Rattle.sheets.proofs.answers.Laws.{passed-at, then-passed}
 use Rattle.sheets.proofs.searches.Laws.{nothing-first}
 
 small-worked : map (λ (c : Case). sheetsAnswer (c .claim) (c .proof)) small ≡ map (λ (c : Case). c .answer) small
@@ -85,9 +84,12 @@ unfolding first P.breaks samePoint everyPair vOf wOf bytesAt table many manyRows
 none-lone = refl
 
 rows-right : says (Accepted 0) ≡ P.rowsAnswer many 1 256
+unfolding P.rowsAnswer says
 rows-right =
-    rows-pass many 1 256 Nothing exponents-low refl Nothing midpoints-whole refl Nothing none-lone refl Nothing
-    (nothing-first (P.breaks (R.Weight greatestWeight) many 1 256) 256 weights-light) refl
+    passed-at (Accepted 0) Nothing _ 12 _ exponents-low refl
+    (passed-at (Accepted 0) Nothing _ 13 _ midpoints-whole refl
+    (passed-at (Accepted 0) Nothing _ 14 _ none-lone refl
+    (passed-at (Accepted 0) Nothing _ 15 _ (nothing-first _ 256 weights-light) refl refl)))
 
 claim-right : says (Accepted 0) ≡ C.claimAnswer square
 unfolding

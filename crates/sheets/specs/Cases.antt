@@ -27,7 +27,7 @@ words zs = joined (map word zs)
 unfoldable pub claimOf : ℕ → ℤ → List (List ℕ) → List ℤ → List ℕ
 claimOf n b points coefficients = n ∷ length points ∷ 0 ∷ 0 ∷ word b ++ (joined points ++ words coefficients)
 
--- n, the scale, the rows' points (v, w, v, w, ..) and the weights (p, q, r, p, ..), for up to 255 rows
+-- n, the scale, the number of rows (up to 255), their points (v, w, v, w, ..) and weights (p, q, r, p, ..)
 unfoldable pub proofOf : ℕ → ℤ → ℕ → List (List ℕ) → List ℤ → List ℕ
 proofOf n S k points weights = n ∷ 0 ∷ k ∷ 0 ∷ word S ++ (joined points ++ words weights)
 
@@ -70,6 +70,7 @@ manyPoints e = 1 ∷ 0 ∷ 0 ∷ 1 ∷ word (pos (2 ^ 20)) ++ (joined (replicate
 unfoldable pub manyRows : ℕ → List ℕ
 manyRows e = manyPoints e ++ replicate 3072 0
 
+-- all but one
 unfoldable pub small : List Case
 small =
     -- 1 to 4

@@ -32,17 +32,17 @@ pub record ClaimFacts (c : List ℕ) (n t : ℕ) : Type 0 where
   pub few : n ≤ 8
   pub terms : t ≤ 64
   pub sized : length c ≡ claimLength n t
-  pub floor : natAbs (floorOf c) ≤ greatestWeight
+  pub floor-within : natAbs (floorOf c) ≤ greatestWeight
   pub nonzero : (i : ℕ) → i < t → 1 ≤ natAbs (coefficientOf c n t i)
-  pub light : (i : ℕ) → i < t → natAbs (coefficientOf c n t i) ≤ greatestWeight
-  pub low : (i : ℕ) → i < t → exponentsWithin greatestExponent (termPoint c n i) ≡ true
+  pub coefficient-within : (i : ℕ) → i < t → natAbs (coefficientOf c n t i) ≤ greatestWeight
+  pub exponents-within : (i : ℕ) → i < t → exponentsWithin greatestExponent (termPoint c n i) ≡ true
   pub rising : (i : ℕ) → suc i < t → risesTo (termPoint c n i) (termPoint c n (suc i)) ≡ true
 
 -- three numbers within ± a limit
-pub record Light (limit : ℕ) (x : Triple) : Type 0 where
-  pub p-light : natAbs (x .p) ≤ limit
-  pub q-light : natAbs (x .q) ≤ limit
-  pub r-light : natAbs (x .r) ≤ limit
+pub record Within (limit : ℕ) (x : Triple) : Type 0 where
+  pub p-within : natAbs (x .p) ≤ limit
+  pub q-within : natAbs (x .q) ≤ limit
+  pub r-within : natAbs (x .r) ≤ limit
 
 -- a proof of n variables and k rows that passes 8 to 10 and 12 to 15
 pub record ProofFacts (s : List ℕ) (n k : ℕ) : Type 0 where
@@ -51,9 +51,9 @@ pub record ProofFacts (s : List ℕ) (n k : ℕ) : Type 0 where
   pub scaled : 1 ≤ scaleOf s
   pub scale : scaleOf s ≤ greatestScale
   pub sized : length s ≡ proofLength n k
-  pub v-low : (i : ℕ) → i < k → exponentsWithin greatestExponent (vOf s n i) ≡ true
-  pub w-low : (i : ℕ) → i < k → exponentsWithin greatestExponent (wOf s n i) ≡ true
+  pub v-within : (i : ℕ) → i < k → exponentsWithin greatestExponent (vOf s n i) ≡ true
+  pub w-within : (i : ℕ) → i < k → exponentsWithin greatestExponent (wOf s n i) ≡ true
   pub whole : (i : ℕ) → i < k → hasMidpoint (vOf s n i) (wOf s n i) ≡ true
   pub unused : (i : ℕ) → i < k → samePoint (vOf s n i) (wOf s n i) ≡ true
       → (tripleOf s n k i .q ≡ pos 0) × (tripleOf s n k i .r ≡ pos 0)
-  pub light : (i : ℕ) → i < k → Light greatestWeight (tripleOf s n k i)
+  pub weights-within : (i : ℕ) → i < k → Within greatestWeight (tripleOf s n k i)

@@ -63,3 +63,41 @@ module _ (v : Verdict) (a : Answer) (e : says v ≡ a) where
     pub then-passed : (r : Verdict) (later : Answer) → says r ≡ later → says r ≡ andThen a later
     unfolding andThen
     then-passed r later q = rw passed q
+
+-- ---- the ways through a chain of checks
+
+module _ (v : Verdict) (wrong : Bool) (number : ℕ) (later : Answer) where
+  pub refused-if : wrong ≡ true → says v ≡ refused number 0 → says v ≡ refuseIf wrong number later
+  unfolding refuseIf
+  refused-if h k = rw h k
+
+  pub passed-if : wrong ≡ false → says v ≡ later → says v ≡ refuseIf wrong number later
+  unfolding refuseIf
+  passed-if h k = rw h k
+
+-- r is what a test's function answered
+pub tested : (wrong b r : Bool) → r ≡ wrong → r ≡ b → wrong ≡ b
+tested wrong b r e h = sym e ∙ h
+
+-- f is what a search answered
+module _ (v : Verdict) (f found : Found) (number : ℕ) (later : Answer) (e : f ≡ found) where
+  pub refused-at : (i : ℕ) → f ≡ At i → says v ≡ refused number i → says v ≡ refuseAt found number later
+  unfolding refuseAt
+  refused-at i h k = rw (← e, h) k
+
+  pub passed-at : f ≡ Nothing → says v ≡ later → says v ≡ refuseAt found number later
+  unfolding refuseAt
+  passed-at h k = rw (← e, h) k
+
+-- an acceptance, and a refusal of the claim or of the proof as its number has it
+pub accepted-says : (k : ℕ) → says (Accepted k) ≡ accepted k
+unfolding says
+accepted-says k = refl
+
+pub claim-says : (number index : ℕ) → blames number ≡ claim → says (Refused (Claim number index)) ≡ refused number index
+unfolding says refused
+claim-says number index h = rw h
+
+pub proof-says : (number index : ℕ) → blames number ≡ proof → says (Refused (Proof number index)) ≡ refused number index
+unfolding says refused
+proof-says number index h = rw h

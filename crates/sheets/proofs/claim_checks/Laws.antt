@@ -12,19 +12,13 @@ use borrow.Author.Tests.{eq-eqb, ne-eqb, lt-ltb, le-ltb, le-leb, lt-leb, leb-tru
 use Rattle.monomials.specs.Points.{exponents, pointOf, risesTo, exponentsWithin}
 use Rattle.monomials.specs.declared.points.Point.{Point}
 use Rattle.monomials.proofs.points.Laws.{exponents-of}
-use Rattle.sheets.specs.Answers.{says, blames, refused, refuseIf, refuseAt}
-use Rattle.sheets.specs.Searches.{first}
-use Rattle.sheets.specs.Bounds.{greatestExponent, greatestWeight, beyond}
+use Rattle.sheets.specs.Answers.{says}
+use Rattle.sheets.specs.Bounds.{beyond}
 use Rattle.sheets.specs.Layout.{variables, termCount, place, ClaimRoom}
 use Rattle.sheets.specs.ClaimSheet.{floorOf, termPoint, coefficientOf}
-use Rattle.sheets.specs.ClaimChecks.{headerRight, breaks, termsAnswer, claimAnswer}
-use Rattle.sheets.specs.declared.answers.Sheet.the-variants.{Claim}
+use Rattle.sheets.specs.ClaimChecks.{headerRight, breaks, termsAnswer}
 use Rattle.sheets.specs.declared.answers.Verdict.{Verdict}
-use Rattle.sheets.specs.declared.answers.Verdict.the-variants.{Accepted, Refused}
-use Rattle.sheets.specs.declared.claim_checks.TermRule.{TermRule}
 use Rattle.sheets.specs.declared.claim_checks.TermRule.the-variants.{Coefficient, Exponent, Order}
-use Rattle.sheets.specs.declared.searches.Found.{Found}
-use Rattle.sheets.specs.declared.searches.Found.the-variants.{At, Nothing}
 
 -- ---- 2
 
@@ -87,33 +81,6 @@ unfolding breaks
 order-later c n t i p q r h ep eq er =
     rw (er, ep, eq, exponents-of (termPoint c n (i - 1)), exponents-of (termPoint c n i), lt-ltb 0 i (pos-of-ne-zero h))
 
--- ---- one rule of several
-
-pub rule-is : (rule kind : TermRule) (c : List ℕ) (n t i : ℕ) (r : Bool) → r ≡ breaks kind c n t i → rule ≡ kind
-    → r ≡ breaks rule c n t i
-rule-is rule kind c n t i r h e = h ∙ rw e
-
--- ---- 5 to 7
-
-module _ (c : List ℕ) (n t : ℕ) (f₅ : Found) (e₅ : f₅ ≡ first (breaks (Coefficient greatestWeight) c n t) t) where
-  pub terms-5 : (i : ℕ) → f₅ ≡ At i → says (Refused (Claim 5 i)) ≡ termsAnswer c n t
-  unfolding says termsAnswer refused blames refuseAt
-  terms-5 i h = rw (← e₅, h)
-
-  module _ (p₅ : f₅ ≡ Nothing) (f₆ : Found) (e₆ : f₆ ≡ first (breaks (Exponent greatestExponent) c n t) t) where
-    pub terms-6 : (i : ℕ) → f₆ ≡ At i → says (Refused (Claim 6 i)) ≡ termsAnswer c n t
-    unfolding says termsAnswer refused blames refuseAt
-    terms-6 i h = rw (← e₅, p₅, ← e₆, h)
-
-    module _ (p₆ : f₆ ≡ Nothing) (f₇ : Found) (e₇ : f₇ ≡ first (breaks Order c n t) t) where
-      pub terms-7 : (i : ℕ) → f₇ ≡ At i → says (Refused (Claim 7 i)) ≡ termsAnswer c n t
-      unfolding says termsAnswer refused blames refuseAt
-      terms-7 i h = rw (← e₅, p₅, ← e₆, p₆, ← e₇, h)
-
-      pub terms-pass : f₇ ≡ Nothing → says (Accepted 0) ≡ termsAnswer c n t
-      unfolding says termsAnswer refuseAt
-      terms-pass h = rw (← e₅, p₅, ← e₆, p₆, ← e₇, h)
-
 -- ---- 1 to 7
 
 -- a right header's counts
@@ -131,37 +98,18 @@ header-counts c h =
     let e = and-eq-true-iff _ _ .0 (d .0) in
     record { some = leb-true _ _ (e .0); few = leb-true _ _ (e .1); terms = leb-true _ _ (d .1) }
 
-module _ (c : List ℕ) where
-  pub claim-1 : length c < 8 → says (Refused (Claim 1 0)) ≡ claimAnswer c
-  unfolding says claimAnswer refused blames refuseIf
-  claim-1 h = rw (lt-ltb (length c) 8 h)
+-- what the checks 1 to 3 give: room for the terms
+pub claim-room : (c : List ℕ) (r : Bool) (n t l : ℕ) → r ≡ not (headerRight c) → r ≡ false → n ≡ variables c → t ≡ termCount c
+    → l ≡ place 8 t (n + 4) → length c ≡ l → ClaimRoom c n t
+claim-room c r n t l e h en et el p =
+    let counts = header-counts c (not-false _ (sym e ∙ h)) in
+    record { few = rw en (counts .few); terms = rw et (counts .terms); long = omega arith }
 
-  module _ (long : 8 ≤ length c) (r : Bool) (e₂ : r ≡ not (headerRight c)) where
-    pub claim-2 : r ≡ true → says (Refused (Claim 2 0)) ≡ claimAnswer c
-    unfolding says claimAnswer refused blames refuseIf
-    claim-2 h = rw (le-ltb (length c) 8 long, ← e₂, h)
+-- 4: z is the floor, z′ what the machine reads back of it
+pub floor-judged : (c : List ℕ) (limit : ℕ) (b r : Bool) (z z′ : ℤ) → r ≡ beyond limit z′ → z ≡ floorOf c → z′ ≡ z → r ≡ b
+    → beyond limit (floorOf c) ≡ b
+floor-judged c limit b r z z′ e ez back h = rw (← ez, ← back) (sym e ∙ h)
 
-    module _ (p₂ : r ≡ false) (n t l : ℕ) (en : n ≡ variables c) (et : t ≡ termCount c) (el : l ≡ place 8 t (n + 4)) where
-      pub claim-3 : (length c ≡ l → ⊥) → says (Refused (Claim 3 0)) ≡ claimAnswer c
-      unfolding says claimAnswer refused blames refuseIf
-      claim-3 h = rw (le-ltb (length c) 8 long, ← e₂, p₂, ← en, ← et, ← el, ne-eqb (length c) l h)
-
-      module _ (p₃ : length c ≡ l) where
-        pub claim-room : ClaimRoom c n t
-        claim-room =
-            let h = header-counts c (not-false _ (sym e₂ ∙ p₂)) in
-            record { few = rw en (h .few); terms = rw et (h .terms); long = omega arith }
-
-        module _ (z z′ : ℤ) (b : Bool) (ez : z ≡ floorOf c) (back : z′ ≡ z) (e₄ : b ≡ beyond greatestWeight z′) where
-          floor-judged : beyond greatestWeight (floorOf c) ≡ b
-          floor-judged = sym (e₄ ∙ rw (back, ez))
-
-          pub claim-4 : b ≡ true → says (Refused (Claim 4 0)) ≡ claimAnswer c
-          unfolding says claimAnswer refused blames refuseIf
-          claim-4 h =
-              rw (le-ltb (length c) 8 long, ← e₂, p₂, ← en, ← et, ← el, eq-eqb (length c) l p₃, floor-judged, h)
-
-          pub claim-terms : b ≡ false → (v : Verdict) → says v ≡ termsAnswer c n t → says v ≡ claimAnswer c
-          unfolding claimAnswer refuseIf
-          claim-terms h v k =
-              rw (le-ltb (length c) 8 long, ← e₂, p₂, ← en, ← et, ← el, eq-eqb (length c) l p₃, floor-judged, h) k
+pub terms-judged : (c : List ℕ) (n t : ℕ) (v : Verdict) → says v ≡ termsAnswer c n t → n ≡ variables c → t ≡ termCount c
+    → says v ≡ termsAnswer c (variables c) (termCount c)
+terms-judged c n t v h en et = rw (← en, ← et) h

@@ -2,27 +2,21 @@
 use mathlib.Core.Path.{_≡_, refl, _∙_, ap}
 use mathlib.Core.Bool.{Bool, true, false, not, _&&_}
 use mathlib.Core.List.{List}
-use Prim.Native.Nat.{ℕ, _+_, _-_, _*_, _<_, _≤_}
+use Prim.Native.Nat.{ℕ, _-_, _<_, _≤_}
 use lib.Dec.{eqb, ltb, leb}
 use lib.IntN.{ℤ, natAbs}
-use lib.ListN.{length, getD}
+use lib.ListN.{getD}
 use borrow.Author.Tests.{eq-eqb, ne-eqb, lt-ltb, le-ltb, le-leb, lt-leb, leb-true, leb-false}
 use Rattle.monomials.specs.Points.{exponents, pointOf, samePoint, hasMidpoint, exponentsWithin}
 use Rattle.monomials.specs.declared.points.Point.{Point}
 use Rattle.monomials.proofs.points.Laws.{exponents-of}
-use Rattle.sheets.specs.Answers.{says, blames, refused, refuseIf, refuseAt}
-use Rattle.sheets.specs.Searches.{first}
-use Rattle.sheets.specs.Bounds.{greatestExponent, greatestWeight, greatestRows, greatestScale, beyond}
-use Rattle.sheets.specs.Layout.{variables, rowCount, place}
+use Rattle.sheets.specs.Bounds.{greatestScale, beyond}
+use Rattle.sheets.specs.Layout.{variables, rowCount}
 use Rattle.sheets.specs.ProofSheet.{scaleOf, vOf, wOf, tripleOf}
-use Rattle.sheets.specs.ProofChecks.{headerRight, headerAnswer, carries, anyBeyond, breaks, rowsAnswer}
-use Rattle.sheets.specs.declared.answers.Sheet.the-variants.{Proof}
-use Rattle.sheets.specs.declared.answers.Verdict.the-variants.{Accepted, Refused}
+use Rattle.sheets.specs.ProofChecks.{headerRight, carries, anyBeyond, breaks}
 use Rattle.sheets.specs.declared.proof_checks.RowRule.{RowRule}
 use Rattle.sheets.specs.declared.proof_checks.RowRule.the-variants.{Exponent, Midpoint, Unused, Weight}
 use Rattle.sheets.specs.declared.proof_sheet.Triple.{Triple}
-use Rattle.sheets.specs.declared.searches.Found.{Found}
-use Rattle.sheets.specs.declared.searches.Found.the-variants.{At, Nothing}
 
 -- ---- 9
 
@@ -59,28 +53,6 @@ module _ (s : List ℕ) (limit n m : ℕ) (em : m ≡ variables s) where
         pub header-scale : 1 ≤ u → ltb greatestScale u ≡ not (headerRight limit n s)
         unfolding headerRight
         header-scale h = rw (right, ← eu, le-leb 1 u h) (over greatestScale u)
-
--- ---- 8 to 10
-
-module _ (s : List ℕ) (n : ℕ) where
-  pub header-8 : length s < 8 → says (Refused (Proof 8 0)) ≡ headerAnswer n s
-  unfolding says headerAnswer refused blames refuseIf
-  header-8 h = rw (lt-ltb (length s) 8 h)
-
-  module _ (long : 8 ≤ length s) (r : Bool) (e : r ≡ not (headerRight greatestRows n s)) where
-    pub header-9 : r ≡ true → says (Refused (Proof 9 0)) ≡ headerAnswer n s
-    unfolding says headerAnswer refused blames refuseIf
-    header-9 h = rw (le-ltb (length s) 8 long, ← e, h)
-
-    module _ (p : r ≡ false) (k m l : ℕ)
-        (ek : k ≡ rowCount s) (em : m ≡ variables s) (el : l ≡ place 8 k (2 * m + 12)) where
-      pub header-10 : (length s ≡ l → ⊥) → says (Refused (Proof 10 0)) ≡ headerAnswer n s
-      unfolding says headerAnswer refused blames refuseIf
-      header-10 h = rw (le-ltb (length s) 8 long, ← e, p, ← ek, ← em, ← el, ne-eqb (length s) l h)
-
-      pub header-passes : length s ≡ l → says (Accepted 0) ≡ headerAnswer n s
-      unfolding says headerAnswer refuseIf
-      header-passes h = rw (le-ltb (length s) 8 long, ← e, p, ← ek, ← em, ← el, eq-eqb (length s) l h)
 
 -- ---- 12 and 13: points by value
 
@@ -147,35 +119,3 @@ pub weight-judged : (s : List ℕ) (n k i limit : ℕ) (rule : RowRule) (x : Tri
     → r ≡ anyBeyond limit x → rule ≡ Weight limit → r ≡ breaks rule s n k i
 unfolding breaks
 weight-judged s n k i limit rule x r ex er e = er ∙ rw (e, ex)
-
--- ---- one rule of several
-
-pub rule-is : (rule kind : RowRule) (s : List ℕ) (n k i : ℕ) (r : Bool) → r ≡ breaks kind s n k i → rule ≡ kind
-    → r ≡ breaks rule s n k i
-rule-is rule kind s n k i r h e = h ∙ rw e
-
--- ---- 12 to 15
-
-module _ (s : List ℕ) (n k : ℕ) (f₂ : Found) (e₂ : f₂ ≡ first (breaks (Exponent greatestExponent) s n k) k) where
-  pub rows-12 : (i : ℕ) → f₂ ≡ At i → says (Refused (Proof 12 i)) ≡ rowsAnswer s n k
-  unfolding says rowsAnswer refused blames refuseAt
-  rows-12 i h = rw (← e₂, h)
-
-  module _ (p₂ : f₂ ≡ Nothing) (f₃ : Found) (e₃ : f₃ ≡ first (breaks Midpoint s n k) k) where
-    pub rows-13 : (i : ℕ) → f₃ ≡ At i → says (Refused (Proof 13 i)) ≡ rowsAnswer s n k
-    unfolding says rowsAnswer refused blames refuseAt
-    rows-13 i h = rw (← e₂, p₂, ← e₃, h)
-
-    module _ (p₃ : f₃ ≡ Nothing) (f₄ : Found) (e₄ : f₄ ≡ first (breaks Unused s n k) k) where
-      pub rows-14 : (i : ℕ) → f₄ ≡ At i → says (Refused (Proof 14 i)) ≡ rowsAnswer s n k
-      unfolding says rowsAnswer refused blames refuseAt
-      rows-14 i h = rw (← e₂, p₂, ← e₃, p₃, ← e₄, h)
-
-      module _ (p₄ : f₄ ≡ Nothing) (f₅ : Found) (e₅ : f₅ ≡ first (breaks (Weight greatestWeight) s n k) k) where
-        pub rows-15 : (i : ℕ) → f₅ ≡ At i → says (Refused (Proof 15 i)) ≡ rowsAnswer s n k
-        unfolding says rowsAnswer refused blames refuseAt
-        rows-15 i h = rw (← e₂, p₂, ← e₃, p₃, ← e₄, p₄, ← e₅, h)
-
-        pub rows-pass : f₅ ≡ Nothing → says (Accepted 0) ≡ rowsAnswer s n k
-        unfolding says rowsAnswer refuseAt
-        rows-pass h = rw (← e₂, p₂, ← e₃, p₃, ← e₄, p₄, ← e₅, h)

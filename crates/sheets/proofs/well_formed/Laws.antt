@@ -21,7 +21,7 @@ use Rattle.sheets.specs.ClaimSheet.{floorOf, termPoint, coefficientOf, t
 use Rattle.sheets.specs.ClaimChecks as C
 use Rattle.sheets.specs.ProofSheet.{scaleOf, vOf, wOf, tripleOf, weightsOf, rowOf, rowsOf}
 use Rattle.sheets.specs.ProofChecks as P
-use Rattle.sheets.specs.WellFormed.{sheetsAnswer, WellFormed, ClaimFacts, Light, ProofFacts}
+use Rattle.sheets.specs.WellFormed.{sheetsAnswer, WellFormed, ClaimFacts, Within, ProofFacts}
 use Rattle.sheets.specs.declared.answers.Sheet.{Sheet}
 use Rattle.sheets.specs.declared.answers.Verdict.{Verdict}
 use Rattle.sheets.specs.declared.answers.Verdict.the-variants.{Accepted, Refused}
@@ -55,10 +55,10 @@ module _ (c : List ℕ) (n t i : ℕ) where
       let z = nor (eqb (natAbs (coefficientOf c n t i)) 0) _ h in
       (positive _ (z .0), within-bound greatestWeight _ (z .1))
 
-  low-fact : C.breaks (T.Exponent greatestExponent) c n t i ≡ false
+  exponents-fact : C.breaks (T.Exponent greatestExponent) c n t i ≡ false
       → exponentsWithin greatestExponent (termPoint c n i) ≡ true
   unfolding C.breaks
-  low-fact h = not-false _ h
+  exponents-fact h = not-false _ h
 
   rising-fact : C.breaks T.Order c n t (suc i) ≡ false → risesTo (termPoint c n i) (termPoint c n (suc i)) ≡ true
   unfolding C.breaks
@@ -83,20 +83,20 @@ claim-facts c h =
       few = counts .few;
       terms = counts .terms;
       sized = eqb-true _ _ (not-false _ (p₃ .0));
-      floor = within-bound greatestWeight (floorOf c) (p₄ .0);
+      floor-within = within-bound greatestWeight (floorOf c) (p₄ .0);
       nonzero = λ i l. coefficient-facts c _ _ i (first-nothing _ _ (p₅ .0) i l) .0;
-      light = λ i l. coefficient-facts c _ _ i (first-nothing _ _ (p₅ .0) i l) .1;
-      low = λ i l. low-fact c _ _ i (first-nothing _ _ (p₆ .0) i l);
+      coefficient-within = λ i l. coefficient-facts c _ _ i (first-nothing _ _ (p₅ .0) i l) .1;
+      exponents-within = λ i l. exponents-fact c _ _ i (first-nothing _ _ (p₆ .0) i l);
       rising = λ i l. rising-fact c _ _ i (first-nothing _ _ (p₇ .0) (suc i) l);
     }
 
 -- ---- the proof
 
 module _ (s : List ℕ) (n k i : ℕ) where
-  low-facts : P.breaks (R.Exponent greatestExponent) s n k i ≡ false
+  ends-facts : P.breaks (R.Exponent greatestExponent) s n k i ≡ false
       → (exponentsWithin greatestExponent (vOf s n i) ≡ true) × (exponentsWithin greatestExponent (wOf s n i) ≡ true)
   unfolding P.breaks
-  low-facts h = let z = nor _ _ h in (not-false _ (z .0), not-false _ (z .1))
+  ends-facts h = let z = nor _ _ h in (not-false _ (z .0), not-false _ (z .1))
 
   whole-fact : P.breaks R.Midpoint s n k i ≡ false → hasMidpoint (vOf s n i) (wOf s n i) ≡ true
   unfolding P.breaks
@@ -109,12 +109,12 @@ module _ (s : List ℕ) (n k i : ℕ) where
       let z = nor _ _ (nand (samePoint (vOf s n i) (wOf s n i)) _ h e) in
       (abs-zero _ (eqb-true _ _ (not-false _ (z .0))), abs-zero _ (eqb-true _ _ (not-false _ (z .1))))
 
-  light-fact : P.breaks (R.Weight greatestWeight) s n k i ≡ false → Light greatestWeight (tripleOf s n k i)
+  weights-fact : P.breaks (R.Weight greatestWeight) s n k i ≡ false → Within greatestWeight (tripleOf s n k i)
   unfolding P.breaks P.anyBeyond
-  light-fact h =
+  weights-fact h =
       let y = nor _ _ h in
       let z = nor _ _ (y .0) in
-      record { p-light = within-bound _ _ (z .0); q-light = within-bound _ _ (z .1); r-light = within-bound _ _ (y .1) }
+      record { p-within = within-bound _ _ (z .0); q-within = within-bound _ _ (z .1); r-within = within-bound _ _ (y .1) }
 
 -- a proof of n variables and k rows that passes 8 to 10
 pub record Header (s : List ℕ) (n k : ℕ) : Type 0 where
@@ -159,11 +159,11 @@ proof-facts n s g h =
       scaled = a .scaled;
       scale = a .scale;
       sized = a .sized;
-      v-low = λ i l. low-facts s n _ i (first-nothing _ _ (p₁₂ .0) i l) .0;
-      w-low = λ i l. low-facts s n _ i (first-nothing _ _ (p₁₂ .0) i l) .1;
+      v-within = λ i l. ends-facts s n _ i (first-nothing _ _ (p₁₂ .0) i l) .0;
+      w-within = λ i l. ends-facts s n _ i (first-nothing _ _ (p₁₂ .0) i l) .1;
       whole = λ i l. whole-fact s n _ i (first-nothing _ _ (p₁₃ .0) i l);
       unused = λ i l. unused-facts s n _ i (first-nothing _ _ (p₁₄ .0) i l);
-      light = λ i l. light-fact s n _ i (first-nothing _ _ (p₁₅ .0) i l);
+      weights-within = λ i l. weights-fact s n _ i (first-nothing _ _ (p₁₅ .0) i l);
     }
 
 -- ---- both

@@ -1,17 +1,24 @@
+use borrow.Author.Tests.{lt-ltb, le-ltb}
 use mir.Facts.{toZ-ofZ}
-use Rattle.sheets.proofs.claim_checks.Laws.{claim-1, claim-2, claim-3, claim-4, claim-room, claim-terms}
+use Rattle.sheets.specs.Answers.{blames}
+use Rattle.sheets.specs.ClaimChecks.{claimAnswer}
+use Rattle.sheets.proofs.answers.Laws.{refused-if, passed-if, tested, claim-says}
+use Rattle.sheets.proofs.layout.Laws.{length-other, length-same, claim-asked}
+use Rattle.sheets.proofs.claim_checks.Laws.{claim-room, floor-judged, terms-judged}
 use borrow.Author.Needs.{needs}
 use Rattle.sheets.proofs.claim_checks.check_claim.Statement.{statement}
 use Rattle.sheets.proofs.claim_checks.check_claim.Tie as tie
 
 returns : tie.Need-returns
-returns c = search claim-1
+unfolding claimAnswer blames
+returns c = refused-if _ _ 1 _ (search lt-ltb) (search claim-says)
 
 header-wrong-requires : tie.Need-header-wrong-requires
 header-wrong-requires c κs = search needs
 
 returns-2 : tie.Need-returns-2
-returns-2 c = search claim-2
+unfolding claimAnswer blames
+returns-2 c = passed-if _ _ 1 _ (search le-ltb) (refused-if _ _ 2 _ (search tested) (search claim-says))
 
 variables-requires : tie.Need-variables-requires
 variables-requires c κs = search needs
@@ -26,7 +33,8 @@ place-of-requires : tie.Need-place-of-requires
 place-of-requires c κs = search needs
 
 returns-3 : tie.Need-returns-3
-returns-3 c = search claim-3
+unfolding claimAnswer blames
+returns-3 c = passed-if _ _ 1 _ (search le-ltb) (passed-if _ _ 2 _ (search tested) (refused-if _ _ 3 _ (length-other _ _ _ (c .if3 .taken) (search claim-asked)) (search claim-says)))
 
 floor-requires : tie.Need-floor-requires
 floor-requires c κs = search needs
@@ -35,13 +43,15 @@ is-beyond-requires : tie.Need-is-beyond-requires
 is-beyond-requires c κs = search needs
 
 returns-4 : tie.Need-returns-4
-returns-4 c = search (claim-4, toZ-ofZ)
+unfolding claimAnswer blames
+returns-4 c = passed-if _ _ 1 _ (search le-ltb) (passed-if _ _ 2 _ (search tested) (passed-if _ _ 3 _ (search (length-same, claim-asked)) (refused-if _ _ 4 _ (search (floor-judged, toZ-ofZ)) (search claim-says))))
 
 check-terms-requires : tie.Need-check-terms-requires
 check-terms-requires c κs = search claim-room
 
 returns-5 : tie.Need-returns-5
-returns-5 c = search (claim-terms, toZ-ofZ)
+unfolding claimAnswer
+returns-5 c = passed-if _ _ 1 _ (search le-ltb) (passed-if _ _ 2 _ (search tested) (passed-if _ _ 3 _ (search (length-same, claim-asked)) (passed-if _ _ 4 _ (search (floor-judged, toZ-ofZ)) (search terms-judged))))
 
 pub check-claim-spec : {M : Type 1} → statement M
 check-claim-spec =

@@ -1,4 +1,6 @@
-use Rattle.sheets.proofs.claim_checks.Laws.{terms-5, terms-6, terms-7, terms-pass}
+use Rattle.sheets.specs.Answers.{blames}
+use Rattle.sheets.specs.ClaimChecks.{termsAnswer}
+use Rattle.sheets.proofs.answers.Laws.{refused-at, passed-at, accepted-says, claim-says}
 use borrow.Author.Needs.{needs}
 use Rattle.sheets.proofs.claim_checks.check_terms.Statement.{statement}
 use Rattle.sheets.proofs.claim_checks.check_terms.Tie as tie
@@ -10,7 +12,8 @@ enum-known-i : tie.Need-enum-known-i
 enum-known-i c = search needs
 
 returns : tie.Need-returns
-returns c = search terms-5
+unfolding termsAnswer blames
+returns c = search (refused-at, passed-at, claim-says)
 
 enum-told : tie.Need-enum-told
 enum-told c = search needs
@@ -22,7 +25,8 @@ enum-known-i-2 : tie.Need-enum-known-i-2
 enum-known-i-2 c = search needs
 
 returns-2 : tie.Need-returns-2
-returns-2 c = search terms-6
+unfolding termsAnswer blames
+returns-2 c = search (refused-at, passed-at, claim-says)
 
 enum-told-2 : tie.Need-enum-told-2
 enum-told-2 c = search needs
@@ -34,13 +38,15 @@ enum-known-i-3 : tie.Need-enum-known-i-3
 enum-known-i-3 c = search needs
 
 returns-3 : tie.Need-returns-3
-returns-3 c = search terms-7
+unfolding termsAnswer blames
+returns-3 c = search (refused-at, passed-at, claim-says)
 
 enum-told-3 : tie.Need-enum-told-3
 enum-told-3 c = search needs
 
 returns-4 : tie.Need-returns-4
-returns-4 c = search terms-pass
+unfolding termsAnswer
+returns-4 c = search (passed-at, accepted-says)
 
 pub check-terms-spec : {M : Type 1} → statement M
 check-terms-spec =

@@ -1,4 +1,3 @@
-use Rattle.sheets.proofs.claim_checks.Laws.{rule-is}
 use borrow.Author.Needs.{needs}
 use Rattle.sheets.proofs.claim_checks.term_wrong.Statement.{statement}
 use Rattle.sheets.proofs.claim_checks.term_wrong.Tie as tie
@@ -22,13 +21,13 @@ order-wrong-requires : tie.Need-order-wrong-requires
 order-wrong-requires c κs = search needs
 
 returns : tie.Need-returns
-returns c = search rule-is
+returns c = cc
 
 returns-2 : tie.Need-returns-2
-returns-2 c = search rule-is
+returns-2 c = cc
 
 returns-3 : tie.Need-returns-3
-returns-3 c = search rule-is
+returns-3 c = cc
 
 pub term-wrong-spec : {M : Type 1} → statement M
 term-wrong-spec =

@@ -1,16 +1,22 @@
-use Rattle.sheets.proofs.proof_checks.Laws.{header-8, header-9, header-10, header-passes}
+use borrow.Author.Tests.{lt-ltb, le-ltb}
+use Rattle.sheets.specs.Answers.{blames}
+use Rattle.sheets.specs.ProofChecks.{headerAnswer}
+use Rattle.sheets.proofs.answers.Laws.{refused-if, passed-if, tested, accepted-says, proof-says}
+use Rattle.sheets.proofs.layout.Laws.{length-other, length-same, proof-asked}
 use borrow.Author.Needs.{needs}
 use Rattle.sheets.proofs.proof_checks.check_header.Statement.{statement}
 use Rattle.sheets.proofs.proof_checks.check_header.Tie as tie
 
 returns : tie.Need-returns
-returns c = search header-8
+unfolding headerAnswer blames
+returns c = refused-if _ _ 8 _ (search lt-ltb) (search proof-says)
 
 header-wrong-requires : tie.Need-header-wrong-requires
 header-wrong-requires c κs = search needs
 
 returns-2 : tie.Need-returns-2
-returns-2 c = search header-9
+unfolding headerAnswer blames
+returns-2 c = passed-if _ _ 8 _ (search le-ltb) (refused-if _ _ 9 _ (search tested) (search proof-says))
 
 row-count-requires : tie.Need-row-count-requires
 row-count-requires c κs = search needs
@@ -28,10 +34,12 @@ place-of-requires : tie.Need-place-of-requires
 place-of-requires c κs = search needs
 
 returns-3 : tie.Need-returns-3
-returns-3 c = search header-10
+unfolding headerAnswer blames
+returns-3 c = passed-if _ _ 8 _ (search le-ltb) (passed-if _ _ 9 _ (search tested) (refused-if _ _ 10 _ (length-other _ _ _ (c .if3 .taken) (search proof-asked)) (search proof-says)))
 
 returns-4 : tie.Need-returns-4
-returns-4 c = search header-passes
+unfolding headerAnswer
+returns-4 c = passed-if _ _ 8 _ (search le-ltb) (passed-if _ _ 9 _ (search tested) (passed-if _ _ 10 _ (search (length-same, proof-asked)) (search accepted-says)))
 
 pub check-header-spec : {M : Type 1} → statement M
 check-header-spec =

@@ -1,4 +1,6 @@
-use Rattle.sheets.proofs.proof_checks.Laws.{rows-12, rows-13, rows-14, rows-15, rows-pass}
+use Rattle.sheets.specs.Answers.{blames}
+use Rattle.sheets.specs.ProofChecks.{rowsAnswer}
+use Rattle.sheets.proofs.answers.Laws.{refused-at, passed-at, accepted-says, proof-says}
 use borrow.Author.Needs.{needs}
 use Rattle.sheets.proofs.proof_checks.check_rows.Statement.{statement}
 use Rattle.sheets.proofs.proof_checks.check_rows.Tie as tie
@@ -10,7 +12,8 @@ enum-known-i : tie.Need-enum-known-i
 enum-known-i c = search needs
 
 returns : tie.Need-returns
-returns c = search rows-12
+unfolding rowsAnswer blames
+returns c = search (refused-at, passed-at, proof-says)
 
 enum-told : tie.Need-enum-told
 enum-told c = search needs
@@ -22,7 +25,8 @@ enum-known-i-2 : tie.Need-enum-known-i-2
 enum-known-i-2 c = search needs
 
 returns-2 : tie.Need-returns-2
-returns-2 c = search rows-13
+unfolding rowsAnswer blames
+returns-2 c = search (refused-at, passed-at, proof-says)
 
 enum-told-2 : tie.Need-enum-told-2
 enum-told-2 c = search needs
@@ -34,7 +38,8 @@ enum-known-i-3 : tie.Need-enum-known-i-3
 enum-known-i-3 c = search needs
 
 returns-3 : tie.Need-returns-3
-returns-3 c = search rows-14
+unfolding rowsAnswer blames
+returns-3 c = search (refused-at, passed-at, proof-says)
 
 enum-told-3 : tie.Need-enum-told-3
 enum-told-3 c = search needs
@@ -46,13 +51,15 @@ enum-known-i-4 : tie.Need-enum-known-i-4
 enum-known-i-4 c = search needs
 
 returns-4 : tie.Need-returns-4
-returns-4 c = search rows-15
+unfolding rowsAnswer blames
+returns-4 c = search (refused-at, passed-at, proof-says)
 
 enum-told-4 : tie.Need-enum-told-4
 enum-told-4 c = search needs
 
 returns-5 : tie.Need-returns-5
-returns-5 c = search rows-pass
+unfolding rowsAnswer
+returns-5 c = search (passed-at, accepted-says)
 
 pub check-rows-spec : {M : Type 1} → statement M
 check-rows-spec =

@@ -1,4 +1,4 @@
-use Rattle.sheets.proofs.proof_checks.Laws.{rule-is, weight-judged}
+use Rattle.sheets.proofs.proof_checks.Laws.{weight-judged}
 use borrow.Author.Needs.{needs}
 use Rattle.sheets.proofs.proof_checks.row_wrong.Statement.{statement}
 use Rattle.sheets.proofs.proof_checks.row_wrong.Tie as tie
@@ -31,13 +31,13 @@ any-beyond-requires : tie.Need-any-beyond-requires
 any-beyond-requires c κs = search needs
 
 returns : tie.Need-returns
-returns c = search rule-is
+returns c = cc
 
 returns-2 : tie.Need-returns-2
-returns-2 c = search rule-is
+returns-2 c = cc
 
 returns-3 : tie.Need-returns-3
-returns-3 c = search rule-is
+returns-3 c = cc
 
 returns-4 : tie.Need-returns-4
 returns-4 c = search weight-judged
