@@ -1,4 +1,4 @@
--- Cases: the table's examples for 1 to 10 and 12 to 15, sheets that break two rules, sheets at the limits, and their answers.
+-- Cases: the table's examples for 1 to 10 and 12 to 15, sheets that break two rules, and sheets at the limits.
 use mathlib.Core.Path.{_≡_}
 use mathlib.Core.List.{List, [], _∷_, _++_, map}
 use Prim.Native.Nat.{ℕ, _+_, _-_, _^_}

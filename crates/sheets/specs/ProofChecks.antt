@@ -37,7 +37,8 @@ carries x = not (eqb (natAbs (x .q)) 0) || not (eqb (natAbs (x .r)) 0)
 unfoldable pub anyBeyond : ℕ → Triple → Bool
 anyBeyond limit x = beyond limit (x .p) || beyond limit (x .q) || beyond limit (x .r)
 
--- row i breaks a rule: "exponent over" the limit, "no whole midpoint", "lone row, q or r not zero", "proposed weight beyond" it
+-- row i breaks a rule: "exponent over" the limit, "no whole midpoint", "lone row, q or r not zero", "proposed weight
+-- beyond" the limit
 unfoldable pub breaks : RowRule → List ℕ → ℕ → ℕ → ℕ → Bool
 breaks (Exponent limit) s n k i = not (exponentsWithin limit (vOf s n i)) || not (exponentsWithin limit (wOf s n i))
 breaks Midpoint s n k i = not (hasMidpoint (vOf s n i) (wOf s n i))

@@ -1,4 +1,4 @@
--- The ways through the checks of the claim, one law for each.
+-- Laws of the checks of the claim: the ways through the code, by the numbers of the refusals.
 use mathlib.Core.Path.{_≡_, sym, _∙_, ap}
 use mathlib.Core.Bool.{Bool, true, false, not, and-eq-true-iff, _&&_}
 use mathlib.Core.List.{List}
@@ -81,7 +81,7 @@ unfolding breaks
 order-later c n t i p q r h ep eq er =
     rw (er, ep, eq, exponents-of (termPoint c n (i - 1)), exponents-of (termPoint c n i), lt-ltb 0 i (pos-of-ne-zero h))
 
--- ---- 1 to 7
+-- ---- 3, 4, and room for the terms
 
 -- a right header's counts
 pub record Counts (n t : ℕ) : Type 0 where
@@ -98,16 +98,15 @@ header-counts c h =
     let e = and-eq-true-iff _ _ .0 (d .0) in
     record { some = leb-true _ _ (e .0); few = leb-true _ _ (e .1); terms = leb-true _ _ (d .1) }
 
--- what the checks 1 to 3 give: room for the terms
-pub claim-room : (c : List ℕ) (r : Bool) (n t l : ℕ) → r ≡ not (headerRight c) → r ≡ false → n ≡ variables c → t ≡ termCount c
-    → l ≡ place 8 t (n + 4) → length c ≡ l → ClaimRoom c n t
-claim-room c r n t l e h en et el p =
+pub terms-room : (c : List ℕ) (r : Bool) (n t l : ℕ) → r ≡ not (headerRight c) → r ≡ false → n ≡ variables c
+    → t ≡ termCount c → l ≡ place 8 t (n + 4) → length c ≡ l → ClaimRoom c n t
+terms-room c r n t l e h en et el p =
     let counts = header-counts c (not-false _ (sym e ∙ h)) in
     record { few = rw en (counts .few); terms = rw et (counts .terms); long = omega arith }
 
--- 4: z is the floor, z′ what the machine reads back of it
-pub floor-judged : (c : List ℕ) (limit : ℕ) (b r : Bool) (z z′ : ℤ) → r ≡ beyond limit z′ → z ≡ floorOf c → z′ ≡ z → r ≡ b
-    → beyond limit (floorOf c) ≡ b
+-- z is the floor, z′ what the machine reads back of it
+pub floor-judged : (c : List ℕ) (limit : ℕ) (b r : Bool) (z z′ : ℤ) → r ≡ beyond limit z′ → z ≡ floorOf c → z′ ≡ z
+    → r ≡ b → beyond limit (floorOf c) ≡ b
 floor-judged c limit b r z z′ e ez back h = rw (← ez, ← back) (sym e ∙ h)
 
 pub terms-judged : (c : List ℕ) (n t : ℕ) (v : Verdict) → says v ≡ termsAnswer c n t → n ≡ variables c → t ≡ termCount c

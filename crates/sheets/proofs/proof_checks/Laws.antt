@@ -1,4 +1,4 @@
--- The ways through the checks of the proof, one law for each.
+-- Laws of the checks of the proof: the ways through the code, by the numbers of the refusals.
 use mathlib.Core.Path.{_≡_, refl, _∙_, ap}
 use mathlib.Core.Bool.{Bool, true, false, not, _&&_}
 use mathlib.Core.List.{List}

@@ -4,7 +4,7 @@ use Rattle.sheets.specs.Answers.{blames}
 use Rattle.sheets.specs.ClaimChecks.{claimAnswer}
 use Rattle.sheets.proofs.answers.Laws.{refused-if, passed-if, tested, claim-says}
 use Rattle.sheets.proofs.layout.Laws.{length-other, length-same, claim-asked}
-use Rattle.sheets.proofs.claim_checks.Laws.{claim-room, floor-judged, terms-judged}
+use Rattle.sheets.proofs.claim_checks.Laws.{terms-room, floor-judged, terms-judged}
 use borrow.Author.Needs.{needs}
 use Rattle.sheets.proofs.claim_checks.check_claim.Statement.{statement}
 use Rattle.sheets.proofs.claim_checks.check_claim.Tie as tie
@@ -18,7 +18,9 @@ header-wrong-requires c κs = search needs
 
 returns-2 : tie.Need-returns-2
 unfolding claimAnswer blames
-returns-2 c = passed-if _ _ 1 _ (search le-ltb) (refused-if _ _ 2 _ (search tested) (search claim-says))
+returns-2 c =
+    passed-if _ _ 1 _ (search le-ltb)
+    (refused-if _ _ 2 _ (search tested) (search claim-says))
 
 variables-requires : tie.Need-variables-requires
 variables-requires c κs = search needs
@@ -34,7 +36,10 @@ place-of-requires c κs = search needs
 
 returns-3 : tie.Need-returns-3
 unfolding claimAnswer blames
-returns-3 c = passed-if _ _ 1 _ (search le-ltb) (passed-if _ _ 2 _ (search tested) (refused-if _ _ 3 _ (length-other _ _ _ (c .if3 .taken) (search claim-asked)) (search claim-says)))
+returns-3 c =
+    passed-if _ _ 1 _ (search le-ltb)
+    (passed-if _ _ 2 _ (search tested)
+    (refused-if _ _ 3 _ (length-other _ _ _ (c .if3 .taken) (search claim-asked)) (search claim-says)))
 
 floor-requires : tie.Need-floor-requires
 floor-requires c κs = search needs
@@ -44,14 +49,22 @@ is-beyond-requires c κs = search needs
 
 returns-4 : tie.Need-returns-4
 unfolding claimAnswer blames
-returns-4 c = passed-if _ _ 1 _ (search le-ltb) (passed-if _ _ 2 _ (search tested) (passed-if _ _ 3 _ (search (length-same, claim-asked)) (refused-if _ _ 4 _ (search (floor-judged, toZ-ofZ)) (search claim-says))))
+returns-4 c =
+    passed-if _ _ 1 _ (search le-ltb)
+    (passed-if _ _ 2 _ (search tested)
+    (passed-if _ _ 3 _ (search (length-same, claim-asked))
+    (refused-if _ _ 4 _ (search (floor-judged, toZ-ofZ)) (search claim-says))))
 
 check-terms-requires : tie.Need-check-terms-requires
-check-terms-requires c κs = search claim-room
+check-terms-requires c κs = search terms-room
 
 returns-5 : tie.Need-returns-5
 unfolding claimAnswer
-returns-5 c = passed-if _ _ 1 _ (search le-ltb) (passed-if _ _ 2 _ (search tested) (passed-if _ _ 3 _ (search (length-same, claim-asked)) (passed-if _ _ 4 _ (search (floor-judged, toZ-ofZ)) (search terms-judged))))
+returns-5 c =
+    passed-if _ _ 1 _ (search le-ltb)
+    (passed-if _ _ 2 _ (search tested)
+    (passed-if _ _ 3 _ (search (length-same, claim-asked))
+    (passed-if _ _ 4 _ (search (floor-judged, toZ-ofZ)) (search terms-judged))))
 
 pub check-claim-spec : {M : Type 1} → statement M
 check-claim-spec =

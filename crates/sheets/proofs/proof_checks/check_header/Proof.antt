@@ -16,7 +16,9 @@ header-wrong-requires c κs = search needs
 
 returns-2 : tie.Need-returns-2
 unfolding headerAnswer blames
-returns-2 c = passed-if _ _ 8 _ (search le-ltb) (refused-if _ _ 9 _ (search tested) (search proof-says))
+returns-2 c =
+    passed-if _ _ 8 _ (search le-ltb)
+    (refused-if _ _ 9 _ (search tested) (search proof-says))
 
 row-count-requires : tie.Need-row-count-requires
 row-count-requires c κs = search needs
@@ -35,11 +37,17 @@ place-of-requires c κs = search needs
 
 returns-3 : tie.Need-returns-3
 unfolding headerAnswer blames
-returns-3 c = passed-if _ _ 8 _ (search le-ltb) (passed-if _ _ 9 _ (search tested) (refused-if _ _ 10 _ (length-other _ _ _ (c .if3 .taken) (search proof-asked)) (search proof-says)))
+returns-3 c =
+    passed-if _ _ 8 _ (search le-ltb)
+    (passed-if _ _ 9 _ (search tested)
+    (refused-if _ _ 10 _ (length-other _ _ _ (c .if3 .taken) (search proof-asked)) (search proof-says)))
 
 returns-4 : tie.Need-returns-4
 unfolding headerAnswer
-returns-4 c = passed-if _ _ 8 _ (search le-ltb) (passed-if _ _ 9 _ (search tested) (passed-if _ _ 10 _ (search (length-same, proof-asked)) (search accepted-says)))
+returns-4 c =
+    passed-if _ _ 8 _ (search le-ltb)
+    (passed-if _ _ 9 _ (search tested)
+    (passed-if _ _ 10 _ (search (length-same, proof-asked)) (search accepted-says)))
 
 pub check-header-spec : {M : Type 1} → statement M
 check-header-spec =
