@@ -7,7 +7,7 @@ ghost use mir.Val.{SFits, toZ, ofZ};
 ghost use Rattle.integers.specs.Words.{u32At, i32At, withBits, withI32};
 
 // A byte as a wider number.
-fn wide(b: u8) -> u64
+pub fn wide(b: u8) -> u64
     ensures { λ r. ⌜ (r ≡ b) × (r < 256) ⌝ }
 {
     b as u64

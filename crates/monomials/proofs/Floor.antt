@@ -1,15 +1,15 @@
 -- The floor theorem's proof. Its statement is specs/Floor.antt.
 -- First for any worth φ of points, no less than 0 at those that keep their sign; then for monomials at whole numbers.
-use mathlib.Core.Path.{_≡_, refl, sym, _∙_, ap}
-use mathlib.Core.Bool.{Bool, true, false}
+use mathlib.Core.Path.{_≡_, sym, _∙_, ap}
+use mathlib.Core.Bool.{true}
 use mathlib.Core.List.{List, [], _∷_}
 use Prim.Native.Nat.{ℕ, _*_, _<_}
 use native.Mathlib.Decide.{ℕ-discrete}
 use native.Mathlib.Omega.{arith}
-use lib.IntN.{ℤ, pos, negℤ, natAbs, _+ℤ_, _*ℤ_, *ℤ-zero}
+use lib.IntN.{ℤ, pos, negℤ, _+ℤ_, _*ℤ_}
 use lib.ListN.{length, length-replicate}
-use lib.Signed.{_≤ℤ_, ≤ℤ-refl}
-use Rattle.integers.proofs.Integers.{ring, ints, by-eq, by-le, read-le, ≤ℤ-trans, negℤ-*ℤ, abs-mul, abs-nonneg, neg-abs-≤ℤ, nonneg-cancel}
+use lib.Signed.{_≤ℤ_}
+use Rattle.integers.proofs.Integers.{ring, by-le, read-le, ≤ℤ-trans, nonneg-cancel}
 use Rattle.monomials.specs.Points.{Exponents, keepsSign}
 use Rattle.monomials.specs.Powers.{monomialOf}
 use Rattle.monomials.specs.Sums.{Sum, coefficient, value, valueAt}
@@ -22,30 +22,10 @@ use Rattle.monomials.specs.declared.rows.Weights.{Weights}
 use Rattle.monomials.specs.declared.rows.Weights.the-variants.{Pair, Lone}
 use Rattle.monomials.proofs.points.Laws.{midpoint-sized}
 use Rattle.monomials.proofs.Lists.{all-append}
+use Rattle.monomials.proofs.Targets.{worst-zero, worst-scaled, worst-below, target-zero}
 use Rattle.monomials.proofs.Sums.{scaled, coefficient-scaled, value-scaled, dominate, coefficient-none}
 use Rattle.monomials.proofs.Monomials.{monomial-sign, monomial-mean, monomial-constant}
 use Rattle.monomials.proofs.rows.Laws.{Mean, absolute, rows-nonneg}
-
--- ---- the worst sign
-
-worst-zero : (k : Bool) → worst k (pos 0) ≡ pos 0
-unfolding worst
-worst-zero true = refl
-worst-zero false = refl
-
-worst-scaled : (k : Bool) (S : ℕ) (c : ℤ) → worst k (pos S *ℤ c) ≡ pos S *ℤ worst k c
-unfolding worst
-worst-scaled true S c = refl
-worst-scaled false S c = rw (abs-mul (pos S) c) (by-eq (simp ring (omega ints)))
-
-worst-below : (k : Bool) (c m : ℤ) → (k ≡ true → pos 0 ≤ℤ m) → (worst k c *ℤ pos (natAbs m)) ≤ℤ (c *ℤ m)
-unfolding worst
-worst-below true c m f = rw (abs-nonneg (f refl)) (≤ℤ-refl (c *ℤ m))
-worst-below false c m f = rw (negℤ-*ℤ (pos (natAbs c)) (pos (natAbs m))) (rw (abs-mul c m) at (neg-abs-≤ℤ (c *ℤ m)))
-
-pub target-zero : (S : ℕ) (g : Sum) (α : Exponents) → coefficient α g ≡ pos 0 → target S g α ≡ pos 0
-unfolding target
-target-zero S g α z = rw (z, worst-zero (keepsSign α)) (*ℤ-zero (pos S))
 
 -- ---- any worth of points
 

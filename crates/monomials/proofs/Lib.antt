@@ -1,4 +1,5 @@
 pub mod Lists
 pub mod Sums
+pub mod Targets
 pub mod Monomials
 pub mod Floor

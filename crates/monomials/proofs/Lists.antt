@@ -1,7 +1,8 @@
 -- Laws of lists by an index, and of what holds of every element.
 use mathlib.Core.Path.{_≡_, refl, _∙_}
-use mathlib.Core.List.{List, [], _∷_, _++_}
+use mathlib.Core.List.{List, [], _∷_, _++_, append-nil, append-assoc}
 use Prim.Native.Nat.{ℕ, zero, suc, _+_, _<_}
+use native.Mathlib.Nat.{add-zero, add-suc}
 use native.Mathlib.Decide.{decLt}
 use native.Mathlib.Omega.{arith}
 use lib.ListN.{length, getD, length-append, List·getD-append}
@@ -13,6 +14,14 @@ all-append P [] M s t = t
 all-append P (a ∷ L) M s t = (s .0, all-append P L M (s .1) t)
 
 module _ {A : Type 0} (f : ℕ → A) where
+  pub table-none : table f 0 ≡ []
+  unfolding table
+  table-none = refl
+
+  pub table-more : (n : ℕ) → table f (suc n) ≡ table f n ++ (f n ∷ [])
+  unfolding table
+  table-more n = refl
+
   pub table-length : (n : ℕ) → length (table f n) ≡ n
   unfolding table
   table-length zero = refl
@@ -27,6 +36,12 @@ module _ {A : Type 0} (f : ℕ → A) where
       go : Dec (i < n) → (i < n → getD (table f n) i d ≡ f i) → getD (table f n ++ (f n ∷ [])) i d ≡ f i
       go (yes l) below = List·getD-append (table f n) (f n ∷ []) d i (rw table-length l) ∙ below l
       go (no l) below = let q : i ≡ n = omega arith in rw q (getD-at (table f n) (f n) [] d n (table-length n))
+
+  -- the first m entries, and those after them
+  pub table-split : (m n : ℕ) → table f (m + n) ≡ table f m ++ table (λ i. f (m + i)) n
+  unfolding table
+  table-split m zero = rw (add-zero, append-nil)
+  table-split m (suc n) = rw (add-suc, table-split m n) (append-assoc (table f m) (table (λ i. f (m + i)) n) (f (m + n) ∷ []))
 
   -- what holds at every index holds of every element
   pub all-table : (P : A → Type 0) (n : ℕ) → ((i : ℕ) → i < n → P (f i)) → All P (table f n)

@@ -17,6 +17,15 @@ use Rattle.monomials.proofs.points.Laws.{same-eq, same-refl}
 
 -- ---- sums of sums, and multiples
 
+pub coefficient-nil : (α : Exponents) → coefficient α [] ≡ pos 0
+unfolding coefficient
+coefficient-nil α = refl
+
+pub coefficient-cons : (α : Exponents) (t : Exponents × ℤ) (L : Sum)
+    → coefficient α (t ∷ L) ≡ cond (samePoint α (t .0)) (t .1 +ℤ coefficient α L) (coefficient α L)
+unfolding coefficient
+coefficient-cons α t L = refl
+
 pub coefficient-append : (α : Exponents) (L M : Sum) → coefficient α (L ++ M) ≡ coefficient α L +ℤ coefficient α M
 unfolding coefficient
 coefficient-append α [] M = sym (+ℤ-idl (coefficient α M))

@@ -1,5 +1,6 @@
 pub mod Lists
 pub mod Points
+pub mod Keys
 pub mod Powers
 pub mod Sums
 pub mod Rows

@@ -1,6 +1,6 @@
 -- Rows of a proof: their slots, and when a row holds. "Slot" and "lone" are document 01's words.
 use mathlib.Core.List.{List, [], _∷_, _++_}
-use lib.IntN.{ℤ, pos, _*ℤ_}
+use lib.IntN.{pos, _*ℤ_}
 use lib.Signed.{_≤ℤ_}
 use Rattle.monomials.specs.Points.{Exponents, midpointOf}
 use Rattle.monomials.specs.Sums.{Sum}

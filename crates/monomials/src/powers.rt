@@ -4,7 +4,7 @@ use crate::points::fewer;
 use integers::magnitudes::magnitude;
 ghost use mathlib.Core.Path.{_≡_};
 ghost use Prim.Native.Nat.{_<_};
-ghost use lib.IntN.{ℤ, pos, _*ℤ_};
+ghost use lib.IntN.{pos, _*ℤ_};
 ghost use lib.ListN.{length, getD};
 ghost use Rattle.monomials.specs.Points.{exponents};
 ghost use Rattle.monomials.specs.Powers.{powerOf, monomialOf, within, largeTimes, productOf};

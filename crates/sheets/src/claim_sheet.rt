@@ -2,12 +2,14 @@
 use crate::layout::count;
 use crate::layout::place_of;
 use integers::words::read_i32;
+use monomials::keys::key_at;
 use monomials::points::Point;
 use monomials::points::point_at;
 ghost use mathlib.Core.Path.{_≡_};
 ghost use Prim.Native.Nat.{_<_, _≤_};
 ghost use lib.ListN.{length};
 ghost use Rattle.monomials.specs.Points.{pointOf};
+ghost use Rattle.monomials.specs.Keys.{keyOf};
 ghost use Rattle.sheets.specs.Layout.{termCount, ClaimRoom};
 ghost use Rattle.sheets.specs.ClaimSheet.{floorOf, termPoint, coefficientOf};
 
@@ -33,6 +35,14 @@ pub fn term_point(claim: &[u8], n: usize, t: usize, i: usize) -> Point
     ensures { λ r. ⌜ r ≡ pointOf (termPoint (now (claim .entry)) n i) ⌝ }
 {
     point_at(claim, place_of(8, i, n), n)
+}
+
+// The key of term i's point.
+pub fn term_key(claim: &[u8], n: usize, t: usize, i: usize) -> u64
+    requires { ⌜ (ClaimRoom (now claim) n t) × (1 ≤ n) × (i < t) ⌝ }
+    ensures { λ r. ⌜ r ≡ keyOf (termPoint (now (claim .entry)) n i) ⌝ }
+{
+    key_at(claim, place_of(8, i, n), n)
 }
 
 // The coefficient of term i.

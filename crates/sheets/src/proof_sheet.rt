@@ -4,6 +4,7 @@ use crate::layout::place_of;
 use integers::words::read_i32;
 use integers::words::read_u32;
 use integers::words::write_i32;
+use monomials::keys::key_at;
 use monomials::points::Point;
 use monomials::points::point_at;
 use monomials::points::same;
@@ -12,6 +13,7 @@ ghost use mathlib.Core.Path.{_≡_};
 ghost use Prim.Native.Nat.{_+_, _<_, _≤_};
 ghost use lib.ListN.{length};
 ghost use Rattle.monomials.specs.Points.{pointOf};
+ghost use Rattle.monomials.specs.Keys.{keyOf};
 ghost use Rattle.sheets.specs.Layout.{rowCount, vAt, tripleAt, ProofRoom};
 ghost use Rattle.sheets.specs.ProofSheet.{scaleOf, vOf, wOf, tripleOf, weightsOf, rowOf, byValue, tripleFor, Narrow, withTriple, withWeights};
 
@@ -69,8 +71,24 @@ pub fn row_w(proof: &[u8], n: usize, k: usize, i: usize) -> Point
     point_at(proof, row_place(n, k, i) + n, n)
 }
 
+// The key of row i's first point.
+pub fn v_key(proof: &[u8], n: usize, k: usize, i: usize) -> u64
+    requires { ⌜ (ProofRoom (now proof) n k) × (1 ≤ n) × (i < k) ⌝ }
+    ensures { λ r. ⌜ r ≡ keyOf (vOf (now (proof .entry)) n i) ⌝ }
+{
+    key_at(proof, row_place(n, k, i), n)
+}
+
+// The key of row i's second point.
+pub fn w_key(proof: &[u8], n: usize, k: usize, i: usize) -> u64
+    requires { ⌜ (ProofRoom (now proof) n k) × (1 ≤ n) × (i < k) ⌝ }
+    ensures { λ r. ⌜ r ≡ keyOf (wOf (now (proof .entry)) n i) ⌝ }
+{
+    key_at(proof, row_place(n, k, i) + n, n)
+}
+
 // Where the triple of row i begins.
-fn triple_place(n: usize, k: usize, i: usize) -> usize
+pub fn triple_place(n: usize, k: usize, i: usize) -> usize
     requires { ⌜ (n ≤ 8) × (k ≤ 256) × (i < k) ⌝ }
     ensures { λ r. ⌜ (r ≡ tripleAt n k i) × (r ≤ 7164) ⌝ }
 {

@@ -1,13 +1,14 @@
 -- Laws of floor division: e ≡ c × q + m with 0 ≤ m < c, no other q and m meet that, and the shares of c slots add up to e.
-use mathlib.Core.Path.{_≡_, sym, _∙_, ap}
+use mathlib.Core.Path.{_≡_, refl, sym, _∙_, ap}
 use mathlib.Core.Bool.{Bool, true, false, not, cond}
 use Prim.Native.Nat.{ℕ, zero, suc, _+_, _*_, _-_, _/_, _%_, _^_, _<_, _≤_, min}
-use native.Mathlib.Nat.{div-add-mod, mod-lt, div-le-self, zero-div, zero-mod}
+use native.Mathlib.Nat.{mul-le-mul-right, div-add-mod, mod-lt, div-le-self, zero-div, zero-mod}
 use native.Mathlib.Omega.{arith}
 use lib.Arith.{digits-div}
 use lib.Dec.{T, ltb, ltb→lt, nltb→le, leb·suc-zero}
 use lib.IntN.{ℤ, pos, negsuc, negℤ, natAbs, _+ℤ_, _-ℤ_, _*ℤ_}
 use lib.Signed.{_≤ℤ_, _<ℤ_, ltZ, mag, nonNeg, quotZ, remZ}
+use borrow.Author.Tests.{lt-ltb, le-ltb}
 use mir.Syntax.{w32, w64}
 use mir.Val.{SFits, Fits, toZ}
 use mir.Facts.{toZ-pos, toZ-ofZ}
@@ -48,6 +49,14 @@ floorDiv-mag (pos a) c = div-le-self a c
 floorDiv-mag (negsuc a) c = div-le-self a c
 
 -- ---- shares
+
+pub shares-none : (e : ℤ) (c k : ℕ) → shares e c k 0 ≡ pos 0
+unfolding shares
+shares-none e c k = refl
+
+pub shares-more : (e : ℤ) (c k m : ℕ) → shares e c k (suc m) ≡ share e c k +ℤ shares e c (suc k) m
+unfolding shares
+shares-more e c k m = refl
 
 -- one share more, where r is the remainder and q the quotient
 one-more : (q s : ℤ) (r k m : ℕ) → s +ℤ pos (min (suc k) r) ≡ q *ℤ pos m +ℤ pos (min (suc k + m) r)
@@ -116,6 +125,20 @@ quot-mag (negsuc a) c = go (suc a / c) (div-le-self (suc a) c)
     go : (k : ℕ) → k ≤ suc a → mag (negℤ (pos k)) ≤ a
     go zero h = omega arith
     go (suc k) h = omega arith
+
+-- a share is at most one larger than the error
+pub share-abs : (e : ℤ) (c k : ℕ) → natAbs (share e c k) ≤ natAbs e + 1
+unfolding share floorDiv floorMod
+share-abs (pos a) c k = go (ltb k (a % c))
+  where
+    go : (b : Bool) → natAbs (cond b (pos (a / c) +ℤ pos 1) (pos (a / c))) ≤ a + 1
+    go true = omega (arith, div-le-self a c)
+    go false = omega (arith, div-le-self a c)
+share-abs (negsuc a) c k = go (ltb k (c - suc (a % c)))
+  where
+    go : (b : Bool) → natAbs (cond b (negsuc (a / c) +ℤ pos 1) (negsuc (a / c))) ≤ suc a + 1
+    go true = omega (arith, div-le-self a c, abs-add (negsuc (a / c)) (pos 1))
+    go false = omega (arith, div-le-self a c)
 
 -- ---- the ways through the code, over what the machine reads back
 
@@ -200,3 +223,22 @@ module _ (e : ℤ) (n : ℕ) (h : 0 < n) (f : SFits w64 e) (g : Fits w32 n) wher
 
     pub mod-more-narrow : Fits w32 (natAbs (back (rem e n)))
     mod-more-narrow = rw mod-more-is mod-narrow
+
+-- share: q and m are the quotient and the remainder; a prime marks a number as the machine reads it back
+module _ (e e₁ e₂ q : ℤ) (c m k : ℕ) (eq : q ≡ floorDiv e₁ c) (em : m ≡ floorMod e₂ c) where
+  pub more-fits : (q′ : ℤ) → k < m → q′ ≡ q → e₁ ≡ e → e₂ ≡ e → SFits w64 e → 0 < c → SFits w64 (q′ +ℤ pos 1)
+  unfolding floorDiv floorMod
+  more-fits q′ l b b₁ b₂ f h = rw (b, eq, b₁) (go e f (rw (em, b₂) at l))
+    where
+      go : (e : ℤ) → SFits w64 e → k < floorMod e c → SFits w64 (floorDiv e c +ℤ pos 1)
+      go (pos a) f l = by-fits (simp ring (omega (arith, div-add-mod a c, mul-le-mul-right (a / c) h)))
+      go (negsuc a) f l = by-fits (simp ring (omega (arith, div-le-self a c)))
+
+  pub share-more : (q′ : ℤ) → k < m → q′ ≡ q → e₁ ≡ e → e₂ ≡ e → SFits w64 e → 0 < c → back (q′ +ℤ pos 1) ≡ share e c k
+  unfolding share
+  share-more q′ l b b₁ b₂ f h =
+      toZ-ofZ (more-fits q′ l b b₁ b₂ f h) ∙ rw (b, eq, b₁, lt-ltb k (floorMod e c) (rw (em, b₂) at l))
+
+  pub share-least : (q′ : ℤ) → m ≤ k → q′ ≡ q → e₁ ≡ e → e₂ ≡ e → q′ ≡ share e c k
+  unfolding share
+  share-least q′ l b b₁ b₂ = rw (b, eq, b₁, le-ltb k (floorMod e c) (rw (em, b₂) at l))

@@ -21,6 +21,12 @@ use Rattle.integers.specs.Words.{u32At, i32At, bytesOf, withBits, withI3
 abbrev pub Bytes : List ℕ → Type 0
 Bytes s = (i : ℕ) → Fits w8 (getD s i 0)
 
+-- a word is its bytes, the lowest first
+pub u32-bytes : (s : List ℕ) (at : ℕ)
+    → u32At s at ≡ getD s at 0 + getD s (at + 1) 0 * 256 + getD s (at + 2) 0 * 65536 + getD s (at + 3) 0 * 16777216
+unfolding u32At
+u32-bytes s at = refl
+
 -- a word of bytes is below 2^32
 pub u32-bound : (s : List ℕ) (at : ℕ) → Bytes s → u32At s at < 4294967296
 unfolding u32At

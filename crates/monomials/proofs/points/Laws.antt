@@ -1,19 +1,20 @@
 -- Laws of points: what a test over exponents says of each, points by value, and the ways through their loops.
 use mathlib.Core.Path.{_≡_, refl, sym, _∙_, ap, ap₂}
+use mathlib.Core.Logic.{_⊎_, inl, inr}
 use mathlib.Core.Bool.{Bool, true, false, cond, and-false, and-eq-true-iff, false≢true}
 use mathlib.Core.List.{List, [], _∷_, _++_, append-assoc}
 use Prim.Native.Nat.{ℕ, zero, suc, _+_, _-_, _/_, _<_, _≤_, min}
-use native.Mathlib.Nat.{le-of-lt}
+use native.Mathlib.Nat.{le-of-lt, add-assoc}
 use native.Mathlib.Numerals.{add-one}
 use native.Mathlib.Omega.{arith}
-use lib.Dec.{eqb, ltb}
-use lib.ListN.{length, getD, set, drop, replicate, length-append, length-take}
+use lib.Dec.{eqb, ltb, leb}
+use lib.ListN.{length, getD, set, take, drop, replicate, length-append, length-take}
 use lib.Seq.{drop-cons, drop-nil, getD-take, set-at, take-append-seam, ext-getD}
-use borrow.Author.Tests.{lt-ltb, le-ltb, eq-eqb, eqb-true}
+use borrow.Author.Tests.{lt-ltb, le-ltb, ltb-true, ltb-false, le-leb, leb-true, eq-eqb, eqb-true}
 use borrow.Author.Count.{below-more}
 use Rattle.monomials.specs.Lists.{table}
-use Rattle.monomials.specs.Points.{Exponents, exponents, pointOf, bytesAt, every, everyPair, samePoint, risesTo, midpointOf}
-use Rattle.monomials.proofs.Lists.{table-length, table-get, table-same}
+use Rattle.monomials.specs.Points.{Exponents, exponents, pointOf, bytesAt, every, everyPair, samePoint, risesTo, midpointOf, exponentsWithin}
+use Rattle.monomials.proofs.Lists.{table-length, table-get, table-split, table-same}
 use Rattle.monomials.specs.declared.points.Point.{Point}
 
 -- ---- points by value
@@ -31,6 +32,16 @@ module _ (p : Point) (eight : length (p .exps) ≡ 8) where
   exponent-is : (i : ℕ) → i < length (exponents p) → getD (exponents p) i 0 ≡ getD (p .exps) i 0
   unfolding exponents
   exponent-is i h = getD-take (p .n) (p .exps) i 0 (omega (arith, length-take (p .n) (p .exps)))
+
+-- the exponents, by their number
+pub exponents-counted : (p : Point) (n : ℕ) → n ≡ length (exponents p) → take n (p .exps) ≡ exponents p
+unfolding exponents
+exponents-counted p n e = rw e (take-again (p .n) (p .exps))
+  where
+    take-again : (k : ℕ) (l : List ℕ) → take (length (take k l)) l ≡ take k l
+    take-again zero l = refl
+    take-again (suc k) [] = refl
+    take-again (suc k) (a ∷ l) = ap (_∷_ a) (take-again k l)
 
 -- ---- tests over the exponents of two points
 
@@ -214,6 +225,42 @@ module _ (a b : Point) (n k m left : ℕ) (ea : length (a .exps) ≡ 8) (eb : le
   pub rises-end : left ≤ 0 → false ≡ risesTo (exponents a) (exponents b)
   rises-end h = sym (from-place ∙ rises-past (exponents a) (exponents b) (n - left) (omega arith))
 
+-- a point is not above itself, and not above what is above it
+pub rises-self : (v : Exponents) → risesTo v v ≡ false
+unfolding risesTo
+rises-self [] = refl
+rises-self (a ∷ v) = rw (le-ltb a a (omega arith)) (rises-self v)
+
+-- the first exponent decides, or the others do
+rises-first : (a b : ℕ) (v w : Exponents) → risesTo (a ∷ v) (b ∷ w) ≡ true → (a < b) ⊎ ((a ≡ b) × (risesTo v w ≡ true))
+unfolding risesTo
+rises-first a b v w = go (ltb a b) refl (ltb b a) refl
+  where
+    go : (l : Bool) → ltb a b ≡ l → (g : Bool) → ltb b a ≡ g → cond l true (cond g false (risesTo v w)) ≡ true
+        → (a < b) ⊎ ((a ≡ b) × (risesTo v w ≡ true))
+    go true e g f h = inl (ltb-true a b e)
+    go false e true f h = absurd (false≢true h)
+    go false e false f h = let p = ltb-false a b e in let q = ltb-false b a f in inr (omega arith, h)
+
+rises-cons : (a b : ℕ) (v w : Exponents) → (a < b) ⊎ ((a ≡ b) × (risesTo v w ≡ true)) → risesTo (a ∷ v) (b ∷ w) ≡ true
+unfolding risesTo
+rises-cons a b v w (inl l) = rw (lt-ltb a b l)
+rises-cons a b v w (inr h) = let e = h .0 in rw (le-ltb a b (omega arith), le-ltb b a (omega arith)) (h .1)
+
+pub rises-trans : (u v w : Exponents) → risesTo u v ≡ true → risesTo v w ≡ true → risesTo u w ≡ true
+unfolding risesTo
+rises-trans [] v w h k = absurd (false≢true h)
+rises-trans (a ∷ u) [] w h k = absurd (false≢true h)
+rises-trans (a ∷ u) (b ∷ v) [] h k = absurd (false≢true k)
+rises-trans (a ∷ u) (b ∷ v) (c ∷ w) h k = rises-cons a c u w (go (rises-first a b u v h) (rises-first b c v w k) (rises-trans u v w))
+  where
+    go : (a < b) ⊎ ((a ≡ b) × (risesTo u v ≡ true)) → (b < c) ⊎ ((b ≡ c) × (risesTo v w ≡ true))
+        → (risesTo u v ≡ true → risesTo v w ≡ true → risesTo u w ≡ true) → (a < c) ⊎ ((a ≡ c) × (risesTo u w ≡ true))
+    go (inl l) (inl m) f = inl (omega arith)
+    go (inl l) (inr m) f = let e = m .0 in inl (omega arith)
+    go (inr l) (inl m) f = let e = l .0 in inl (omega arith)
+    go (inr l) (inr m) f = inr (l .0 ∙ m .0, f (l .1) (m .1))
+
 -- ---- stores into the eight places
 
 -- eight places: a list, and zeros after it
@@ -262,9 +309,22 @@ pub bytes-same : (s t : List ℕ) (at n : ℕ) → ((i : ℕ) → i < n → getD
 unfolding bytesAt
 bytes-same s t at n h = table-same (λ i. getD s (at + i) 0) (λ i. getD t (at + i) 0) n h
 
+-- the first m bytes, and those after them
+pub bytes-split : (s : List ℕ) (at m n : ℕ) → bytesAt s at (m + n) ≡ bytesAt s at m ++ bytesAt s (at + m) n
+unfolding bytesAt
+bytes-split s at m n =
+    table-split (λ i. getD s (at + i) 0) m n
+    ∙ ap (_++_ (table (λ i. getD s (at + i) 0) m)) (table-same _ (λ i. getD s (at + m + i) 0) n (λ i l. rw (add-assoc at m i)))
+
 pub exponents-of : (α : Exponents) → exponents (pointOf α) ≡ α
 unfolding exponents pointOf
 exponents-of α = take-append-seam α (replicate (8 - length α) 0)
+
+-- the constant's exponents are within any limit
+pub zeros-within : (limit n : ℕ) → exponentsWithin limit (replicate n 0) ≡ true
+unfolding exponentsWithin every
+zeros-within limit zero = refl
+zeros-within limit (suc n) = rw (le-leb 0 limit (omega arith), zeros-within limit n)
 
 -- ---- midpoints
 
@@ -285,6 +345,17 @@ midpoint-get [] w i h k = absurd (omega arith)
 midpoint-get (a ∷ v) [] i h k = absurd (omega arith)
 midpoint-get (a ∷ v) (b ∷ w) zero h k = refl
 midpoint-get (a ∷ v) (b ∷ w) (suc i) h k = midpoint-get v w i (omega arith) (omega arith)
+
+-- and no exponent over the limit of theirs
+pub midpoint-within : (limit : ℕ) (v w : Exponents) → exponentsWithin limit v ≡ true → exponentsWithin limit w ≡ true
+    → exponentsWithin limit (midpointOf v w) ≡ true
+unfolding exponentsWithin every midpointOf
+midpoint-within limit [] w h k = refl
+midpoint-within limit (a ∷ v) [] h k = refl
+midpoint-within limit (a ∷ v) (b ∷ w) h k =
+    let p = and-eq-true-iff (leb a limit) (every (λ e. leb e limit) v) .0 h in
+    let q = and-eq-true-iff (leb b limit) (every (λ e. leb e limit) w) .0 k in
+    rw (le-leb ((a + b) / 2) limit (omega (arith, leb-true a limit (p .0), leb-true b limit (q .0))), midpoint-within limit v w (p .1) (q .1))
 
 -- the way out of the loop
 pub midpoint-made : (a b : Point) (n k m i : ℕ) (e : List ℕ) → length (a .exps) ≡ 8 → length (b .exps) ≡ 8

@@ -17,6 +17,7 @@ use Rattle.integers.proofs.Integers.{back, abs-mul, abs-zero, fits-within}
 use Rattle.monomials.specs.Points.{Exponents, exponents}
 use Rattle.monomials.specs.Powers.{powerOf, monomialOf, Says, within, largeTimes, productOf}
 use Rattle.monomials.specs.declared.points.Point.{Point}
+use Rattle.monomials.proofs.points.Laws.{exponents-counted}
 use Rattle.monomials.specs.declared.powers.Bounded.{Bounded}
 use Rattle.monomials.specs.declared.powers.Bounded.the-variants.{Value, TooLarge}
 
@@ -183,15 +184,10 @@ from-more x e n i b b′ r v q ev l h k m le eb s er eq =
 pub from-all : (x : List ℤ) (p : Point) (n i : ℕ) (v : Bounded) → v ≡ within (From x (p .exps) n i) → i ≤ 0
     → length (p .exps) ≡ 8 → n ≡ length (exponents p)
     → v ≡ within (monomialOf x (exponents p))
-unfolding From exponents
+unfolding From
 from-all x p n i v ev h l en =
     let z : i ≡ 0 = omega arith in
-    ev ∙ rw z (ap (λ (α : Exponents). within (monomialOf x α)) (rw en (take-again (p .n) (p .exps))))
-  where
-    take-again : (k : ℕ) (l : List ℕ) → take (length (take k l)) l ≡ take k l
-    take-again zero l = refl
-    take-again (suc k) [] = refl
-    take-again (suc k) (a ∷ l) = ap (_∷_ a) (take-again k l)
+    ev ∙ rw z (ap (λ (α : Exponents). within (monomialOf x α)) (exponents-counted p n en))
 
 -- term
 pub term-is : (c c′ m : ℤ) (q r : Bounded) → r ≡ within m → q ≡ productOf (Value c′) r → c′ ≡ c → q ≡ within (c *ℤ m)

@@ -1,6 +1,6 @@
 -- Laws of rows: where a midpoint's worth is the mean of its ends', a row that holds is worth at least 0 at absolute values.
-use mathlib.Core.Path.{_≡_, sym, _∙_, ap}
-use mathlib.Core.List.{List, [], _∷_}
+use mathlib.Core.Path.{_≡_, refl, sym, _∙_, ap}
+use mathlib.Core.List.{List, [], _∷_, _++_, append-nil, append-assoc}
 use Prim.Native.Nat.{ℕ, suc, _+_, _*_, _≤_}
 use native.Mathlib.Decide.{decLe}
 use native.Mathlib.Nat.{mul-le-mul, mul-le-mul-right}
@@ -11,10 +11,39 @@ use Rattle.integers.proofs.Integers.{ring, ints, by-le, read-le, abs-mul, +ℤ-
 use Rattle.monomials.specs.Points.{Exponents, midpointOf}
 use Rattle.monomials.specs.Sums.{value}
 use Rattle.monomials.specs.Rows.{Row, slotsAt, slots, Holds}
-use Rattle.monomials.specs.Lists.{All}
+use Rattle.monomials.specs.Lists.{table, All}
 use Rattle.monomials.specs.declared.rows.Weights.{Weights}
 use Rattle.monomials.specs.declared.rows.Weights.the-variants.{Pair, Lone}
+use Rattle.monomials.proofs.Lists.{table-none, table-more}
 use Rattle.monomials.proofs.Sums.{value-append}
+
+-- ---- slots
+
+pub slots-pair : (v w : Exponents) (p q r : ℤ) → slotsAt v w (Pair p q r) ≡ (v, p) ∷ (w, q) ∷ (midpointOf v w, r) ∷ []
+unfolding slotsAt
+slots-pair v w p q r = refl
+
+pub slots-lone : (v w : Exponents) (p : ℤ) → slotsAt v w (Lone p) ≡ (v, p) ∷ []
+unfolding slotsAt
+slots-lone v w p = refl
+
+slots-append : (rows more : List Row) → slots (rows ++ more) ≡ slots rows ++ slots more
+unfolding slots
+slots-append [] more = refl
+slots-append (a ∷ rows) more =
+    rw (slots-append rows more) (sym (append-assoc (slotsAt (a .v) (a .w) (a .weights)) (slots rows) (slots more)))
+
+-- of the first rows, and of one row more
+module _ (row : ℕ → Row) where
+  pub slots-none : slots (table row 0) ≡ []
+  unfolding slots
+  slots-none = rw (table-none row)
+
+  pub slots-more : (i : ℕ) → slots (table row (suc i)) ≡ slots (table row i) ++ slotsAt (row i .v) (row i .w) (row i .weights)
+  unfolding slots
+  slots-more i =
+      ap slots (table-more row i) ∙ slots-append (table row i) (row i ∷ [])
+      ∙ ap (_++_ (slots (table row i))) (append-nil (slotsAt (row i .v) (row i .w) (row i .weights)))
 
 -- ---- naturals
 

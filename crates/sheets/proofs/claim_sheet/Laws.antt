@@ -1,5 +1,5 @@
 -- Laws of the claim sheet: the ways through the code that reads its fields, and its terms by their index.
-use mathlib.Core.Path.{_≡_, _∙_}
+use mathlib.Core.Path.{_≡_, refl, _∙_}
 use mathlib.Core.List.{List}
 use Prim.Native.Nat.{ℕ, _+_, _<_, _≤_}
 use native.Mathlib.Nat.{mul-le-mul, mul-le-mul-right}
@@ -8,7 +8,9 @@ use lib.IntN.{ℤ}
 use lib.ListN.{length, getD}
 use Rattle.integers.specs.Words.{i32At}
 use Rattle.monomials.proofs.Lists.{table-length, table-get}
+use Rattle.monomials.specs.Lists.{table}
 use Rattle.monomials.specs.Points.{Exponents}
+use Rattle.monomials.proofs.points.Laws.{bytes-length}
 use Rattle.sheets.specs.Layout.{variables, termCount, place, pointAt, ClaimRoom}
 use Rattle.sheets.specs.ClaimSheet.{termPoint, coefficientOf, termOf, termsOf}
 
@@ -16,6 +18,10 @@ module _ (c : List ℕ) (n t i : ℕ) (room : ClaimRoom c n t) (l : i < t) where
   -- term_point
   pub point-inside : (at : ℕ) → at ≡ pointAt n i → at + n ≤ length c
   point-inside at e = omega (arith, mul-le-mul-right n l)
+
+  -- term_key
+  pub point-late : (at : ℕ) → at ≡ pointAt n i → 8 ≤ at + n
+  point-late at e = omega arith
 
   -- coefficient
   pub points-low : (at : ℕ) → at ≡ place 8 t n → at ≤ 16777216
@@ -31,6 +37,22 @@ unfolding coefficientOf
 coefficient-read c n t i from at z z′ e f h b = b ∙ h ∙ rw (f, e)
 
 -- ---- terms by their index
+
+pub terms-table : (c : List ℕ) (n t : ℕ) → n ≡ variables c → t ≡ termCount c → table (termOf c n t) t ≡ termsOf c
+unfolding termsOf
+terms-table c n t en et = rw (en, et)
+
+pub term-point : (c : List ℕ) (n t i : ℕ) → termOf c n t i .0 ≡ termPoint c n i
+unfolding termOf
+term-point c n t i = refl
+
+pub term-coefficient : (c : List ℕ) (n t i : ℕ) → termOf c n t i .1 ≡ coefficientOf c n t i
+unfolding termOf
+term-coefficient c n t i = refl
+
+pub point-length : (c : List ℕ) (n i : ℕ) → length (termPoint c n i) ≡ n
+unfolding termPoint
+point-length c n i = bytes-length c (pointAt n i) n
 
 pub terms-length : (c : List ℕ) → length (termsOf c) ≡ termCount c
 unfolding termsOf

@@ -1,5 +1,5 @@
 -- Laws of the proof sheet: the ways through the code that reads and writes its fields, and its rows by their index.
-use mathlib.Core.Path.{_≡_, _∙_}
+use mathlib.Core.Path.{_≡_, refl, _∙_}
 use mathlib.Core.Bool.{Bool, true, false}
 use mathlib.Core.List.{List}
 use Prim.Native.Nat.{ℕ, _+_, _*_, _<_, _≤_}
@@ -9,7 +9,8 @@ use lib.IntN.{ℤ, pos}
 use lib.ListN.{length, getD}
 use Rattle.integers.specs.Words.{i32At, withI32}
 use Rattle.monomials.proofs.Lists.{table-length, table-get}
-use Rattle.monomials.proofs.points.Laws.{exponents-of}
+use Rattle.monomials.proofs.points.Laws.{bytes-length, exponents-of}
+use Rattle.monomials.specs.Lists.{table}
 use Rattle.monomials.specs.Rows as Formal
 use Rattle.monomials.specs.Points.{exponents, pointOf, samePoint}
 use Rattle.monomials.specs.declared.points.Point.{Point}
@@ -17,6 +18,7 @@ use Rattle.monomials.specs.declared.rows.Weights.{Weights}
 use Rattle.monomials.specs.declared.rows.Weights.the-variants.{Pair, Lone}
 use Rattle.sheets.specs.Layout.{variables, rowCount, place, vAt, tripleAt, ProofRoom}
 use Rattle.sheets.specs.ProofSheet.{vOf, wOf, wordsAt, tripleOf, weightsOf, rowOf, rowsOf, byValue, tripleFor, Narrow, withTriple}
+use Rattle.sheets.specs.declared.proof_sheet.Row.{Row}
 use Rattle.sheets.specs.declared.proof_sheet.Triple.{Triple}
 
 -- ---- fields read
@@ -27,6 +29,12 @@ row-low n k i from few rows l e = let h : i ≤ 255 = omega arith in omega (arit
 module _ (s : List ℕ) (n k i from : ℕ) (room : ProofRoom s n k) (l : i < k) (e : from ≡ vAt n i) where
   pub v-inside : from + n ≤ length s
   v-inside = omega (arith, mul-le-mul-right (2 * n) l)
+
+  pub v-late : 8 ≤ from + n
+  v-late = omega arith
+
+  pub w-late : 8 ≤ from + n + n
+  w-late = omega arith
 
   pub w-inside : from + n + n ≤ length s
   w-inside = omega (arith, mul-le-mul-right (2 * n) l)
@@ -87,7 +95,88 @@ triple-written out o₁ o₂ o₃ at x p q r e₁ e₂ e₃ ep eq er = e₃ ∙ 
 pub narrow-here : (a : Weights) (x : Triple) → x ≡ tripleFor a → Narrow (tripleFor a) → Narrow x
 narrow-here a x e h = rw e h
 
+-- the three numbers of a row, where they stand
+module _ (s : List ℕ) (n k i at : ℕ) (e : at ≡ tripleAt n k i) where
+  pub p-there : i32At s at ≡ tripleOf s n k i .p
+  unfolding tripleOf wordsAt
+  p-there = rw e
+
+  pub q-there : i32At s (at + 4) ≡ tripleOf s n k i .q
+  unfolding tripleOf wordsAt
+  q-there = rw e
+
+  pub r-there : i32At s (at + 8) ≡ tripleOf s n k i .r
+  unfolding tripleOf wordsAt
+  r-there = rw e
+
 -- ---- rows by their index
+
+-- a lone row has one weight, a pair three
+module _ (s : List ℕ) (n k i : ℕ) where
+  pub row-lone : samePoint (vOf s n i) (wOf s n i) ≡ true → rowOf s n k i .weights ≡ Lone (tripleOf s n k i .p)
+  unfolding rowOf weightsOf
+  row-lone h = rw h
+
+  pub row-pair : samePoint (vOf s n i) (wOf s n i) ≡ false
+      → rowOf s n k i .weights ≡ Pair (tripleOf s n k i .p) (tripleOf s n k i .q) (tripleOf s n k i .r)
+  unfolding rowOf weightsOf
+  row-pair h = rw h
+
+  -- and the other way round
+  pub lone-of : (p : ℤ) → rowOf s n k i .weights ≡ Lone p → (samePoint (vOf s n i) (wOf s n i) ≡ true) × (tripleOf s n k i .p ≡ p)
+  lone-of p h = go (samePoint (vOf s n i) (wOf s n i)) refl
+    where
+      go : (b : Bool) → samePoint (vOf s n i) (wOf s n i) ≡ b → (b ≡ true) × (tripleOf s n k i .p ≡ p)
+      go true e = let g = row-lone e in (refl, cc)
+      go false e = let g = row-pair e in let z : _≡_ {A = ℕ} 0 1 = cc in absurd (omega arith)
+
+  pub pair-of : (p q r : ℤ) → rowOf s n k i .weights ≡ Pair p q r
+      → (samePoint (vOf s n i) (wOf s n i) ≡ false) × (tripleOf s n k i .p ≡ p) × (tripleOf s n k i .q ≡ q) × (tripleOf s n k i .r ≡ r)
+  pair-of p q r h = go (samePoint (vOf s n i) (wOf s n i)) refl
+    where
+      go : (b : Bool) → samePoint (vOf s n i) (wOf s n i) ≡ b
+          → (b ≡ false) × (tripleOf s n k i .p ≡ p) × (tripleOf s n k i .q ≡ q) × (tripleOf s n k i .r ≡ r)
+      go true e = let g = row-lone e in let z : _≡_ {A = ℕ} 0 1 = cc in absurd (omega arith)
+      go false e = let g = row-pair e in (refl, cc, cc, cc)
+
+  pub row-v : rowOf s n k i .v ≡ vOf s n i
+  unfolding rowOf
+  row-v = refl
+
+  pub row-w : rowOf s n k i .w ≡ wOf s n i
+  unfolding rowOf
+  row-w = refl
+
+  pub v-length : length (vOf s n i) ≡ n
+  unfolding vOf
+  v-length = bytes-length s (vAt n i) n
+
+  pub w-length : length (wOf s n i) ≡ n
+  unfolding wOf
+  w-length = bytes-length s (vAt n i + n) n
+
+-- a row by value
+module _ (a : Formal.Row) (b : Row) (e : b ≡ byValue a) where
+  pub value-v : b .v ≡ pointOf (a .v)
+  unfolding byValue
+  value-v = rw e
+
+  pub value-w : b .w ≡ pointOf (a .w)
+  unfolding byValue
+  value-w = rw e
+
+  pub value-weights : b .weights ≡ a .weights
+  unfolding byValue
+  value-weights = rw e
+
+pub by-value : (a : Formal.Row) (v w : Point) (x : Weights) → v ≡ pointOf (a .v) → w ≡ pointOf (a .w) → x ≡ a .weights
+    → record { v = v; w = w; weights = x } ≡ byValue a
+unfolding byValue
+by-value a v w x ev ew ex = rw (ev, ew, ex)
+
+pub rows-table : (s : List ℕ) (n k : ℕ) → n ≡ variables s → k ≡ rowCount s → table (rowOf s n k) k ≡ rowsOf s
+unfolding rowsOf
+rows-table s n k en ek = rw (en, ek)
 
 pub rows-length : (s : List ℕ) → length (rowsOf s) ≡ rowCount s
 unfolding rowsOf

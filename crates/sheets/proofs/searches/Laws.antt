@@ -15,11 +15,11 @@ module _ (wrong : ℕ → Bool) where
   unfolding first
   first-none = refl
 
-  first-here : (i : ℕ) → first wrong i ≡ Nothing → wrong i ≡ true → first wrong (suc i) ≡ At i
+  pub first-here : (i : ℕ) → first wrong i ≡ Nothing → wrong i ≡ true → first wrong (suc i) ≡ At i
   unfolding first
   first-here i h k = simp (first, h, k)
 
-  first-stays : (n i : ℕ) → first wrong n ≡ At i → first wrong (suc n) ≡ At i
+  pub first-stays : (n i : ℕ) → first wrong n ≡ At i → first wrong (suc n) ≡ At i
   unfolding first
   first-stays n i h = simp (first, h)
 
@@ -64,3 +64,24 @@ first-nothing wrong (suc n) h i l =
     (λ e. rw e (none-last wrong n h .1))
     (λ m. first-nothing wrong n (none-last wrong n h .0) i m)
     (eq-or-lt-of-le (le-of-suc-le-suc l))
+
+-- what is found is below n, and something is wrong there
+pub first-inside : (wrong : ℕ → Bool) (n i : ℕ) → first wrong n ≡ At i → (i < n) × (wrong i ≡ true)
+unfolding first
+first-inside wrong zero i h = let z : _≡_ {A = ℕ} 0 1 = cc in absurd (omega arith)
+first-inside wrong (suc n) i h = go (first wrong n) (wrong n) refl refl (first-inside wrong n i)
+  where
+    go : (f : Found) (b : Bool) → first wrong n ≡ f → wrong n ≡ b → (first wrong n ≡ At i → (i < n) × (wrong i ≡ true))
+        → (i < suc n) × (wrong i ≡ true)
+    go (At j) b e k below =
+        let s = first-stays wrong n j e in
+        let q : j ≡ i = cc in
+        let r = below (rw q at e) in (omega arith, r .1)
+    go Nothing true e k below =
+        let s = first-here wrong n e k in
+        let q : n ≡ i = cc in
+        (omega arith, rw (← q) k)
+    go Nothing false e k below =
+        let s : first wrong (suc n) ≡ Nothing = rw add-one at (first-on wrong n false e (sym k) refl) in
+        let z : _≡_ {A = ℕ} 0 1 = cc in
+        absurd (omega arith)

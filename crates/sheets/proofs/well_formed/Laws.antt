@@ -1,8 +1,8 @@
 -- Well-formed sheets: what it says of their numbers and points that every check is passed.
-use mathlib.Core.Path.{_≡_, refl, sym}
+use mathlib.Core.Path.{_≡_, refl, sym, _∙_}
 use mathlib.Core.Bool.{Bool, true, false, _&&_, _||_, and-eq-true-iff, true≢false}
 use mathlib.Core.List.{List}
-use Prim.Native.Nat.{ℕ, suc, _-_, _<_, _≤_}
+use Prim.Native.Nat.{ℕ, zero, suc, _+_, _-_, _<_, _≤_}
 use native.Mathlib.Omega.{arith}
 use lib.Dec.{eqb, ltb}
 use lib.IntN.{pos, natAbs}
@@ -13,7 +13,7 @@ use Rattle.monomials.specs.Lists.{All}
 use Rattle.monomials.specs.Points.{samePoint, risesTo, hasMidpoint, exponentsWithin}
 use Rattle.monomials.specs.Decomposition.{Sized, Placed, Whole}
 use Rattle.monomials.proofs.Lists.{all-table}
-use Rattle.monomials.proofs.points.Laws.{bytes-length}
+use Rattle.monomials.proofs.points.Laws.{bytes-length, same-eq, rises-self, rises-trans}
 use Rattle.sheets.specs.Answers.{says, Passes}
 use Rattle.sheets.specs.Bounds.{greatestExponent, greatestWeight, greatestRows, greatestScale}
 use Rattle.sheets.specs.Layout.{variables, termCount, rowCount, proofLength, ClaimRoom, ProofRoom}
@@ -185,25 +185,46 @@ claim-room c n t f = record { few = f .few; terms = f .terms; long = omega (arit
 pub proof-room : (s : List ℕ) (n k : ℕ) → n ≤ 8 → ProofFacts s n k → ProofRoom s n k
 proof-room s n k h f = record { few = h; rows = f .rows; long = omega (arith, f .sized) }
 
+-- the points of a claim rise from any to any later one, so no two are the same
+points-rise : (c : List ℕ) (n t : ℕ) → ClaimFacts c n t → (i d : ℕ) → suc i + d < t
+    → risesTo (termPoint c n i) (termPoint c n (suc i + d)) ≡ true
+points-rise c n t f i zero l = let e : suc i + 0 ≡ suc i = omega arith in rw e (f .rising i (omega arith))
+points-rise c n t f i (suc d) l =
+    let e : suc i + suc d ≡ suc (suc i + d) = omega arith in
+    rw e (rises-trans _ _ _ (points-rise c n t f i d (omega arith)) (f .rising (suc i + d) (omega arith)))
+
+pub points-differ : (c : List ℕ) (n t : ℕ) → ClaimFacts c n t → (i j : ℕ) → i < j → j < t
+    → samePoint (termPoint c n i) (termPoint c n j) ≡ false
+points-differ c n t f i j l h =
+    let e : suc i + (j - suc i) ≡ j = omega arith in
+    go (samePoint (termPoint c n i) (termPoint c n j)) refl (rw e at (points-rise c n t f i (j - suc i) (omega arith)))
+  where
+    go : (b : Bool) → samePoint (termPoint c n i) (termPoint c n j) ≡ b
+        → risesTo (termPoint c n i) (termPoint c n j) ≡ true → b ≡ false
+    go true e r = absurd (true≢false (sym r ∙ rw (same-eq _ _ e) (rises-self (termPoint c n j))))
+    go false e r = refl
+
 -- every term of a claim has as many exponents as the claim has variables
 pub terms-sized : (c : List ℕ) → Sized (variables c) (termsOf c)
 unfolding termsOf termOf termPoint
 terms-sized c = all-table (termOf c (variables c) (termCount c)) _ (termCount c) (λ i l. bytes-length c _ (variables c))
 
 -- and every row has its two points, a pair with a whole midpoint
-pub rows-placed : (s : List ℕ) (n : ℕ) → ProofFacts s n (rowCount s) → All (Placed n) (rowsOf s)
-unfolding rowsOf rowOf vOf wOf weightsOf
-rows-placed s n f =
-    rw (f .same) (all-table (rowOf s n (rowCount s)) (Placed n) (rowCount s) (λ i l. record {
-      v-length = bytes-length s _ n;
-      w-length = bytes-length s _ n;
-      whole = go (samePoint (vOf s n i) (wOf s n i)) i l;
-    }))
+pub row-placed : (s : List ℕ) (n k i : ℕ) → ProofFacts s n k → i < k → Placed n (rowOf s n k i)
+unfolding rowOf vOf wOf weightsOf
+row-placed s n k i f l = record {
+  v-length = bytes-length s _ n;
+  w-length = bytes-length s _ n;
+  whole = go (samePoint (vOf s n i) (wOf s n i));
+}
   where
-    go : (lone : Bool) (i : ℕ) → i < rowCount s
-        → Whole (vOf s n i) (wOf s n i) (weightsOf lone (tripleOf s n (rowCount s) i))
-    go true i l = tt
-    go false i l = f .whole i l
+    go : (lone : Bool) → Whole (vOf s n i) (wOf s n i) (weightsOf lone (tripleOf s n k i))
+    go true = tt
+    go false = f .whole i l
+
+pub rows-placed : (s : List ℕ) (n : ℕ) → ProofFacts s n (rowCount s) → All (Placed n) (rowsOf s)
+unfolding rowsOf
+rows-placed s n f = rw (f .same) (all-table (rowOf s n (rowCount s)) (Placed n) (rowCount s) (λ i l. row-placed s n (rowCount s) i f l))
 
 -- ---- the ways through check_sheets: v and u are the verdicts on the claim and on the proof's header
 

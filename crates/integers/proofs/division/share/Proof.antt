@@ -1,0 +1,24 @@
+use mir.Facts.{toZ-ofZ}
+use Rattle.integers.proofs.division.Laws.{more-fits, share-more, share-least}
+use borrow.Author.Needs.{needs}
+use Rattle.integers.proofs.division.share.Statement.{statement}
+use Rattle.integers.proofs.division.share.Tie as tie
+
+floor-div-requires : tie.Need-floor-div-requires
+floor-div-requires c κs = search needs
+
+floor-mod-requires : tie.Need-floor-mod-requires
+floor-mod-requires c κs = search needs
+
+add-result : tie.Need-add-result
+add-result c = search (more-fits, toZ-ofZ)
+
+returns : tie.Need-returns
+returns c = search (share-more, toZ-ofZ)
+
+returns-2 : tie.Need-returns-2
+returns-2 c = search (share-least, toZ-ofZ)
+
+pub share-spec : {M : Type 1} → statement M
+share-spec =
+    tie.close (tie.spec floor-div-requires floor-mod-requires add-result returns returns-2)

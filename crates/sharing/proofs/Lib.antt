@@ -1,0 +1,4 @@
+pub mod Sharing
+pub mod Carried
+pub mod Rows
+pub mod Cases

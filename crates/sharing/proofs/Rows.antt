@@ -1,0 +1,125 @@
+-- Laws of shifted rows, for the crates above: their slots are the shifted slots, so that the weights add up to the target
+-- at every held point and to 0 at any other; rows keep their points; and a proof whose weights add up stays as it is.
+use mathlib.Core.Path.{_≡_, refl, _∙_, ap}
+use mathlib.Core.Bool.{Bool, true, false}
+use mathlib.Core.List.{List, []}
+use Prim.Native.Nat.{ℕ, zero, suc, _<_}
+use lib.IntN.{ℤ, pos}
+use lib.ListN.{length}
+use Rattle.monomials.specs.Lists.{table, All}
+use Rattle.monomials.specs.Points.{Exponents, samePoint, midpointOf}
+use Rattle.monomials.specs.Sums.{Sum, coefficient}
+use Rattle.monomials.specs.Rows.{Row, slotsAt, slots}
+use Rattle.monomials.specs.Decomposition.{Placed, Whole}
+use Rattle.monomials.specs.declared.rows.Weights.{Weights}
+use Rattle.monomials.specs.declared.rows.Weights.the-variants.{Pair, Lone}
+use Rattle.monomials.proofs.Lists.{all-table}
+use Rattle.monomials.proofs.points.Laws.{midpoint-sized}
+use Rattle.monomials.proofs.rows.Laws.{slots-pair, slots-lone, slots-none, slots-more}
+use Rattle.sheets.specs.Layout.{variables, rowCount}
+use Rattle.sheets.specs.ProofSheet.{vOf, wOf, rowOf, rowsOf, Suits}
+use Rattle.sheets.specs.WellFormed.{ProofFacts}
+use Rattle.sheets.proofs.well_formed.Laws.{row-placed}
+use Rattle.sheets.proofs.proof_sheet.Laws.{row-lone, row-pair, row-v, row-w, v-length, w-length}
+use Rattle.sharing.specs.Sharing.{count, shiftedWeight, shiftedFrom, shiftedSlots}
+use Rattle.sharing.specs.Slots.{slotsTo}
+use Rattle.sharing.specs.Shifts.{shiftedWeights, shiftRow, slotsBefore, shiftedRow, shiftedRows}
+use Rattle.sharing.proofs.slots.Laws.{all-slots}
+use Rattle.sharing.proofs.Sharing.{from-nil, from-cons, from-append, shifted-adds, shifted-unheld, weight-stays}
+
+-- ---- slots
+
+-- of one row
+row-slots : (τ : Exponents → ℤ) (L before : Sum) (v w : Exponents) (a : Weights)
+    → slotsAt v w (shiftedWeights τ L before v w a) ≡ shiftedFrom τ L before (slotsAt v w a)
+unfolding shiftedWeights
+row-slots τ L before v w (Pair p q r) =
+    rw (slots-pair v w p q r, from-cons, from-cons, from-cons, from-nil) (slots-pair v w _ _ _)
+row-slots τ L before v w (Lone p) = rw (slots-lone v w p, from-cons, from-nil) (slots-lone v w _)
+
+module _ (τ : Exponents → ℤ) (s : List ℕ) where
+  -- of the first rows
+  first-slots : (i : ℕ) → slots (table (shiftedRow τ s) i) ≡ shiftedFrom τ (slots (rowsOf s)) [] (slotsBefore s i)
+  unfolding slotsBefore slotsTo shiftedRow shiftRow
+  first-slots zero = rw (slots-none, slots-none, from-nil)
+  first-slots (suc i) =
+      rw (slots-more (shiftedRow τ s) i, slots-more (rowOf s (variables s) (rowCount s)) i)
+      (rw (from-append, first-slots i, row-slots))
+
+  pub shifted-slots : slots (shiftedRows τ s) ≡ shiftedSlots τ (slots (rowsOf s))
+  unfolding shiftedRows shiftedSlots slotsBefore
+  shifted-slots =
+      first-slots (rowCount s)
+      ∙ ap (shiftedFrom τ (slots (rowsOf s)) []) (all-slots s (variables s) (rowCount s) refl refl)
+
+  -- at a held point the weights add up to the target, and at any other to 0
+  pub held-adds : (α : Exponents) → 0 < count α (slots (rowsOf s)) → coefficient α (slots (shiftedRows τ s)) ≡ τ α
+  held-adds α h = rw shifted-slots (shifted-adds τ (slots (rowsOf s)) α h)
+
+  pub unheld-adds : (α : Exponents) → count α (slots (rowsOf s)) ≡ 0 → coefficient α (slots (shiftedRows τ s)) ≡ pos 0
+  unheld-adds α h = rw shifted-slots (shifted-unheld τ (slots (rowsOf s)) α h)
+
+-- ---- rows
+
+whole-stays : (τ : Exponents → ℤ) (L before : Sum) (v w : Exponents) (a : Weights) → Whole v w a
+    → Whole v w (shiftedWeights τ L before v w a)
+unfolding shiftedWeights
+whole-stays τ L before v w (Pair p q r) h = h
+whole-stays τ L before v w (Lone p) h = tt
+
+-- a row keeps its points, and a lone row stays lone
+module _ (τ : Exponents → ℤ) (s : List ℕ) (i : ℕ) where
+  pub keeps-v : shiftedRow τ s i .v ≡ vOf s (variables s) i
+  unfolding shiftedRow shiftRow
+  keeps-v = row-v s (variables s) (rowCount s) i
+
+  pub keeps-w : shiftedRow τ s i .w ≡ wOf s (variables s) i
+  unfolding shiftedRow shiftRow
+  keeps-w = row-w s (variables s) (rowCount s) i
+
+  pub keeps-kind : Suits (samePoint (vOf s (variables s) i) (wOf s (variables s) i)) (shiftedRow τ s i .weights)
+  unfolding shiftedRow shiftRow shiftedWeights
+  keeps-kind = go (samePoint (vOf s (variables s) i) (wOf s (variables s) i)) refl
+    where
+      go : (b : Bool) → samePoint (vOf s (variables s) i) (wOf s (variables s) i) ≡ b
+          → Suits b (shiftedRow τ s i .weights)
+      go true e = rw (row-lone s (variables s) (rowCount s) i e) tt
+      go false e = rw (row-pair s (variables s) (rowCount s) i e) tt
+
+  keeps-place : (n : ℕ) → Placed n (rowOf s (variables s) (rowCount s) i) → Placed n (shiftedRow τ s i)
+  unfolding shiftedRow shiftRow
+  keeps-place n h =
+      let a : Row = rowOf s (variables s) (rowCount s) i in
+      record {
+        v-length = h .v-length;
+        w-length = h .w-length;
+        whole = whole-stays τ (slots (rowsOf s)) (slotsBefore s i) (a .v) (a .w) (a .weights) (h .whole);
+      }
+
+pub rows-stay-placed : (τ : Exponents → ℤ) (s : List ℕ) → ProofFacts s (variables s) (rowCount s)
+    → All (Placed (variables s)) (shiftedRows τ s)
+unfolding shiftedRows
+rows-stay-placed τ s f =
+    all-table (shiftedRow τ s) (Placed (variables s)) (rowCount s)
+    (λ i l. keeps-place τ s i (variables s) (row-placed s (variables s) (rowCount s) i f l))
+
+-- where the proposed weights add up at every point of n exponents, the shifted row is the proposed one
+module _ (τ : Exponents → ℤ) (s : List ℕ)
+    (exact : (α : Exponents) → length α ≡ variables s → coefficient α (slots (rowsOf s)) ≡ τ α) where
+  stays : (before : Sum) (α : Exponents) (x : ℤ) → length α ≡ variables s
+      → shiftedWeight τ (slots (rowsOf s)) before α x ≡ x
+  stays before α x l = weight-stays τ (slots (rowsOf s)) before α x (exact α l)
+
+  weights-stay : (before : Sum) (v w : Exponents) (a : Weights) → length v ≡ variables s → length w ≡ variables s
+      → shiftedWeights τ (slots (rowsOf s)) before v w a ≡ a
+  unfolding shiftedWeights
+  weights-stay before v w (Pair p q r) lv lw =
+      rw (stays _ v p lv, stays _ w q lw, stays _ (midpointOf v w) r (midpoint-sized v w (variables s) lv lw))
+  weights-stay before v w (Lone p) lv lw = rw (stays _ v p lv)
+
+  pub row-stays : (i : ℕ) → shiftedRow τ s i ≡ rowOf s (variables s) (rowCount s) i
+  unfolding shiftedRow shiftRow
+  row-stays i =
+      let a : Row = rowOf s (variables s) (rowCount s) i in
+      rw (weights-stay (slotsBefore s i) (a .v) (a .w) (a .weights) (rw row-v (v-length s (variables s) (rowCount s) i))
+      (rw row-w (w-length s (variables s) (rowCount s) i)))

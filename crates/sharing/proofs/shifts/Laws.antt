@@ -1,0 +1,301 @@
+-- Laws of shifted rows: a row holds its own points, once each; and the ways through the code. A prime marks a number as
+-- the machine reads it back.
+use mathlib.Core.Path.{_≡_, refl, sym, _∙_, ap, ap₂}
+use mathlib.Core.Bool.{Bool, true, false, true≢false}
+use borrow.Author.Tests.{eq-eqb}
+use mathlib.Core.List.{List, [], _∷_, _++_}
+use Prim.Native.Nat.{ℕ, _+_, _*_, _-_, _^_, _<_, _≤_}
+use native.Mathlib.Omega.{arith}
+use lib.Dec.{lit<}
+use lib.IntN.{ℤ, negℤ, natAbs, _+ℤ_, _-ℤ_}
+use mir.Syntax.{w64}
+use mir.Val.{SFits}
+use mir.Facts.{toZ-ofZ}
+use Rattle.integers.specs.Division.{share}
+use Rattle.integers.proofs.Integers.{back, abs-add, abs-neg, fits-within}
+use Rattle.integers.proofs.division.Laws.{share-abs}
+use Rattle.monomials.specs.Points.{Exponents, exponents, pointOf, samePoint, midpointOf}
+use Rattle.monomials.specs.Keys.{keyOf}
+use Rattle.monomials.specs.Sums.{Sum}
+use Rattle.monomials.specs.Rows.{slotsAt, slots}
+use Rattle.monomials.specs.declared.points.Point.{Point}
+use Rattle.monomials.specs.declared.rows.Weights.{Weights}
+use Rattle.monomials.specs.declared.rows.Weights.the-variants.{Pair, Lone}
+use Rattle.monomials.proofs.points.Laws.{exponents-of, same-eq, same-refl}
+use Rattle.monomials.proofs.keys.Laws.{key-midpoint}
+use Rattle.monomials.proofs.rows.Laws.{slots-pair, slots-lone}
+use Rattle.sheets.specs.ProofSheet.{scaleOf, vOf, wOf, tripleOf, rowOf, rowsOf, byValue}
+use Rattle.sheets.specs.declared.proof_sheet.Row.{Row}
+use Rattle.sheets.specs.ClaimSheet.{floorOf}
+use Rattle.sheets.specs.WellFormed.{WellFormed}
+use Rattle.sheets.proofs.well_formed.Laws.{claim-formed, proof-formed, proof-room}
+use Rattle.sheets.proofs.proof_sheet.Laws.{lone-of, pair-of, row-v, row-w, value-v, value-w, value-weights, by-value}
+use Rattle.sheets.specs.Bounds.{greatestWeight}
+use Rattle.sheets.specs.Layout.{variables, rowCount, ProofRoom}
+use Rattle.sharing.specs.Sharing.{count, errorAt, shiftedWeight}
+use Rattle.sharing.specs.Targets.{targetOf}
+use Rattle.sharing.specs.Carried.{Carried}
+use Rattle.sharing.proofs.Carried.{v-carried, w-carried, middle-carried, carried-same}
+use Rattle.sharing.specs.Slots.{Scanned, slotsTo, holdingOf}
+use Rattle.sharing.specs.Shifts.{Given, IsRow, slotsBefore, shiftedWeights, shiftRow, shiftedRow}
+use Rattle.sharing.proofs.Sharing.{count-past, count-cons}
+use Rattle.sharing.proofs.slots.Laws.{all-slots, row-held, slots-are, tally-bound, tally-sum}
+use Rattle.sharing.specs.declared.slots.Holding.{Holding}
+
+-- ---- moved: aim is the target, y the share
+
+module _ (aim aim′ : ℤ) (h : Holding) (ha : natAbs aim ≤ 2 ^ 51) (hs : natAbs (h .sum) ≤ 2 ^ 42) (ea : aim′ ≡ aim) where
+  error-small : natAbs (aim -ℤ h .sum) ≤ 2 ^ 52
+  error-small = omega (arith, abs-add aim (negℤ (h .sum)), abs-neg (h .sum))
+
+  sum-back : back (h .sum) ≡ h .sum
+  sum-back = toZ-ofZ (fits-within {w = w64} (h .sum) (2 ^ 42) hs (lit< tt))
+
+  pub error-fits : SFits w64 (aim′ -ℤ back (h .sum))
+  error-fits = rw (ea, sum-back) (fits-within (aim -ℤ h .sum) (2 ^ 52) error-small (lit< tt))
+
+  module _ (x x′ e y y′ : ℤ) (ey : y ≡ share e (h .count) (h .rank)) (hx : natAbs x ≤ greatestWeight)
+      (ee : e ≡ back (aim′ -ℤ back (h .sum))) (ex : x′ ≡ x) (by : y′ ≡ y) where
+    error-is : e ≡ aim -ℤ h .sum
+    error-is = ee ∙ toZ-ofZ error-fits ∙ rw (ea, sum-back)
+
+    share-is : y′ ≡ share (aim -ℤ h .sum) (h .count) (h .rank)
+    share-is = by ∙ ey ∙ rw error-is
+
+    pub moved-fits : SFits w64 (x′ +ℤ y′)
+    moved-fits =
+        let z : ℤ = share (aim -ℤ h .sum) (h .count) (h .rank) in
+        let g = share-abs (aim -ℤ h .sum) (h .count) (h .rank) in
+        rw (ex, share-is) (fits-within (x +ℤ z) (2 ^ 53) (omega (arith, error-small, g, abs-add x z)) (lit< tt))
+
+    pub moved-is : back (x′ +ℤ y′) ≡ x +ℤ share (aim -ℤ h .sum) (h .count) (h .rank)
+    moved-is = toZ-ofZ moved-fits ∙ rw (ex, share-is)
+
+-- ---- well-formed sheets, with their own floor and scale
+
+pub given-formed : (c s : List ℕ) → WellFormed c s → Given c s (floorOf c) (scaleOf s)
+given-formed c s f =
+    let claim = claim-formed c s f in
+    let proof = proof-formed c s f in
+    record {
+      claim = claim;
+      proof = rw (proof .same) proof;
+      same = proof .same;
+      floor = claim .floor-within;
+      scale = proof .scale;
+    }
+
+-- ---- shifted: n and k are what the proof sheet says
+
+module _ (c s : List ℕ) (b : ℤ) (S : ℕ) (given : Given c s b S) (n k : ℕ) (en : n ≡ variables s)
+    (ek : k ≡ rowCount s) where
+  pub scanned-here : Scanned s n k
+  scanned-here = rw (en, ek) (record {
+    some = rw (given .same) (given .claim .some);
+    few = rw (given .same) (given .claim .few);
+    facts = given .proof;
+  })
+
+  pub carried-here : (α : Exponents) → Carried (variables c) α → Carried n α
+  carried-here α h = rw (en, given .same) h
+
+  pub row-here : (i : ℕ) → i < rowCount s → i < k
+  row-here i l = rw ek l
+
+  module _ (i : ℕ) (p : Point) (h : Holding) (eh : h ≡ holdingOf (exponents p) (slotsTo s n k k) (slotsTo s n k i)) where
+    pub held-small : Carried (variables c) (exponents p) → natAbs (h .sum) ≤ 2 ^ 42
+    unfolding holdingOf
+    held-small carried =
+        let f = scanned-here in
+        let m = slots-are s n k f k (omega arith) in
+        let g = tally-bound n (k * 3) (keyOf (exponents p)) (slotsTo s n k k) m .0 in
+        let rows = f .facts .rows in
+        let same = tally-sum n (exponents p) (carried-here (exponents p) carried) (slotsTo s n k k) (m .each) in
+        rw (eh, ← same) (omega (arith, g))
+
+    pub held-some : 0 < count (exponents p) (slots (rowsOf s)) → 0 < h .count
+    unfolding holdingOf
+    held-some l = rw (eh, all-slots s n k en ek) l
+
+    pub shifted-is : (x x′ b′ aim aim′ r r′ : ℤ) → r ≡ x′ +ℤ share (aim′ -ℤ h .sum) (h .count) (h .rank)
+        → aim ≡ targetOf c b′ S (exponents p) → r′ ≡ r → aim′ ≡ aim → x′ ≡ x → b′ ≡ b
+        → r′ ≡ shiftedWeight (targetOf c b S) (slots (rowsOf s)) (slotsBefore s i) (exponents p) x
+    unfolding holdingOf slotsBefore shiftedWeight errorAt
+    shifted-is x x′ b′ aim aim′ r r′ er ea br ba bx bb = br ∙ er ∙ rw (ba, ea, bx, bb, eh, all-slots s n k en ek, en, ek)
+
+-- ---- a slot elsewhere does not move another's weight
+
+pub weight-past : (τ : Exponents → ℤ) (L before : Sum) (t : Exponents × ℤ) (α : Exponents) (x : ℤ)
+    → samePoint α (t .0) ≡ false
+    → shiftedWeight τ L (before ++ (t ∷ [])) α x ≡ shiftedWeight τ L before α x
+unfolding shiftedWeight
+weight-past τ L before t α x h = rw (count-past α before t h)
+
+-- ---- a row holds its points once each
+
+module _ (s : List ℕ) (n k i : ℕ) (f : Scanned s n k) (l : i < k) where
+  -- of a pair, no two points are the same
+  module _ (apart : samePoint (vOf s n i) (wOf s n i) ≡ false) where
+    keys-apart : (keyOf (vOf s n i) ≡ keyOf (wOf s n i)) → ⊥
+    keys-apart e =
+        let same = carried-same n (vOf s n i) (wOf s n i) (v-carried s n k i (f .facts) l) (w-carried s n k i (f .facts) l) in
+        true≢false (sym (eq-eqb _ _ e) ∙ same ∙ apart)
+
+    unlike : (α β : Exponents) → ((keyOf α ≡ keyOf β) → ⊥) → samePoint α β ≡ false
+    unlike α β d = go (samePoint α β) refl
+      where
+        go : (b : Bool) → samePoint α β ≡ b → b ≡ false
+        go true e = absurd (d (ap keyOf (same-eq α β e)))
+        go false e = refl
+
+    pub w-off-v : samePoint (wOf s n i) (vOf s n i) ≡ false
+    w-off-v = unlike _ _ (λ e. keys-apart (sym e))
+
+    middle-key : keyOf (vOf s n i) + keyOf (wOf s n i) ≡ keyOf (midpointOf (vOf s n i) (wOf s n i)) * 2
+    middle-key = key-midpoint (vOf s n i) (wOf s n i) (f .facts .whole i l)
+
+    pub u-off-v : samePoint (midpointOf (vOf s n i) (wOf s n i)) (vOf s n i) ≡ false
+    u-off-v = unlike _ _ (λ e. keys-apart (omega (arith, middle-key)))
+
+    pub u-off-w : samePoint (midpointOf (vOf s n i) (wOf s n i)) (wOf s n i) ≡ false
+    u-off-w = unlike _ _ (λ e. keys-apart (omega (arith, middle-key)))
+
+-- ---- shifted_weights: row i of well-formed sheets
+
+module _ (c s : List ℕ) (b : ℤ) (S i : ℕ) (given : Given c s b S) (l : i < rowCount s) where
+  pub given-back : (b′ : ℤ) → b′ ≡ b → Given c s b′ S
+  given-back b′ e = rw e given
+
+  abbrev n : ℕ
+  n = variables s
+
+  abbrev k : ℕ
+  k = rowCount s
+
+  abbrev α : Exponents
+  α = vOf s n i
+
+  abbrev β : Exponents
+  β = wOf s n i
+
+  scanned : Scanned s n k
+  scanned = scanned-here c s b S given n k refl refl
+
+  -- the points of the row's own slots are held
+  own-held : (γ : Exponents) (L : Sum) → slotsAt (rowOf s n k i .v) (rowOf s n k i .w) (rowOf s n k i .weights) ≡ L
+      → 0 < count γ L → 0 < count γ (slots (rowsOf s))
+  own-held γ L e h = rw (← (all-slots s n k refl refl)) (row-held s n k i γ l (rw e h))
+
+  module _ (v w : Point) (a : Weights) (row : IsRow s i v w a) where
+    v-is : exponents v ≡ α
+    v-is = rw (row .first) (exponents-of α)
+
+    w-is : exponents w ≡ β
+    w-is = rw (row .second) (exponents-of β)
+
+    pub v-carries : Carried (variables c) (exponents v)
+    v-carries = rw (v-is, ← (given .same)) (v-carried s n k i (given .proof) l)
+
+    pub w-carries : Carried (variables c) (exponents w)
+    w-carries = rw (w-is, ← (given .same)) (w-carried s n k i (given .proof) l)
+
+    module _ (u : Point) (eu : u ≡ pointOf (midpointOf (exponents v) (exponents w))) where
+      u-is : exponents u ≡ midpointOf α β
+      u-is = rw (eu, exponents-of (midpointOf (exponents v) (exponents w)), v-is, w-is)
+
+      pub u-carries : Carried (variables c) (exponents u)
+      u-carries = rw (u-is, ← (given .same)) (middle-carried s n k i (given .proof) l)
+
+    -- a lone row
+    module _ (p : ℤ) (e : a ≡ Lone p) where
+      lone-row : rowOf s n k i .weights ≡ Lone p
+      lone-row = sym (row .carries) ∙ e
+
+      pub lone-within : (p′ : ℤ) → p′ ≡ p → natAbs p′ ≤ greatestWeight
+      lone-within p′ ep = rw (ep, ← (lone-of s n k i p lone-row .1)) (given .proof .weights-within i l .p-within)
+
+      pub lone-held : 0 < count (exponents v) (slots (rowsOf s))
+      lone-held =
+          own-held (exponents v) ((exponents v, p) ∷ []) (rw (lone-row, slots-lone, row-v, v-is))
+          (rw (count-cons, same-refl) (omega arith))
+
+      pub lone-shifted : (b′ p′ x x′ : ℤ)
+          → x ≡ shiftedWeight (targetOf c b′ S) (slots (rowsOf s)) (slotsBefore s i) (exponents v) p′
+          → x′ ≡ x → p′ ≡ p → b′ ≡ b → Lone x′ ≡ shiftedRow (targetOf c b S) s i .weights
+      unfolding shiftedRow shiftRow shiftedWeights
+      lone-shifted b′ p′ x x′ ex bx bp bb = rw (lone-row, row-v, bx, ex, bp, bb, v-is)
+
+    -- a pair
+    module _ (p q r : ℤ) (e : a ≡ Pair p q r) where
+      pair-row : rowOf s n k i .weights ≡ Pair p q r
+      pair-row = sym (row .carries) ∙ e
+
+      parts : (samePoint α β ≡ false) × (tripleOf s n k i .p ≡ p) × (tripleOf s n k i .q ≡ q) × (tripleOf s n k i .r ≡ r)
+      parts = pair-of s n k i p q r pair-row
+
+      pub p-within : (p′ : ℤ) → p′ ≡ p → natAbs p′ ≤ greatestWeight
+      p-within p′ ep = rw (ep, ← (parts .1)) (given .proof .weights-within i l .p-within)
+
+      pub q-within : (q′ : ℤ) → q′ ≡ q → natAbs q′ ≤ greatestWeight
+      q-within q′ eq = rw (eq, ← (parts .2)) (given .proof .weights-within i l .q-within)
+
+      pub r-within : (r′ : ℤ) → r′ ≡ r → natAbs r′ ≤ greatestWeight
+      r-within r′ er = rw (er, ← (parts .3)) (given .proof .weights-within i l .r-within)
+
+      β-off-α : samePoint β α ≡ false
+      β-off-α = w-off-v s n k i scanned l (parts .0)
+
+      mid-off-α : samePoint (midpointOf α β) α ≡ false
+      mid-off-α = u-off-v s n k i scanned l (parts .0)
+
+      mid-off-β : samePoint (midpointOf α β) β ≡ false
+      mid-off-β = u-off-w s n k i scanned l (parts .0)
+
+      pair-held : (γ : Exponents) → 0 < count γ ((α, p) ∷ (β, q) ∷ (midpointOf α β, r) ∷ [])
+          → 0 < count γ (slots (rowsOf s))
+      pair-held γ h = own-held γ _ (rw (pair-row, slots-pair, row-v, row-w)) h
+
+      pub p-held : 0 < count (exponents v) (slots (rowsOf s))
+      p-held = pair-held (exponents v) (rw (v-is, count-cons, same-refl) (omega arith))
+
+      pub q-held : 0 < count (exponents w) (slots (rowsOf s))
+      q-held = pair-held (exponents w) (rw (w-is, count-cons, β-off-α, count-cons, same-refl) (omega arith))
+
+      module _ (u : Point) (eu : u ≡ pointOf (midpointOf (exponents v) (exponents w))) where
+        pub r-held : 0 < count (exponents u) (slots (rowsOf s))
+        r-held =
+            pair-held (exponents u)
+            (rw (u-is u eu, count-cons, mid-off-α, count-cons, mid-off-β, count-cons, same-refl) (omega arith))
+
+        pub pair-shifted : (b₁ b₂ b₃ p′ q′ r′ x x′ y y′ z z′ : ℤ)
+            → x ≡ shiftedWeight (targetOf c b₁ S) (slots (rowsOf s)) (slotsBefore s i) (exponents v) p′
+            → y ≡ shiftedWeight (targetOf c b₂ S) (slots (rowsOf s)) (slotsBefore s i) (exponents w) q′
+            → z ≡ shiftedWeight (targetOf c b₃ S) (slots (rowsOf s)) (slotsBefore s i) (exponents u) r′
+            → x′ ≡ x → y′ ≡ y → z′ ≡ z → p′ ≡ p → q′ ≡ q → r′ ≡ r → b₁ ≡ b → b₂ ≡ b → b₃ ≡ b
+            → Pair x′ y′ z′ ≡ shiftedRow (targetOf c b S) s i .weights
+        unfolding shiftedRow shiftRow shiftedWeights
+        pair-shifted b₁ b₂ b₃ p′ q′ r′ x x′ y y′ z z′ ex ey ez bx by bz bp bq br e₁ e₂ e₃ =
+            rw (pair-row, row-v, row-w, bx, ex, by, ey, bz, ez, bp, bq, br, e₁, e₂, e₃, v-is, w-is, u-is u eu)
+            (ap₂ (Pair (shiftedWeight (targetOf c b S) (slots (rowsOf s)) (slotsBefore s i) α p))
+            (sym (weight-past _ _ _ _ _ q β-off-α))
+            (sym (weight-past _ _ _ _ _ r mid-off-β ∙ weight-past _ _ _ _ _ r mid-off-α)))
+
+-- ---- shifted_row
+
+module _ (c s : List ℕ) (b : ℤ) (S i n k : ℕ) (given : Given c s b S) (en : n ≡ variables s) (ek : k ≡ rowCount s) where
+  pub room-here : ProofRoom s n k
+  room-here = let f = scanned-here c s b S given n k en ek in proof-room s n k (f .few) (f .facts)
+
+  module _ (row : Row) (er : row ≡ byValue (rowOf s n k i)) where
+    pub is-row : (v w : Point) (a : Weights) → v ≡ row .v → w ≡ row .w → a ≡ row .weights → IsRow s i v w a
+    is-row v w a ev ew ea = record {
+      first = ev ∙ value-v _ row er ∙ rw (row-v, en);
+      second = ew ∙ value-w _ row er ∙ rw (row-w, en);
+      carries = ea ∙ value-weights _ row er ∙ rw (en, ek);
+    }
+
+    pub row-shifted : (v w : Point) (b′ : ℤ) (x : Weights) → x ≡ shiftedRow (targetOf c b′ S) s i .weights → v ≡ row .v
+        → w ≡ row .w → b′ ≡ b → record { v = v; w = w; weights = x } ≡ byValue (shiftedRow (targetOf c b S) s i)
+    unfolding shiftedRow shiftRow
+    row-shifted v w b′ x ex ev ew bb =
+        by-value _ v w x (ev ∙ value-v _ row er ∙ rw (en, ek)) (ew ∙ value-w _ row er ∙ rw (en, ek)) (ex ∙ rw bb)

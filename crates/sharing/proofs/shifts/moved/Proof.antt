@@ -1,0 +1,20 @@
+use mir.Facts.{toZ-ofZ}
+use Rattle.sharing.proofs.shifts.Laws.{error-fits, moved-fits, moved-is}
+use borrow.Author.Needs.{needs}
+use Rattle.sharing.proofs.shifts.moved.Statement.{statement}
+use Rattle.sharing.proofs.shifts.moved.Tie as tie
+
+sub-share : tie.Need-sub-share
+sub-share c = search (error-fits, toZ-ofZ)
+
+share-requires : tie.Need-share-requires
+share-requires c κs = search needs
+
+add-result : tie.Need-add-result
+add-result c = search (moved-fits, toZ-ofZ)
+
+returns : tie.Need-returns
+returns c = search (moved-is, toZ-ofZ)
+
+pub moved-spec : {M : Type 1} → statement M
+moved-spec = tie.close (tie.spec sub-share share-requires add-result returns)

@@ -1,0 +1,30 @@
+use mir.Facts.{toZ-ofZ}
+use Rattle.sharing.proofs.shifts.Laws.{room-here, row-here, given-back, is-row, row-shifted}
+use borrow.Author.Needs.{needs}
+use Rattle.sharing.proofs.shifts.shifted_row.Statement.{statement}
+use Rattle.sharing.proofs.shifts.shifted_row.Tie as tie
+
+variables-requires : tie.Need-variables-requires
+variables-requires c κs = search needs
+
+row-count-requires : tie.Need-row-count-requires
+row-count-requires c κs = search needs
+
+row-at-requires : tie.Need-row-at-requires
+row-at-requires c κs = search (needs, room-here, row-here)
+
+shifted-weights-requires : tie.Need-shifted-weights-requires
+shifted-weights-requires c κs = search (needs, given-back, is-row, toZ-ofZ)
+
+returns : tie.Need-returns
+returns c = search (row-shifted, toZ-ofZ)
+
+pub shifted-row-spec : {M : Type 1} → statement M
+shifted-row-spec =
+    tie.close
+    (tie.spec
+    variables-requires
+    row-count-requires
+    row-at-requires
+    shifted-weights-requires
+    returns)

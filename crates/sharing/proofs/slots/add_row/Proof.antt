@@ -1,0 +1,58 @@
+use Rattle.sheets.proofs.well_formed.Laws.{proof-room}
+use Rattle.sharing.proofs.slots.Laws.{p-inside, q-inside, r-inside, p-within, q-within, r-within, sum-a, count-a, sum-b, count-b, sum-c, count-c, ends-fit, lone-added, pair-added}
+use borrow.Author.Needs.{needs}
+use Rattle.sharing.proofs.slots.add_row.Statement.{statement}
+use Rattle.sharing.proofs.slots.add_row.Tie as tie
+
+v-key-requires : tie.Need-v-key-requires
+v-key-requires c κs = search (needs, proof-room)
+
+w-key-requires : tie.Need-w-key-requires
+w-key-requires c κs = search (needs, proof-room)
+
+triple-place-requires : tie.Need-triple-place-requires
+triple-place-requires c κs = search needs
+
+add-if-requires : tie.Need-add-if-requires
+add-if-requires c κs = search (needs, p-inside, p-within, sum-a, count-a)
+
+returns : tie.Need-returns
+returns c = search lone-added
+
+add-add-if : tie.Need-add-add-if
+add-add-if c = search needs
+
+add-if-requires-2 : tie.Need-add-if-requires-2
+add-if-requires-2 c κs = search (needs, q-inside, q-within, sum-b, count-b)
+
+add-add-if-2 : tie.Need-add-add-if-2
+add-add-if-2 c = search ends-fit
+
+mul-add-if : tie.Need-mul-add-if
+mul-add-if c = search needs
+
+add-add-if-3 : tie.Need-add-add-if-3
+add-add-if-3 c = search needs
+
+add-if-requires-3 : tie.Need-add-if-requires-3
+add-if-requires-3 c κs = search (needs, r-inside, r-within, sum-c, count-c)
+
+returns-2 : tie.Need-returns-2
+returns-2 c = search pair-added
+
+pub add-row-spec : {M : Type 1} → statement M
+add-row-spec =
+    tie.close
+    (tie.spec
+    v-key-requires
+    w-key-requires
+    triple-place-requires
+    add-if-requires
+    returns
+    add-add-if
+    add-if-requires-2
+    add-add-if-2
+    mul-add-if
+    add-add-if-3
+    add-if-requires-3
+    returns-2)

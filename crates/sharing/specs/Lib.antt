@@ -1,0 +1,6 @@
+pub mod Sharing
+pub mod Carried
+pub mod Targets
+pub mod Slots
+pub mod Shifts
+pub mod Cases

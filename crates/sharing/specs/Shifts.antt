@@ -1,0 +1,56 @@
+-- Shifted rows: each row of a proof with the shifted weights of its slots. Its points stay.
+use mathlib.Core.Path.{_≡_}
+use mathlib.Core.List.{List, [], _∷_, _++_}
+use Prim.Native.Nat.{ℕ, _≤_}
+use lib.IntN.{ℤ, natAbs}
+use Rattle.monomials.specs.Lists.{table}
+use Rattle.monomials.specs.Points.{Exponents, pointOf, midpointOf}
+use Rattle.monomials.specs.Sums.{Sum}
+use Rattle.monomials.specs.Rows.{Row, slots}
+use Rattle.monomials.specs.declared.points.Point.{Point}
+use Rattle.monomials.specs.declared.rows.Weights.{Weights}
+use Rattle.monomials.specs.declared.rows.Weights.the-variants.{Pair, Lone}
+use Rattle.sheets.specs.Bounds.{greatestWeight, greatestScale}
+use Rattle.sheets.specs.Layout.{variables, termCount, rowCount}
+use Rattle.sheets.specs.ProofSheet.{vOf, wOf, rowOf, rowsOf}
+use Rattle.sheets.specs.WellFormed.{ClaimFacts, ProofFacts}
+use Rattle.sharing.specs.Sharing.{shiftedWeight}
+use Rattle.sharing.specs.Slots.{slotsTo}
+
+-- the shifted weights of a row's slots "p at v, q at w and r at u"; L are all slots, `before` those of the rows before
+unfoldable pub shiftedWeights : (Exponents → ℤ) → Sum → Sum → Exponents → Exponents → Weights → Weights
+shiftedWeights τ L before v w (Pair p q r) =
+    Pair (shiftedWeight τ L before v p)
+    (shiftedWeight τ L (before ++ ((v, p) ∷ [])) w q)
+    (shiftedWeight τ L (before ++ ((v, p) ∷ []) ++ ((w, q) ∷ [])) (midpointOf v w) r)
+shiftedWeights τ L before v w (Lone p) = Lone (shiftedWeight τ L before v p)
+
+-- a row with its shifted weights
+unfoldable pub shiftRow : (Exponents → ℤ) → Sum → Sum → Row → Row
+shiftRow τ L before a = record { v = a .v; w = a .w; weights = shiftedWeights τ L before (a .v) (a .w) (a .weights) }
+
+-- the slots of the rows before row i of a proof sheet
+unfoldable pub slotsBefore : List ℕ → ℕ → Sum
+slotsBefore s i = slotsTo s (variables s) (rowCount s) i
+
+-- row i of a proof sheet, shifted
+unfoldable pub shiftedRow : (Exponents → ℤ) → List ℕ → ℕ → Row
+shiftedRow τ s i = shiftRow τ (slots (rowsOf s)) (slotsBefore s i) (rowOf s (variables s) (rowCount s) i)
+
+-- every row of the proof, shifted
+unfoldable pub shiftedRows : (Exponents → ℤ) → List ℕ → List Row
+shiftedRows τ s = table (shiftedRow τ s) (rowCount s)
+
+-- two sheets that pass their checks, a floor and a scale
+pub record Given (c s : List ℕ) (b : ℤ) (S : ℕ) : Type 0 where
+  pub claim : ClaimFacts c (variables c) (termCount c)
+  pub proof : ProofFacts s (variables s) (rowCount s)
+  pub same : variables s ≡ variables c
+  pub floor : natAbs b ≤ greatestWeight
+  pub scale : S ≤ greatestScale
+
+-- two points by value and the weights that are row i's
+pub record IsRow (s : List ℕ) (i : ℕ) (v w : Point) (weights : Weights) : Type 0 where
+  pub first : v ≡ pointOf (vOf s (variables s) i)
+  pub second : w ≡ pointOf (wOf s (variables s) i)
+  pub carries : weights ≡ rowOf s (variables s) (rowCount s) i .weights

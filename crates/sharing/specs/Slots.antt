@@ -1,0 +1,42 @@
+-- The slots of a proof sheet, and those at one point tallied.
+use mathlib.Core.Bool.{Bool, cond}
+use mathlib.Core.List.{List, [], _∷_}
+use Prim.Native.Nat.{ℕ, _+_, _≤_}
+use lib.Dec.{eqb}
+use lib.IntN.{ℤ, pos, _+ℤ_}
+use Rattle.monomials.specs.Lists.{table}
+use Rattle.monomials.specs.Points.{Exponents}
+use Rattle.monomials.specs.Keys.{keyOf}
+use Rattle.monomials.specs.Sums.{Sum, coefficient}
+use Rattle.monomials.specs.Rows.{slots}
+use Rattle.sheets.specs.ProofSheet.{rowOf}
+use Rattle.sheets.specs.WellFormed.{ProofFacts}
+use Rattle.sharing.specs.Sharing.{count}
+use Rattle.sharing.specs.declared.slots.Holding.{Holding}
+use Rattle.sharing.specs.declared.slots.Tally.{Tally}
+
+-- a proof of n variables and k rows that passes its checks
+pub record Scanned (s : List ℕ) (n k : ℕ) : Type 0 where
+  pub some : 1 ≤ n
+  pub few : n ≤ 8
+  pub facts : ProofFacts s n k
+
+-- the slots of the first i rows, in a proof of n variables and k rows
+unfoldable pub slotsTo : List ℕ → ℕ → ℕ → ℕ → Sum
+slotsTo s n k i = slots (table (rowOf s n k) i)
+
+-- one slot more, where it is at the point
+unfoldable pub added : Bool → ℤ → Tally → Tally
+added hit x a = cond hit (record { sum = a .sum +ℤ x; count = a .count + 1 }) a
+
+-- what was tallied, and the slots whose point has the key
+unfoldable pub tallyFrom : ℕ → Tally → Sum → Tally
+tallyFrom key a [] = a
+tallyFrom key a (t ∷ L) = tallyFrom key (added (eqb key (keyOf (t .0))) (t .1) a) L
+
+unfoldable pub tallyOf : ℕ → Sum → Tally
+tallyOf key L = tallyFrom key (record { sum = pos 0; count = 0 }) L
+
+-- the sum of the weights at a point, its count of slots, and how many of these are before
+unfoldable pub holdingOf : Exponents → Sum → Sum → Holding
+holdingOf α L before = record { sum = coefficient α L; count = count α L; rank = count α before }

@@ -1,0 +1,82 @@
+// Shifted weights: each slot's weight with its share of the error at its point.
+use crate::slots::Holding;
+use crate::slots::held;
+use crate::targets::target;
+use integers::division::share;
+use monomials::points::Point;
+use monomials::points::midpoint;
+use monomials::rows::Weights;
+use sheets::layout::variables;
+use sheets::proof_sheet::Row;
+use sheets::proof_sheet::row_at;
+use sheets::proof_sheet::row_count;
+ghost use mathlib.Core.Path.{_≡_};
+ghost use Prim.Native.Nat.{_<_, _≤_, _^_};
+ghost use lib.IntN.{natAbs, _+ℤ_, _-ℤ_};
+ghost use Rattle.integers.specs.Division.{share};
+ghost use Rattle.monomials.specs.Points.{exponents};
+ghost use Rattle.monomials.specs.Rows.{slots};
+ghost use Rattle.sheets.specs.Bounds.{greatestWeight};
+ghost use Rattle.sheets.specs.Layout.{variables, rowCount};
+ghost use Rattle.sheets.specs.ProofSheet.{rowsOf, byValue};
+ghost use Rattle.sharing.specs.Sharing.{count, shiftedWeight};
+ghost use Rattle.sharing.specs.Targets.{targetOf};
+ghost use Rattle.sharing.specs.Carried.{Carried};
+ghost use Rattle.sharing.specs.Shifts.{Given, IsRow, slotsBefore, shiftedRow};
+
+// A weight with its share of the error.
+fn moved(x: i64, aim: i64, h: Holding) -> i64
+    requires { ⌜ (natAbs x ≤ greatestWeight) × (natAbs aim ≤ 2 ^ 51) × (natAbs (h .sum) ≤ 2 ^ 42) × (0 < h .count) ⌝ }
+    ensures { λ r. ⌜ r ≡ x +ℤ share (aim -ℤ h .sum) (h .count) (h .rank) ⌝ }
+{
+    x + share(aim - h.sum, h.count, h.rank)
+}
+
+// The weight x of a slot of row i at p, shifted.
+fn shifted(claim: &[u8], proof: &[u8], floor: i64, scale: u64, i: usize, p: Point, x: i64) -> i64
+    requires { ⌜ (Given (now claim) (now proof) floor scale) × (i < rowCount (now proof)) × (Carried (variables (now claim)) (exponents p)) × (natAbs x ≤ greatestWeight) × (0 < count (exponents p) (slots (rowsOf (now proof)))) ⌝ }
+    ensures { λ r. ⌜ r ≡ shiftedWeight (targetOf (now (claim .entry)) floor scale) (slots (rowsOf (now (proof .entry)))) (slotsBefore (now (proof .entry)) i) (exponents p) x ⌝ }
+{
+    let h = held(proof, variables(proof), row_count(proof), i, p);
+    moved(x, target(claim, floor, scale, p), h)
+}
+
+// The weights of row i, shifted; v and w are its points.
+fn shifted_weights(
+    claim: &[u8],
+    proof: &[u8],
+    floor: i64,
+    scale: u64,
+    i: usize,
+    v: Point,
+    w: Point,
+    weights: Weights,
+) -> Weights
+    requires { ⌜ (Given (now claim) (now proof) floor scale) × (i < rowCount (now proof)) × (IsRow (now proof) i v w weights) ⌝ }
+    ensures { λ r. ⌜ r ≡ shiftedRow (targetOf (now (claim .entry)) floor scale) (now (proof .entry)) i .weights ⌝ }
+{
+    match weights {
+        Weights::Pair(p, q, r) => Weights::Pair(
+            shifted(claim, proof, floor, scale, i, v, p),
+            shifted(claim, proof, floor, scale, i, w, q),
+            shifted(claim, proof, floor, scale, i, midpoint(v, w), r),
+        ),
+        Weights::Lone(p) => Weights::Lone(shifted(claim, proof, floor, scale, i, v, p)),
+    }
+}
+
+// Row i with its shifted weights.
+pub fn shifted_row(claim: &[u8], proof: &[u8], floor: i64, scale: u64, i: usize) -> Row
+    requires { ⌜ (Given (now claim) (now proof) floor scale) × (i < rowCount (now proof)) ⌝ }
+    ensures { λ r. ⌜ r ≡ byValue (shiftedRow (targetOf (now (claim .entry)) floor scale) (now (proof .entry)) i) ⌝ }
+{
+    let row = row_at(proof, variables(proof), row_count(proof), i);
+    let v = row.v;
+    let w = row.w;
+    let weights = row.weights;
+    Row {
+        v,
+        w,
+        weights: shifted_weights(claim, proof, floor, scale, i, v, w, weights),
+    }
+}

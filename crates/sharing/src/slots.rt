@@ -1,0 +1,88 @@
+// Slots of a proof sheet at one point, each time found by going over the rows.
+use integers::words::read_i32;
+use monomials::keys::key_of;
+use monomials::points::Point;
+use sheets::proof_sheet::triple_place;
+use sheets::proof_sheet::v_key;
+use sheets::proof_sheet::w_key;
+ghost use mathlib.Core.Path.{_≡_};
+ghost use Prim.Native.Nat.{_+_, _^_, _<_, _≤_};
+ghost use lib.IntN.{natAbs};
+ghost use lib.ListN.{length};
+ghost use Rattle.integers.specs.Words.{i32At};
+ghost use Rattle.monomials.specs.Points.{exponents};
+ghost use Rattle.sheets.specs.Bounds.{greatestWeight};
+ghost use Rattle.sharing.specs.Carried.{Carried};
+ghost use Rattle.sharing.specs.Slots.{Scanned, slotsTo, added, tallyOf, holdingOf};
+
+// What the slots at a point weigh together, and how many they are.
+pub struct Tally {
+    pub sum: i64,
+    pub count: u32,
+}
+
+// The same of all rows, with the number of slots that come before a row.
+pub struct Holding {
+    pub sum: i64,
+    pub count: u32,
+    pub rank: u32,
+}
+
+// One slot more, where it is at the point; its weight stands at a place.
+fn add_if(hit: bool, proof: &[u8], at: usize, a: Tally) -> Tally
+    requires { ⌜ (at + 4 ≤ length (now proof)) × (natAbs (i32At (now proof) at) ≤ greatestWeight) × (natAbs (a .sum) ≤ 2 ^ 42) × (a .count ≤ 1048576) ⌝ }
+    ensures { λ r. ⌜ r ≡ added hit (i32At (now (proof .entry)) at) a ⌝ }
+{
+    if hit {
+        return Tally {
+            sum: a.sum + read_i32(proof, at),
+            count: a.count + 1,
+        };
+    }
+    a
+}
+
+// The slots of one row more: a pair's midpoint has the key where twice the key is the sum of its ends' keys.
+fn add_row(proof: &[u8], n: usize, k: usize, i: usize, key: u64, a: Tally) -> Tally
+    requires { ⌜ (Scanned (now proof) n k) × (i < k) × (key < 2 ^ 63) × (a ≡ tallyOf key (slotsTo (now proof) n k i)) ⌝ }
+    ensures { λ r. ⌜ r ≡ tallyOf key (slotsTo (now (proof .entry)) n k (i + 1)) ⌝ }
+{
+    let v = v_key(proof, n, k, i);
+    let w = w_key(proof, n, k, i);
+    let at = triple_place(n, k, i);
+    let b = add_if(key == v, proof, at, a);
+    if v == w {
+        return b;
+    }
+    let c = add_if(key == w, proof, at + 4, b);
+    add_if(v + w == key * 2, proof, at + 8, c)
+}
+
+// From the slots of the first rows to those of more.
+fn scan(proof: &[u8], n: usize, k: usize, from: usize, to: usize, key: u64, a: Tally) -> Tally
+    requires { ⌜ (Scanned (now proof) n k) × (from ≤ to) × (to ≤ k) × (key < 2 ^ 63) × (a ≡ tallyOf key (slotsTo (now proof) n k from)) ⌝ }
+    ensures { λ r. ⌜ r ≡ tallyOf key (slotsTo (now (proof .entry)) n k to) ⌝ }
+{
+    let mut b = a;
+    let mut i = from;
+    while i < to {
+        b = add_row(proof, n, k, i, key, b);
+        i += 1;
+    }
+    b
+}
+
+// What the slots at a point are, seen from row i.
+pub(crate) fn held(proof: &[u8], n: usize, k: usize, i: usize, p: Point) -> Holding
+    requires { ⌜ (Scanned (now proof) n k) × (i < k) × (Carried n (exponents p)) ⌝ }
+    ensures { λ r. ⌜ r ≡ holdingOf (exponents p) (slotsTo (now (proof .entry)) n k k) (slotsTo (now (proof .entry)) n k i) ⌝ }
+{
+    let key = key_of(p);
+    let before = scan(proof, n, k, 0, i, key, Tally { sum: 0, count: 0 });
+    let all = scan(proof, n, k, i, k, key, before);
+    Holding {
+        sum: all.sum,
+        count: all.count,
+        rank: before.count,
+    }
+}

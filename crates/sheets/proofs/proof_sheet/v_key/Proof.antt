@@ -1,0 +1,18 @@
+use Rattle.sheets.specs.ProofSheet.{vOf}
+use Rattle.sheets.proofs.proof_sheet.Laws.{v-inside, v-late}
+use borrow.Author.Needs.{needs}
+use Rattle.sheets.proofs.proof_sheet.v_key.Statement.{statement}
+use Rattle.sheets.proofs.proof_sheet.v_key.Tie as tie
+
+row-place-requires : tie.Need-row-place-requires
+row-place-requires c κs = search needs
+
+key-at-requires : tie.Need-key-at-requires
+key-at-requires c κs = search (needs, v-inside, v-late)
+
+returns : tie.Need-returns
+unfolding vOf
+returns c = cc
+
+pub v-key-spec : {M : Type 1} → statement M
+v-key-spec = tie.close (tie.spec row-place-requires key-at-requires returns)
