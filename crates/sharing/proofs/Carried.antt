@@ -8,10 +8,10 @@ use Rattle.monomials.specs.Points.{Exponents, samePoint, midpointOf}
 use Rattle.monomials.specs.Keys.{keyOf}
 use Rattle.monomials.proofs.points.Laws.{midpoint-sized, midpoint-within, zeros-within}
 use Rattle.monomials.proofs.keys.Laws.{Below, within-below, key-same, key-low}
-use Rattle.sheets.specs.Bounds.{greatestExponent}
+use Rattle.checks.specs.Bounds.{greatestExponent}
 use Rattle.sheets.specs.ClaimSheet.{termPoint}
 use Rattle.sheets.specs.ProofSheet.{vOf, wOf}
-use Rattle.sheets.specs.WellFormed.{ClaimFacts, ProofFacts}
+use Rattle.checks.specs.WellFormed.{ClaimFacts, ProofFacts}
 use Rattle.sheets.proofs.claim_sheet.Laws.{point-length}
 use Rattle.sheets.proofs.proof_sheet.Laws.{v-length, w-length}
 use Rattle.sharing.specs.Carried.{Carried}

@@ -9,7 +9,7 @@ use Rattle.monomials.specs.Rows.{slotsAt, slots}
 use Rattle.monomials.specs.Targets.{lowered, worst, target}
 use Rattle.sheets.specs.ClaimSheet.{floorOf, termPoint, coefficientOf, termOf, termsOf}
 use Rattle.sheets.specs.ProofSheet.{scaleOf, vOf, wOf, wordsAt, tripleOf, weightsOf, rowOf, rowsOf}
-use Rattle.sheets.specs.Cases.{joined, word, words, claimOf, proofOf, squareProof}
+use Rattle.checks.specs.Cases.{joined, word, words, claimOf, proofOf, squareProof}
 use Rattle.sharing.specs.Sharing.{count, errorAt, shiftedWeight}
 use Rattle.sharing.specs.Targets.{targetOf}
 use Rattle.sharing.specs.Slots.{slotsTo}

@@ -18,9 +18,8 @@ use Rattle.monomials.proofs.points.Laws.{midpoint-sized}
 use Rattle.monomials.proofs.rows.Laws.{slots-pair, slots-lone, slots-none, slots-more}
 use Rattle.sheets.specs.Layout.{variables, rowCount}
 use Rattle.sheets.specs.ProofSheet.{vOf, wOf, rowOf, rowsOf, Suits}
-use Rattle.sheets.specs.WellFormed.{ProofFacts}
-use Rattle.sheets.proofs.well_formed.Laws.{row-placed}
-use Rattle.sheets.proofs.proof_sheet.Laws.{row-lone, row-pair, row-v, row-w, v-length, w-length}
+use Rattle.checks.specs.WellFormed.{ProofFacts}
+use Rattle.sheets.proofs.proof_sheet.Laws.{row-placed, row-lone, row-pair, row-v, row-w, v-length, w-length}
 use Rattle.sharing.specs.Sharing.{count, shiftedWeight, shiftedFrom, shiftedSlots}
 use Rattle.sharing.specs.Slots.{slotsTo}
 use Rattle.sharing.specs.Shifts.{shiftedWeights, shiftRow, slotsBefore, shiftedRow, shiftedRows}
@@ -101,7 +100,7 @@ pub rows-stay-placed : (τ : Exponents → ℤ) (s : List ℕ) → ProofFacts s 
 unfolding shiftedRows
 rows-stay-placed τ s f =
     all-table (shiftedRow τ s) (Placed (variables s)) (rowCount s)
-    (λ i l. keeps-place τ s i (variables s) (row-placed s (variables s) (rowCount s) i f l))
+    (λ i l. keeps-place τ s i (variables s) (row-placed s (variables s) (rowCount s) i (f .whole i l)))
 
 -- where the proposed weights add up at every point of n exponents, the shifted row is the proposed one
 module _ (τ : Exponents → ℤ) (s : List ℕ)

@@ -8,7 +8,7 @@ use Rattle.monomials.specs.declared.rows.Weights.{Weights}
 use Rattle.monomials.specs.declared.rows.Weights.the-variants.{Pair}
 use Rattle.sheets.specs.ClaimSheet.{floorOf}
 use Rattle.sheets.specs.ProofSheet.{scaleOf}
-use Rattle.sheets.specs.Cases.{claimOf, proofOf, squareProof}
+use Rattle.checks.specs.Cases.{claimOf, proofOf, squareProof}
 use Rattle.sharing.specs.Targets.{targetOf}
 use Rattle.sharing.specs.Shifts.{shiftedRows}
 

@@ -10,10 +10,10 @@ use Rattle.monomials.specs.Rows.{Row, slots}
 use Rattle.monomials.specs.declared.points.Point.{Point}
 use Rattle.monomials.specs.declared.rows.Weights.{Weights}
 use Rattle.monomials.specs.declared.rows.Weights.the-variants.{Pair, Lone}
-use Rattle.sheets.specs.Bounds.{greatestWeight, greatestScale}
+use Rattle.checks.specs.Bounds.{greatestWeight, greatestScale}
 use Rattle.sheets.specs.Layout.{variables, termCount, rowCount}
 use Rattle.sheets.specs.ProofSheet.{vOf, wOf, rowOf, rowsOf}
-use Rattle.sheets.specs.WellFormed.{ClaimFacts, ProofFacts}
+use Rattle.checks.specs.WellFormed.{ClaimFacts, ProofFacts}
 use Rattle.sharing.specs.Sharing.{shiftedWeight}
 use Rattle.sharing.specs.Slots.{slotsTo}
 

@@ -10,7 +10,7 @@ use Rattle.monomials.specs.Keys.{keyOf}
 use Rattle.monomials.specs.Sums.{Sum, coefficient}
 use Rattle.monomials.specs.Rows.{slots}
 use Rattle.sheets.specs.ProofSheet.{rowOf}
-use Rattle.sheets.specs.WellFormed.{ProofFacts}
+use Rattle.checks.specs.WellFormed.{ProofFacts}
 use Rattle.sharing.specs.Sharing.{count}
 use Rattle.sharing.specs.declared.slots.Holding.{Holding}
 use Rattle.sharing.specs.declared.slots.Tally.{Tally}

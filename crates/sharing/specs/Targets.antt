@@ -9,9 +9,9 @@ use Rattle.monomials.specs.Keys.{keyOf}
 use Rattle.monomials.specs.Targets.{lowered, target}
 use Rattle.sheets.specs.Layout.{variables}
 use Rattle.sheets.specs.ClaimSheet.{termPoint, coefficientOf, termsOf}
-use Rattle.sheets.specs.Searches.{first}
-use Rattle.sheets.specs.declared.searches.Found.{Found}
-use Rattle.sheets.specs.declared.searches.Found.the-variants.{At, Nothing}
+use Rattle.checks.specs.Searches.{first}
+use Rattle.checks.specs.declared.searches.Found.{Found}
+use Rattle.checks.specs.declared.searches.Found.the-variants.{At, Nothing}
 
 -- "Let g be f with b taken from its constant coefficient": the target at a point
 unfoldable pub targetOf : List ℕ → ℤ → ℕ → Exponents → ℤ

@@ -1,7 +1,7 @@
 // Shifted weights: each slot's weight with its share of the error at its point.
 use crate::slots::Holding;
 use crate::slots::held;
-use crate::targets::target;
+use crate::targets::target_at;
 use integers::division::share;
 use monomials::points::Point;
 use monomials::points::midpoint;
@@ -16,7 +16,7 @@ ghost use lib.IntN.{natAbs, _+ℤ_, _-ℤ_};
 ghost use Rattle.integers.specs.Division.{share};
 ghost use Rattle.monomials.specs.Points.{exponents};
 ghost use Rattle.monomials.specs.Rows.{slots};
-ghost use Rattle.sheets.specs.Bounds.{greatestWeight};
+ghost use Rattle.checks.specs.Bounds.{greatestWeight};
 ghost use Rattle.sheets.specs.Layout.{variables, rowCount};
 ghost use Rattle.sheets.specs.ProofSheet.{rowsOf, byValue};
 ghost use Rattle.sharing.specs.Sharing.{count, shiftedWeight};
@@ -38,7 +38,7 @@ fn shifted(claim: &[u8], proof: &[u8], floor: i64, scale: u64, i: usize, p: Poin
     ensures { λ r. ⌜ r ≡ shiftedWeight (targetOf (now (claim .entry)) floor scale) (slots (rowsOf (now (proof .entry)))) (slotsBefore (now (proof .entry)) i) (exponents p) x ⌝ }
 {
     let h = held(proof, variables(proof), row_count(proof), i, p);
-    moved(x, target(claim, floor, scale, p), h)
+    moved(x, target_at(claim, floor, scale, p), h)
 }
 
 // The weights of row i, shifted; v and w are its points.

@@ -11,7 +11,7 @@ ghost use lib.IntN.{natAbs};
 ghost use lib.ListN.{length};
 ghost use Rattle.integers.specs.Words.{i32At};
 ghost use Rattle.monomials.specs.Points.{exponents};
-ghost use Rattle.sheets.specs.Bounds.{greatestWeight};
+ghost use Rattle.checks.specs.Bounds.{greatestWeight};
 ghost use Rattle.sharing.specs.Carried.{Carried};
 ghost use Rattle.sharing.specs.Slots.{Scanned, slotsTo, added, tallyOf, holdingOf};
 

@@ -1,4 +1,5 @@
 // Targets: what the weights at a point are to add up to.
+use checks::searches::Found;
 use monomials::keys::key_of;
 use monomials::points::Point;
 use monomials::points::keeps_sign;
@@ -6,16 +7,15 @@ use sheets::claim_sheet::coefficient;
 use sheets::claim_sheet::term_count;
 use sheets::claim_sheet::term_key;
 use sheets::layout::variables;
-use sheets::searches::Found;
 ghost use mathlib.Core.Path.{_≡_};
 ghost use Prim.Native.Nat.{_^_, _<_, _≤_};
 ghost use lib.IntN.{pos, natAbs, _*ℤ_};
 ghost use Rattle.monomials.specs.Points.{exponents};
 ghost use Rattle.monomials.specs.Targets.{worst};
-ghost use Rattle.sheets.specs.Bounds.{greatestWeight, greatestScale};
+ghost use Rattle.checks.specs.Bounds.{greatestWeight, greatestScale};
 ghost use Rattle.sheets.specs.Layout.{variables, termCount};
-ghost use Rattle.sheets.specs.Searches.{first};
-ghost use Rattle.sheets.specs.WellFormed.{ClaimFacts};
+ghost use Rattle.checks.specs.Searches.{first};
+ghost use Rattle.checks.specs.WellFormed.{ClaimFacts};
 ghost use Rattle.sharing.specs.Targets.{targetOf, hasKey, loweredBy, loweredAt};
 ghost use Rattle.sharing.specs.Carried.{Carried};
 
@@ -87,7 +87,7 @@ fn scaled(scale: u64, c: i64) -> i64
 }
 
 // The target at a point.
-pub fn target(claim: &[u8], floor: i64, scale: u64, p: Point) -> i64
+pub fn target_at(claim: &[u8], floor: i64, scale: u64, p: Point) -> i64
     requires { ⌜ (ClaimFacts (now claim) (variables (now claim)) (termCount (now claim))) × (natAbs floor ≤ greatestWeight) × (scale ≤ greatestScale) × (Carried (variables (now claim)) (exponents p)) ⌝ }
     ensures { λ r. ⌜ (r ≡ targetOf (now (claim .entry)) floor scale (exponents p)) × (natAbs r ≤ 2 ^ 51) ⌝ }
 {

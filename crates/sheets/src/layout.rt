@@ -5,7 +5,7 @@ ghost use lib.ListN.{length};
 ghost use Rattle.sheets.specs.Layout.{place, variables};
 
 // Where entry i begins, of entries of one size that stand one after another.
-pub(crate) fn place_of(from: usize, i: usize, size: usize) -> usize
+pub fn place_of(from: usize, i: usize, size: usize) -> usize
     requires { ⌜ (from ≤ 16777216) × (i ≤ 65535) × (size ≤ 1023) ⌝ }
     ensures { λ r. ⌜ r ≡ place from i size ⌝ }
 {
@@ -13,7 +13,7 @@ pub(crate) fn place_of(from: usize, i: usize, size: usize) -> usize
 }
 
 // A byte as a count.
-pub(crate) fn count(b: u8) -> usize
+pub fn count(b: u8) -> usize
     ensures { λ r. ⌜ (r ≡ b) × (r ≤ 255) ⌝ }
 {
     b as usize

@@ -225,7 +225,7 @@ module _ (a b : Point) (n k m left : ℕ) (ea : length (a .exps) ≡ 8) (eb : le
   pub rises-end : left ≤ 0 → false ≡ risesTo (exponents a) (exponents b)
   rises-end h = sym (from-place ∙ rises-past (exponents a) (exponents b) (n - left) (omega arith))
 
--- a point is not above itself, and not above what is above it
+-- a point is not above itself
 pub rises-self : (v : Exponents) → risesTo v v ≡ false
 unfolding risesTo
 rises-self [] = refl
@@ -247,12 +247,14 @@ unfolding risesTo
 rises-cons a b v w (inl l) = rw (lt-ltb a b l)
 rises-cons a b v w (inr h) = let e = h .0 in rw (le-ltb a b (omega arith), le-ltb b a (omega arith)) (h .1)
 
+-- what is above a point above another is above that other
 pub rises-trans : (u v w : Exponents) → risesTo u v ≡ true → risesTo v w ≡ true → risesTo u w ≡ true
 unfolding risesTo
 rises-trans [] v w h k = absurd (false≢true h)
 rises-trans (a ∷ u) [] w h k = absurd (false≢true h)
 rises-trans (a ∷ u) (b ∷ v) [] h k = absurd (false≢true k)
-rises-trans (a ∷ u) (b ∷ v) (c ∷ w) h k = rises-cons a c u w (go (rises-first a b u v h) (rises-first b c v w k) (rises-trans u v w))
+rises-trans (a ∷ u) (b ∷ v) (c ∷ w) h k =
+    rises-cons a c u w (go (rises-first a b u v h) (rises-first b c v w k) (rises-trans u v w))
   where
     go : (a < b) ⊎ ((a ≡ b) × (risesTo u v ≡ true)) → (b < c) ⊎ ((b ≡ c) × (risesTo v w ≡ true))
         → (risesTo u v ≡ true → risesTo v w ≡ true → risesTo u w ≡ true) → (a < c) ⊎ ((a ≡ c) × (risesTo u w ≡ true))
@@ -355,7 +357,8 @@ midpoint-within limit (a ∷ v) [] h k = refl
 midpoint-within limit (a ∷ v) (b ∷ w) h k =
     let p = and-eq-true-iff (leb a limit) (every (λ e. leb e limit) v) .0 h in
     let q = and-eq-true-iff (leb b limit) (every (λ e. leb e limit) w) .0 k in
-    rw (le-leb ((a + b) / 2) limit (omega (arith, leb-true a limit (p .0), leb-true b limit (q .0))), midpoint-within limit v w (p .1) (q .1))
+    let m : (a + b) / 2 ≤ limit = omega (arith, leb-true a limit (p .0), leb-true b limit (q .0)) in
+    rw (le-leb ((a + b) / 2) limit m, midpoint-within limit v w (p .1) (q .1))
 
 -- the way out of the loop
 pub midpoint-made : (a b : Point) (n k m i : ℕ) (e : List ℕ) → length (a .exps) ≡ 8 → length (b .exps) ≡ 8

@@ -27,10 +27,10 @@ use Rattle.monomials.proofs.rows.Laws.{slots-pair, slots-lone}
 use Rattle.sheets.specs.ProofSheet.{scaleOf, vOf, wOf, tripleOf, rowOf, rowsOf, byValue}
 use Rattle.sheets.specs.declared.proof_sheet.Row.{Row}
 use Rattle.sheets.specs.ClaimSheet.{floorOf}
-use Rattle.sheets.specs.WellFormed.{WellFormed}
-use Rattle.sheets.proofs.well_formed.Laws.{claim-formed, proof-formed, proof-room}
+use Rattle.checks.specs.WellFormed.{WellFormed}
+use Rattle.checks.proofs.well_formed.Laws.{claim-formed, proof-formed, proof-room}
 use Rattle.sheets.proofs.proof_sheet.Laws.{lone-of, pair-of, row-v, row-w, value-v, value-w, value-weights, by-value}
-use Rattle.sheets.specs.Bounds.{greatestWeight}
+use Rattle.checks.specs.Bounds.{greatestWeight}
 use Rattle.sheets.specs.Layout.{variables, rowCount, ProofRoom}
 use Rattle.sharing.specs.Sharing.{count, errorAt, shiftedWeight}
 use Rattle.sharing.specs.Targets.{targetOf}

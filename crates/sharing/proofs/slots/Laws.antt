@@ -27,12 +27,12 @@ use Rattle.monomials.proofs.Lists.{all-append}
 use Rattle.monomials.proofs.Sums.{coefficient-nil, coefficient-cons}
 use Rattle.monomials.proofs.keys.Laws.{key-midpoint}
 use Rattle.monomials.proofs.rows.Laws.{slots-pair, slots-lone, slots-none, slots-more}
-use Rattle.sheets.specs.Bounds.{greatestWeight}
+use Rattle.checks.specs.Bounds.{greatestWeight}
 use Rattle.sheets.specs.Layout.{variables, rowCount, tripleAt}
 use Rattle.sheets.specs.ProofSheet.{vOf, wOf, tripleOf, rowOf, rowsOf}
-use Rattle.sheets.specs.WellFormed.{Within}
+use Rattle.checks.specs.WellFormed.{Within}
 use Rattle.sheets.proofs.proof_sheet.Laws.{triple-inside, p-there, q-there, r-there, row-lone, row-pair, row-v, row-w, rows-table}
-use Rattle.sheets.proofs.well_formed.Laws.{proof-room}
+use Rattle.checks.proofs.well_formed.Laws.{proof-room}
 use Rattle.sharing.specs.Sharing.{count}
 use Rattle.sharing.specs.Carried.{Carried}
 use Rattle.sharing.specs.Slots.{Scanned, slotsTo, added, tallyFrom, tallyOf, holdingOf}

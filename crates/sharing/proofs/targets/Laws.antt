@@ -27,16 +27,16 @@ use Rattle.monomials.proofs.Lists.{table-none, table-more}
 use Rattle.monomials.proofs.Sums.{coefficient-nil, coefficient-cons, coefficient-append}
 use Rattle.monomials.proofs.points.Laws.{same-eq}
 use Rattle.monomials.proofs.keys.Laws.{key-zeros}
-use Rattle.sheets.specs.Bounds.{greatestWeight, greatestScale}
+use Rattle.checks.specs.Bounds.{greatestWeight, greatestScale}
 use Rattle.sheets.specs.Layout.{variables, termCount}
-use Rattle.sheets.specs.Searches.{first}
+use Rattle.checks.specs.Searches.{first}
 use Rattle.sheets.specs.ClaimSheet.{termPoint, coefficientOf, termOf, termsOf}
-use Rattle.sheets.specs.WellFormed.{ClaimFacts}
-use Rattle.sheets.specs.declared.searches.Found.{Found}
-use Rattle.sheets.specs.declared.searches.Found.the-variants.{At, Nothing}
-use Rattle.sheets.proofs.searches.Laws.{first-none, first-here, first-stays, first-on, first-inside}
+use Rattle.checks.specs.WellFormed.{ClaimFacts}
+use Rattle.checks.specs.declared.searches.Found.{Found}
+use Rattle.checks.specs.declared.searches.Found.the-variants.{At, Nothing}
+use Rattle.checks.proofs.searches.Laws.{first-none, first-here, first-stays, first-on, first-inside}
 use Rattle.sheets.proofs.claim_sheet.Laws.{terms-table, term-point, term-coefficient}
-use Rattle.sheets.proofs.well_formed.Laws.{points-differ}
+use Rattle.checks.proofs.well_formed.Laws.{points-differ}
 use Rattle.sharing.specs.Targets.{targetOf, hasKey, loweredBy, foundAt, loweredAt}
 use Rattle.sharing.specs.Carried.{Carried}
 use Rattle.sharing.proofs.Carried.{term-carried, constant-carried, carried-same}

@@ -7,7 +7,8 @@ use native.Mathlib.Omega.{arith}
 use lib.IntN.{ℤ}
 use lib.ListN.{length, getD}
 use Rattle.integers.specs.Words.{i32At}
-use Rattle.monomials.proofs.Lists.{table-length, table-get}
+use Rattle.monomials.specs.Decomposition.{Sized}
+use Rattle.monomials.proofs.Lists.{table-length, table-get, all-table}
 use Rattle.monomials.specs.Lists.{table}
 use Rattle.monomials.specs.Points.{Exponents}
 use Rattle.monomials.proofs.points.Laws.{bytes-length}
@@ -62,3 +63,8 @@ pub terms-get : (c : List ℕ) (d : Exponents × ℤ) (i : ℕ) → i < termCoun
     → getD (termsOf c) i d ≡ (termPoint c (variables c) i, coefficientOf c (variables c) (termCount c) i)
 unfolding termsOf termOf
 terms-get c d i l = table-get (termOf c (variables c) (termCount c)) d (termCount c) i l
+
+-- every term of a claim has as many exponents as the claim has variables
+pub terms-sized : (c : List ℕ) → Sized (variables c) (termsOf c)
+unfolding termsOf termOf
+terms-sized c = all-table (termOf c (variables c) (termCount c)) _ (termCount c) (λ i l. point-length c (variables c) i)

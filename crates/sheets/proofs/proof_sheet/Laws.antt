@@ -12,7 +12,8 @@ use Rattle.monomials.proofs.Lists.{table-length, table-get}
 use Rattle.monomials.proofs.points.Laws.{bytes-length, exponents-of}
 use Rattle.monomials.specs.Lists.{table}
 use Rattle.monomials.specs.Rows as Formal
-use Rattle.monomials.specs.Points.{exponents, pointOf, samePoint}
+use Rattle.monomials.specs.Points.{exponents, pointOf, samePoint, hasMidpoint}
+use Rattle.monomials.specs.Decomposition.{Placed, Whole}
 use Rattle.monomials.specs.declared.points.Point.{Point}
 use Rattle.monomials.specs.declared.rows.Weights.{Weights}
 use Rattle.monomials.specs.declared.rows.Weights.the-variants.{Pair, Lone}
@@ -123,7 +124,8 @@ module _ (s : List ℕ) (n k i : ℕ) where
   row-pair h = rw h
 
   -- and the other way round
-  pub lone-of : (p : ℤ) → rowOf s n k i .weights ≡ Lone p → (samePoint (vOf s n i) (wOf s n i) ≡ true) × (tripleOf s n k i .p ≡ p)
+  pub lone-of : (p : ℤ) → rowOf s n k i .weights ≡ Lone p
+      → (samePoint (vOf s n i) (wOf s n i) ≡ true) × (tripleOf s n k i .p ≡ p)
   lone-of p h = go (samePoint (vOf s n i) (wOf s n i)) refl
     where
       go : (b : Bool) → samePoint (vOf s n i) (wOf s n i) ≡ b → (b ≡ true) × (tripleOf s n k i .p ≡ p)
@@ -154,6 +156,19 @@ module _ (s : List ℕ) (n k i : ℕ) where
   pub w-length : length (wOf s n i) ≡ n
   unfolding wOf
   w-length = bytes-length s (vAt n i + n) n
+
+-- a row has its two points, a pair with a whole midpoint
+pub row-placed : (s : List ℕ) (n k i : ℕ) → hasMidpoint (vOf s n i) (wOf s n i) ≡ true → Placed n (rowOf s n k i)
+unfolding rowOf weightsOf
+row-placed s n k i h = record {
+  v-length = v-length s n k i;
+  w-length = w-length s n k i;
+  whole = go (samePoint (vOf s n i) (wOf s n i));
+}
+  where
+    go : (lone : Bool) → Whole (vOf s n i) (wOf s n i) (weightsOf lone (tripleOf s n k i))
+    go true = tt
+    go false = h
 
 -- a row by value
 module _ (a : Formal.Row) (b : Row) (e : b ≡ byValue a) where

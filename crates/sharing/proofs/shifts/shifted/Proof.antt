@@ -14,8 +14,8 @@ row-count-requires c κs = search needs
 held-requires : tie.Need-held-requires
 held-requires c κs = search (needs, scanned-here, carried-here, row-here)
 
-target-requires : tie.Need-target-requires
-target-requires c κs = search (needs, back-small, toZ-ofZ)
+target-at-requires : tie.Need-target-at-requires
+target-at-requires c κs = search (needs, back-small, toZ-ofZ)
 
 moved-requires : tie.Need-moved-requires
 moved-requires c κs = search (needs, back-small, held-small, held-some, toZ-ofZ)
@@ -30,6 +30,6 @@ shifted-spec =
     variables-requires
     row-count-requires
     held-requires
-    target-requires
+    target-at-requires
     moved-requires
     returns)

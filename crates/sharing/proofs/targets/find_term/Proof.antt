@@ -1,9 +1,9 @@
 use borrow.Author.Needs.{needs}
 use Prim.Native.Nat.{_≤_, _-_}
 use mathlib.Core.Path.{_≡_}
-use Rattle.sheets.specs.Searches.{first}
-use Rattle.sheets.specs.declared.searches.Found.the-variants.{Nothing}
-use Rattle.sheets.proofs.searches.Laws.{first-none, first-at, first-on, first-end}
+use Rattle.checks.specs.Searches.{first}
+use Rattle.checks.specs.declared.searches.Found.the-variants.{Nothing}
+use Rattle.checks.proofs.searches.Laws.{first-none, first-at, first-on, first-end}
 use Rattle.sharing.specs.Targets.{hasKey}
 use Rattle.sharing.proofs.targets.find_term.Statement.{statement}
 use Rattle.sharing.proofs.targets.find_term.Tie as tie

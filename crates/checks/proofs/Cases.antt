@@ -1,0 +1,113 @@
+-- The cases, computed; of 256 rows the weights, which stand far back in the sheet, by a law.
+use mathlib.Core.Path.{_≡_, refl, sym, _∙_, ap₂}
+use mathlib.Core.Bool.{false}
+use mathlib.Core.List.{List, _∷_, map}
+use Prim.Native.Nat.{ℕ, _+_, _-_, _<_, _≤_}
+use native.Mathlib.Decide.{decLt}
+use native.Mathlib.Omega.{arith}
+use lib.IntN.{pos}
+use lib.ListN.{length, getD, replicate, getD-replicate, length-replicate, List·getD-eq-default}
+use lib.Seq.{getD-append-add}
+use Rattle.integers.specs.Words.{u32At, i32At}
+use Rattle.monomials.specs.Lists.{table}
+use Rattle.monomials.specs.Points.{bytesAt, every, everyPair, samePoint, risesTo, evenSum, hasMidpoint, exponentsWithin}
+use Rattle.checks.specs.Answers.{says, blames, accepted, refused, refuseIf, refuseAt, blameless, andThen}
+use Rattle.checks.specs.Searches.{first}
+use Rattle.checks.specs.Bounds.{greatestExponent, greatestWeight, beyond}
+use Rattle.sheets.specs.Layout.{tripleAt}
+use Rattle.sheets.specs.ClaimSheet.{floorOf, termPoint, coefficientOf}
+use Rattle.checks.specs.ClaimChecks as C
+use Rattle.sheets.specs.ProofSheet.{scaleOf, vOf, wOf, wordsAt, tripleOf}
+use Rattle.checks.specs.ProofChecks as P
+use Rattle.checks.specs.WellFormed.{sheetsAnswer}
+use Rattle.checks.specs.Cases.{Case, joined, word, words, claimOf, proofOf, square, squareProof, claims, proves, twoTerms, oneRow, full, manyPoints, manyRows, small, cases, Worked}
+use Rattle.checks.specs.declared.answers.Verdict.the-variants.{Accepted}
+use Rattle.checks.specs.declared.proof_checks.RowRule.the-variants as R
+use Rattle.checks.specs.declared.searches.Found.the-variants.{Nothing}
+use Rattle.checks.proofs.answers.Laws.{passed-at, then-passed}
+use Rattle.checks.proofs.searches.Laws.{nothing-first}
+
+small-worked : map (λ (c : Case). sheetsAnswer (c .claim) (c .proof)) small ≡ map (λ (c : Case). c .answer) small
+unfolding
+    u32At i32At table bytesAt every everyPair samePoint risesTo evenSum hasMidpoint exponentsWithin
+    blames accepted refused refuseIf refuseAt blameless andThen first beyond floorOf termPoint coefficientOf
+    C.headerRight C.breaks C.termsAnswer C.claimAnswer scaleOf vOf wOf wordsAt tripleOf
+    P.headerRight P.headerAnswer P.carries P.anyBeyond P.breaks P.rowsAnswer sheetsAnswer
+    joined word words claimOf proofOf square squareProof claims proves twoTerms oneRow full manyPoints manyRows small
+small-worked = refl
+
+-- ---- 256 rows
+
+many : List ℕ
+many = manyRows 120
+
+points-length : length (manyPoints 120) ≡ 520
+unfolding joined word manyPoints
+points-length = refl
+
+zeros : (m j : ℕ) → _≡_ {A = ℕ} (getD (replicate m 0) j 0) 0
+zeros m j = go (decLt j m)
+  where
+    go : Dec (j < m) → _≡_ {A = ℕ} (getD (replicate m 0) j 0) 0
+    go (yes l) = getD-replicate m j 0 0 l
+    go (no l) = List·getD-eq-default (replicate m 0) 0 (rw length-replicate (omega arith))
+
+far : (j : ℕ) → 520 ≤ j → getD many j 0 ≡ 0
+unfolding many manyRows
+far j h =
+    let e : j ≡ length (manyPoints 120) + (j - 520) = omega (arith, points-length) in
+    rw e (getD-append-add (manyPoints 120) (replicate 3072 0) (j - 520) 0 ∙ zeros 3072 (j - 520))
+
+word-zero : (at : ℕ) → 520 ≤ at → i32At many at ≡ pos 0
+unfolding u32At i32At
+word-zero at h = rw (far at h, far (at + 1) (omega arith), far (at + 2) (omega arith), far (at + 3) (omega arith))
+
+weights-light : (i : ℕ) → P.breaks (R.Weight greatestWeight) many 1 256 i ≡ false
+unfolding P.breaks P.anyBeyond beyond tripleOf wordsAt
+weights-light i =
+    rw (
+      word-zero (tripleAt 1 256 i) (omega arith),
+      word-zero (tripleAt 1 256 i + 4) (omega arith),
+      word-zero (tripleAt 1 256 i + 8) (omega arith),
+    )
+
+exponents-low : Nothing ≡ first (P.breaks (R.Exponent greatestExponent) many 1 256) 256
+unfolding first P.breaks exponentsWithin every vOf wOf bytesAt table many manyRows manyPoints joined word
+exponents-low = refl
+
+midpoints-whole : Nothing ≡ first (P.breaks R.Midpoint many 1 256) 256
+unfolding first P.breaks hasMidpoint everyPair evenSum vOf wOf bytesAt table many manyRows manyPoints joined word
+midpoints-whole = refl
+
+none-lone : Nothing ≡ first (P.breaks R.Unused many 1 256) 256
+unfolding first P.breaks samePoint everyPair vOf wOf bytesAt table many manyRows manyPoints joined word
+none-lone = refl
+
+rows-right : says (Accepted 0) ≡ P.rowsAnswer many 1 256
+unfolding P.rowsAnswer says
+rows-right =
+    passed-at (Accepted 0) Nothing _ 12 _ exponents-low refl
+    (passed-at (Accepted 0) Nothing _ 13 _ midpoints-whole refl
+    (passed-at (Accepted 0) Nothing _ 14 _ none-lone refl
+    (passed-at (Accepted 0) Nothing _ 15 _ (nothing-first _ 256 weights-light) refl refl)))
+
+claim-right : says (Accepted 0) ≡ C.claimAnswer square
+unfolding
+    says accepted refuseIf refuseAt first C.claimAnswer C.termsAnswer C.headerRight C.breaks floorOf termPoint coefficientOf
+    i32At u32At bytesAt table beyond exponentsWithin every risesTo square claimOf joined word words
+claim-right = refl
+
+header-right : says (Accepted 0) ≡ P.headerAnswer 1 many
+unfolding
+    says accepted refuseIf P.headerAnswer P.headerRight scaleOf u32At many manyRows manyPoints joined word
+header-right = refl
+
+many-accepted : sheetsAnswer square many ≡ accepted 0
+unfolding sheetsAnswer says square claimOf many manyRows manyPoints joined word
+many-accepted =
+    sym (then-passed (Accepted 0) (C.claimAnswer square) claim-right 0 refl (Accepted 0) _
+    (then-passed (Accepted 0) (P.headerAnswer 1 many) header-right 0 refl (Accepted 0) _ rows-right))
+
+pub worked : Worked
+unfolding cases proves many
+worked = ap₂ _∷_ many-accepted small-worked

@@ -1,0 +1,103 @@
+-- Laws of answers: what it says of each check that all are passed, and the ways through checks one after another.
+use mathlib.Core.Path.{_≡_, refl, sym, _∙_}
+use mathlib.Core.Bool.{Bool, true, false, cond, _||_, false≢true}
+use Prim.Native.Nat.{ℕ}
+use lib.Dec.{eqb, leb}
+use Rattle.checks.specs.Answers.{Answer, claim, proof, output, offsets, says, blames, accepted, refused, refuseIf, refuseAt, blameless, andThen, Passes}
+use Rattle.checks.specs.declared.answers.Sheet.{Sheet}
+use Rattle.checks.specs.declared.answers.Sheet.the-variants.{Claim, Proof, Output, Offsets}
+use Rattle.checks.specs.declared.answers.Verdict.{Verdict}
+use Rattle.checks.specs.declared.answers.Verdict.the-variants.{Accepted, Refused}
+use Rattle.checks.specs.declared.searches.Found.{Found}
+use Rattle.checks.specs.declared.searches.Found.the-variants.{At, Nothing}
+
+-- a refusal blames a sheet
+refused-blames : (number index : ℕ) → blameless (refused number index) ≡ false
+unfolding blameless refused blames
+refused-blames number index = go (leb number 7 || eqb number 21) (eqb number 11) (eqb number 20)
+  where
+    go : (a b d : Bool)
+        → blameless (record { number = number; blamed = cond a claim (cond b output (cond d offsets proof)); value = index })
+        ≡ false
+    go true b d = refl
+    go false true d = refl
+    go false false true = refl
+    go false false false = refl
+
+pub passes-if : (b : Bool) (number : ℕ) (later : Answer) → Passes (refuseIf b number later) → (b ≡ false) × Passes later
+unfolding refuseIf
+passes-if true number later h = absurd (false≢true (sym (refused-blames number 0) ∙ h))
+passes-if false number later h = (refl, h)
+
+pub passes-at : (f : Found) (number : ℕ) (later : Answer) → Passes (refuseAt f number later)
+    → (f ≡ Nothing) × Passes later
+unfolding refuseAt
+passes-at (At i) number later h = absurd (false≢true (sym (refused-blames number i) ∙ h))
+passes-at Nothing number later h = (refl, h)
+
+pub passes-then : (a later : Answer) → Passes (andThen a later) → Passes a × Passes later
+unfolding andThen
+passes-then a later h = go (blameless a) refl h
+  where
+    go : (b : Bool) → blameless a ≡ b → blameless (cond b later a) ≡ true → Passes a × Passes later
+    go true e k = (e, k)
+    go false e k = absurd (false≢true (sym e ∙ k))
+
+-- v is the verdict on the checks before, r on those after
+module _ (v : Verdict) (a : Answer) (e : says v ≡ a) where
+  pub then-refused : (x : Sheet) (later : Answer) → v ≡ Refused x → says v ≡ andThen a later
+  unfolding says blameless andThen
+  then-refused x later h = rw (← e, h) (go x)
+    where
+      go : (x : Sheet) → says (Refused x) ≡ cond (blameless (says (Refused x))) later (says (Refused x))
+      go (Claim number index) = refl
+      go (Proof number index) = refl
+      go (Output number index) = refl
+      go (Offsets number index) = refl
+
+  module _ (k : ℕ) (h : v ≡ Accepted k) where
+    pub passed : Passes a
+    unfolding blameless says accepted
+    passed = rw (← e, h)
+
+    pub then-passed : (r : Verdict) (later : Answer) → says r ≡ later → says r ≡ andThen a later
+    unfolding andThen
+    then-passed r later q = rw passed q
+
+-- ---- the ways through a chain of checks
+
+module _ (v : Verdict) (wrong : Bool) (number : ℕ) (later : Answer) where
+  pub refused-if : wrong ≡ true → says v ≡ refused number 0 → says v ≡ refuseIf wrong number later
+  unfolding refuseIf
+  refused-if h k = rw h k
+
+  pub passed-if : wrong ≡ false → says v ≡ later → says v ≡ refuseIf wrong number later
+  unfolding refuseIf
+  passed-if h k = rw h k
+
+-- r is what a test's function answered
+pub tested : (wrong b r : Bool) → r ≡ wrong → r ≡ b → wrong ≡ b
+tested wrong b r e h = sym e ∙ h
+
+-- f is what a search answered
+module _ (v : Verdict) (f found : Found) (number : ℕ) (later : Answer) (e : f ≡ found) where
+  pub refused-at : (i : ℕ) → f ≡ At i → says v ≡ refused number i → says v ≡ refuseAt found number later
+  unfolding refuseAt
+  refused-at i h k = rw (← e, h) k
+
+  pub passed-at : f ≡ Nothing → says v ≡ later → says v ≡ refuseAt found number later
+  unfolding refuseAt
+  passed-at h k = rw (← e, h) k
+
+-- an acceptance, and a refusal of the claim or of the proof as its number has it
+pub accepted-says : (k : ℕ) → says (Accepted k) ≡ accepted k
+unfolding says
+accepted-says k = refl
+
+pub claim-says : (number index : ℕ) → blames number ≡ claim → says (Refused (Claim number index)) ≡ refused number index
+unfolding says refused
+claim-says number index h = rw h
+
+pub proof-says : (number index : ℕ) → blames number ≡ proof → says (Refused (Proof number index)) ≡ refused number index
+unfolding says refused
+proof-says number index h = rw h

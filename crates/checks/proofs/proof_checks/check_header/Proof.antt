@@ -1,0 +1,65 @@
+use borrow.Author.Tests.{lt-ltb, le-ltb}
+use Rattle.checks.specs.Answers.{blames}
+use Rattle.checks.specs.ProofChecks.{headerAnswer}
+use Rattle.checks.proofs.answers.Laws.{refused-if, passed-if, tested, accepted-says, proof-says}
+use Rattle.sheets.proofs.layout.Laws.{length-other, length-same, proof-asked}
+use borrow.Author.Needs.{needs}
+use Rattle.checks.proofs.proof_checks.check_header.Statement.{statement}
+use Rattle.checks.proofs.proof_checks.check_header.Tie as tie
+
+returns : tie.Need-returns
+unfolding headerAnswer blames
+returns c = refused-if _ _ 8 _ (search lt-ltb) (search proof-says)
+
+header-wrong-requires : tie.Need-header-wrong-requires
+header-wrong-requires c κs = search needs
+
+returns-2 : tie.Need-returns-2
+unfolding headerAnswer blames
+returns-2 c =
+    passed-if _ _ 8 _ (search le-ltb)
+    (refused-if _ _ 9 _ (search tested) (search proof-says))
+
+row-count-requires : tie.Need-row-count-requires
+row-count-requires c κs = search needs
+
+variables-requires : tie.Need-variables-requires
+variables-requires c κs = search needs
+
+mul-place-of : tie.Need-mul-place-of
+mul-place-of c = search needs
+
+add-place-of : tie.Need-add-place-of
+add-place-of c = search needs
+
+place-of-requires : tie.Need-place-of-requires
+place-of-requires c κs = search needs
+
+returns-3 : tie.Need-returns-3
+unfolding headerAnswer blames
+returns-3 c =
+    passed-if _ _ 8 _ (search le-ltb)
+    (passed-if _ _ 9 _ (search tested)
+    (refused-if _ _ 10 _ (length-other _ _ _ (c .if3 .taken) (search proof-asked)) (search proof-says)))
+
+returns-4 : tie.Need-returns-4
+unfolding headerAnswer
+returns-4 c =
+    passed-if _ _ 8 _ (search le-ltb)
+    (passed-if _ _ 9 _ (search tested)
+    (passed-if _ _ 10 _ (search (length-same, proof-asked)) (search accepted-says)))
+
+pub check-header-spec : {M : Type 1} → statement M
+check-header-spec =
+    tie.close
+    (tie.spec
+    returns
+    header-wrong-requires
+    returns-2
+    row-count-requires
+    variables-requires
+    mul-place-of
+    add-place-of
+    place-of-requires
+    returns-3
+    returns-4)

@@ -1,0 +1,50 @@
+use borrow.Author.Needs.{needs}
+use Prim.Native.Nat.{_≤_, _-_}
+use mathlib.Core.Path.{_≡_}
+use Rattle.checks.specs.declared.searches.Found.the-variants.{Nothing}
+use Rattle.checks.specs.Searches.{first}
+use Rattle.checks.specs.ProofChecks.{breaks}
+use Rattle.checks.proofs.searches.Laws.{first-none, first-at, first-on, first-end}
+use Rattle.checks.proofs.proof_checks.first_row.Statement.{statement}
+use Rattle.checks.proofs.proof_checks.first_row.Tie as tie
+
+abbrev Inv-loop : tie.InvT-loop
+Inv-loop rule proof n k i₀ i = (i ≤ k) × (first (breaks rule proof n k) i ≡ Nothing)
+
+abbrev μ-loop : tie.MeasureT-loop
+μ-loop rule proof n k i₀ i = k - i
+
+loop-holds : tie.Need-loop-holds Inv-loop μ-loop
+loop-holds c = search (needs, first-none)
+
+row-wrong-requires : tie.Need-row-wrong-requires Inv-loop μ-loop
+row-wrong-requires c κs = search needs
+
+returns : tie.Need-returns Inv-loop μ-loop
+returns c = search first-at
+
+add-i : tie.Need-add-i Inv-loop μ-loop
+add-i c = search needs
+
+loop-less : tie.Need-loop-less Inv-loop μ-loop
+loop-less c = search needs
+
+loop-again : tie.Need-loop-again Inv-loop μ-loop
+loop-again c = search (needs, first-on)
+
+returns-2 : tie.Need-returns-2 Inv-loop μ-loop
+returns-2 c = search first-end
+
+pub first-row-spec : {M : Type 1} → statement M
+first-row-spec =
+    tie.close
+    (tie.spec
+    Inv-loop
+    μ-loop
+    loop-holds
+    row-wrong-requires
+    returns
+    add-i
+    loop-less
+    loop-again
+    returns-2)

@@ -1,0 +1,43 @@
+-- Checks of the claim: refusals 1 to 7.
+use mathlib.Core.Bool.{Bool, not, _&&_, _||_}
+use mathlib.Core.List.{List}
+use Prim.Native.Nat.{ℕ, _-_}
+use lib.Dec.{eqb, ltb, leb}
+use lib.IntN.{natAbs}
+use lib.ListN.{length, getD}
+use Rattle.monomials.specs.Points.{risesTo, exponentsWithin}
+use Rattle.checks.specs.Answers.{Answer, accepted, refuseIf, refuseAt}
+use Rattle.checks.specs.Searches.{first}
+use Rattle.checks.specs.Bounds.{greatestExponent, greatestWeight, beyond}
+use Rattle.sheets.specs.Layout.{variables, termCount, claimLength}
+use Rattle.sheets.specs.ClaimSheet.{floorOf, termPoint, coefficientOf}
+use Rattle.checks.specs.declared.claim_checks.TermRule.{TermRule}
+use Rattle.checks.specs.declared.claim_checks.TermRule.the-variants.{Coefficient, Exponent, Order}
+
+-- "Byte 0: n, variables, 1 to 8. Byte 1: t, terms, 0 to 64. Bytes 2 and 3: zero"
+unfoldable pub headerRight : List ℕ → Bool
+headerRight c =
+    leb 1 (variables c) && leb (variables c) 8 && leb (termCount c) 64 && eqb (getD c 2 0) 0 && eqb (getD c 3 0) 0
+
+-- term i breaks a rule: "coefficient zero or beyond", "exponent over" the limit, "point not above the one before"
+unfoldable pub breaks : TermRule → List ℕ → ℕ → ℕ → ℕ → Bool
+breaks (Coefficient limit) c n t i = eqb (natAbs (coefficientOf c n t i)) 0 || beyond limit (coefficientOf c n t i)
+breaks (Exponent limit) c n t i = not (exponentsWithin limit (termPoint c n i))
+breaks Order c n t i = ltb 0 i && not (risesTo (termPoint c n (i - 1)) (termPoint c n i))
+
+-- 5 to 7
+unfoldable pub termsAnswer : List ℕ → ℕ → ℕ → Answer
+termsAnswer c n t =
+    refuseAt (first (breaks (Coefficient greatestWeight) c n t) t) 5
+    (refuseAt (first (breaks (Exponent greatestExponent) c n t) t) 6
+    (refuseAt (first (breaks Order c n t) t) 7
+    (accepted 0)))
+
+-- 1 to 7
+unfoldable pub claimAnswer : List ℕ → Answer
+claimAnswer c =
+    refuseIf (ltb (length c) 8) 1
+    (refuseIf (not (headerRight c)) 2
+    (refuseIf (not (eqb (length c) (claimLength (variables c) (termCount c)))) 3
+    (refuseIf (beyond greatestWeight (floorOf c)) 4
+    (termsAnswer c (variables c) (termCount c)))))

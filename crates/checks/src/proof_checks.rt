@@ -1,0 +1,181 @@
+// Checks of the proof: refusals 8 to 10 of its header, and 12 to 15 of its rows.
+use crate::answers::Sheet;
+use crate::answers::Verdict;
+use crate::bounds::GREATEST_EXPONENT;
+use crate::bounds::GREATEST_ROWS;
+use crate::bounds::GREATEST_SCALE;
+use crate::bounds::GREATEST_WEIGHT;
+use crate::bounds::is_beyond;
+use crate::searches::Found;
+use integers::magnitudes::magnitude;
+use monomials::points::exponents_within;
+use monomials::points::has_midpoint;
+use monomials::points::same;
+use sheets::layout::place_of;
+use sheets::layout::variables;
+use sheets::proof_sheet::Triple;
+use sheets::proof_sheet::row_count;
+use sheets::proof_sheet::row_triple;
+use sheets::proof_sheet::row_v;
+use sheets::proof_sheet::row_w;
+use sheets::proof_sheet::scale;
+ghost use mathlib.Core.Path.{_≡_};
+ghost use mathlib.Core.Bool.{not};
+ghost use Prim.Native.Nat.{_<_, _≤_};
+ghost use lib.ListN.{length};
+ghost use Rattle.checks.specs.Answers.{says};
+ghost use Rattle.checks.specs.Searches.{first};
+ghost use Rattle.sheets.specs.Layout.{ProofRoom};
+ghost use Rattle.checks.specs.ProofChecks.{headerRight, headerAnswer, carries, anyBeyond, breaks, rowsAnswer};
+ghost use Rattle.checks.specs.declared.proof_checks.RowRule.the-variants.{Exponent, Midpoint, Unused, Weight};
+
+// What every row has to keep, with its limit.
+pub enum RowRule {
+    // 12
+    Exponent(u8),
+    // 13
+    Midpoint,
+    // 14: a lone row does not use q and r
+    Unused,
+    // 15
+    Weight(u64),
+}
+
+// 9: whether n is not the claim's, or byte 1, k or S is wrong.
+fn header_wrong(proof: &[u8], n: usize, limit: usize) -> bool
+    requires { ⌜ 8 ≤ length (now proof) ⌝ }
+    ensures { λ r. ⌜ r ≡ not (headerRight limit n (now (proof .entry))) ⌝ }
+{
+    if variables(proof) != n {
+        return true;
+    }
+    if proof[1] != 0 {
+        return true;
+    }
+    if limit < row_count(proof) {
+        return true;
+    }
+    let s = scale(proof);
+    if s < 1 {
+        return true;
+    }
+    GREATEST_SCALE < s
+}
+
+// The checks 8 to 10, where n is the claim's.
+pub fn check_header(proof: &[u8], n: usize) -> Verdict
+    ensures { λ r. ⌜ says r ≡ headerAnswer n (now (proof .entry)) ⌝ }
+{
+    if proof.len() < 8 {
+        return Verdict::Refused(Sheet::Proof(8, 0));
+    }
+    if header_wrong(proof, n, GREATEST_ROWS) {
+        return Verdict::Refused(Sheet::Proof(9, 0));
+    }
+    let k = row_count(proof);
+    if proof.len() != place_of(8, k, 2 * variables(proof) + 12) {
+        return Verdict::Refused(Sheet::Proof(10, 0));
+    }
+    Verdict::Accepted(0)
+}
+
+// 12: whether row i has an exponent over the limit.
+fn exponent_wrong(proof: &[u8], n: usize, k: usize, i: usize, limit: u8) -> bool
+    requires { ⌜ (ProofRoom (now proof) n k) × (i < k) ⌝ }
+    ensures { λ r. ⌜ r ≡ breaks (Exponent limit) (now (proof .entry)) n k i ⌝ }
+{
+    if exponents_within(row_v(proof, n, k, i), limit) {
+        return !exponents_within(row_w(proof, n, k, i), limit);
+    }
+    true
+}
+
+// 13: whether row i has no whole midpoint.
+fn midpoint_wrong(proof: &[u8], n: usize, k: usize, i: usize) -> bool
+    requires { ⌜ (ProofRoom (now proof) n k) × (i < k) ⌝ }
+    ensures { λ r. ⌜ r ≡ breaks Midpoint (now (proof .entry)) n k i ⌝ }
+{
+    !has_midpoint(row_v(proof, n, k, i), row_w(proof, n, k, i))
+}
+
+// Whether q or r is not zero.
+fn carries_more(x: Triple) -> bool
+    ensures { λ r. ⌜ r ≡ carries x ⌝ }
+{
+    if magnitude(x.q) != 0 {
+        return true;
+    }
+    magnitude(x.r) != 0
+}
+
+// 14: whether row i is lone, and q or r is not zero.
+fn unused_wrong(proof: &[u8], n: usize, k: usize, i: usize) -> bool
+    requires { ⌜ (ProofRoom (now proof) n k) × (i < k) ⌝ }
+    ensures { λ r. ⌜ r ≡ breaks Unused (now (proof .entry)) n k i ⌝ }
+{
+    if same(row_v(proof, n, k, i), row_w(proof, n, k, i)) {
+        return carries_more(row_triple(proof, n, k, i));
+    }
+    false
+}
+
+// 15: whether one of three weights is beyond ± a limit.
+fn any_beyond(x: Triple, limit: u64) -> bool
+    ensures { λ r. ⌜ r ≡ anyBeyond limit x ⌝ }
+{
+    if is_beyond(x.p, limit) {
+        return true;
+    }
+    if is_beyond(x.q, limit) {
+        return true;
+    }
+    is_beyond(x.r, limit)
+}
+
+// Whether row i breaks a rule.
+fn row_wrong(rule: RowRule, proof: &[u8], n: usize, k: usize, i: usize) -> bool
+    requires { ⌜ (ProofRoom (now proof) n k) × (i < k) ⌝ }
+    ensures { λ r. ⌜ r ≡ breaks rule (now (proof .entry)) n k i ⌝ }
+{
+    match rule {
+        RowRule::Exponent(limit) => exponent_wrong(proof, n, k, i, limit),
+        RowRule::Midpoint => midpoint_wrong(proof, n, k, i),
+        RowRule::Unused => unused_wrong(proof, n, k, i),
+        RowRule::Weight(limit) => any_beyond(row_triple(proof, n, k, i), limit),
+    }
+}
+
+// The first row that breaks a rule.
+fn first_row(rule: RowRule, proof: &[u8], n: usize, k: usize) -> Found
+    requires { ⌜ ProofRoom (now proof) n k ⌝ }
+    ensures { λ r. ⌜ r ≡ first (breaks rule (now (proof .entry)) n k) k ⌝ }
+{
+    let mut i = 0;
+    while i < k {
+        if row_wrong(rule, proof, n, k, i) {
+            return Found::At(i);
+        }
+        i += 1;
+    }
+    Found::Nothing
+}
+
+// The checks 12 to 15, each over all rows before the next.
+pub fn check_rows(proof: &[u8], n: usize, k: usize) -> Verdict
+    requires { ⌜ ProofRoom (now proof) n k ⌝ }
+    ensures { λ r. ⌜ says r ≡ rowsAnswer (now (proof .entry)) n k ⌝ }
+{
+    if let Found::At(i) = first_row(RowRule::Exponent(GREATEST_EXPONENT), proof, n, k) {
+        return Verdict::Refused(Sheet::Proof(12, i));
+    }
+    if let Found::At(i) = first_row(RowRule::Midpoint, proof, n, k) {
+        return Verdict::Refused(Sheet::Proof(13, i));
+    }
+    if let Found::At(i) = first_row(RowRule::Unused, proof, n, k) {
+        return Verdict::Refused(Sheet::Proof(14, i));
+    }
+    if let Found::At(i) = first_row(RowRule::Weight(GREATEST_WEIGHT), proof, n, k) {
+        return Verdict::Refused(Sheet::Proof(15, i));
+    }
+    Verdict::Accepted(0)
+}
