@@ -66,8 +66,7 @@ module _ (s : List ℕ) (n k i : ℕ) where
       slots-more (rowOf s n k) i
       ∙ rw (row-pair s n k i h, row-v s n k i, row-w s n k i, slots-pair)
 
-  -- ---- a point that a row holds is held
-
+  -- more rows have at least as many slots at a point
   grows : (α : Exponents) (d : ℕ) → count α (slotsTo s n k i) ≤ count α (slotsTo s n k (i + d))
   unfolding slotsTo
   grows α zero = let e : i + 0 ≡ i = omega arith in rw e (omega arith)
@@ -75,6 +74,7 @@ module _ (s : List ℕ) (n k i : ℕ) where
       let e : i + suc d ≡ suc (i + d) = omega arith in
       rw (e, slots-more (rowOf s n k) (i + d), count-append) (omega (arith, grows α d))
 
+-- a point that a row holds is held
 pub row-held : (s : List ℕ) (n k i : ℕ) (α : Exponents) → i < k
     → 0 < count α (slotsAt (rowOf s n k i .v) (rowOf s n k i .w) (rowOf s n k i .weights))
     → 0 < count α (slotsTo s n k k)
