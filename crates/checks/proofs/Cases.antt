@@ -20,7 +20,7 @@ use Rattle.checks.specs.ClaimChecks as C
 use Rattle.sheets.specs.ProofSheet.{scaleOf, vOf, wOf, wordsAt, tripleOf}
 use Rattle.checks.specs.ProofChecks as P
 use Rattle.checks.specs.WellFormed.{sheetsAnswer}
-use Rattle.checks.specs.Cases.{Case, joined, word, words, claimOf, proofOf, square, squareProof, claims, proves, twoTerms, oneRow, full, manyPoints, manyRows, small, cases, Worked}
+use Rattle.checks.specs.Cases.{Case, joined, word, words, claimOf, proofOf, squareWith, square, squareProof, claims, proves, twoTerms, oneRow, full, manyPoints, manyRows, small, cases, Worked}
 use Rattle.checks.specs.declared.answers.Verdict.the-variants.{Accepted}
 use Rattle.checks.specs.declared.proof_checks.RowRule.the-variants as R
 use Rattle.checks.specs.declared.searches.Found.the-variants.{Nothing}
@@ -33,7 +33,7 @@ unfolding
     blames accepted refused refuseIf refuseAt blameless andThen first beyond floorOf termPoint coefficientOf
     C.headerRight C.breaks C.termsAnswer C.claimAnswer scaleOf vOf wOf wordsAt tripleOf
     P.headerRight P.headerAnswer P.carries P.anyBeyond P.breaks P.rowsAnswer sheetsAnswer
-    joined word words claimOf proofOf square squareProof claims proves twoTerms oneRow full manyPoints manyRows small
+    joined word words claimOf proofOf squareWith square squareProof claims proves twoTerms oneRow full manyPoints manyRows small
 small-worked = refl
 
 -- ---- 256 rows
@@ -94,7 +94,7 @@ rows-right =
 claim-right : says (Accepted 0) ≡ C.claimAnswer square
 unfolding
     says accepted refuseIf refuseAt first C.claimAnswer C.termsAnswer C.headerRight C.breaks floorOf termPoint coefficientOf
-    i32At u32At bytesAt table beyond exponentsWithin every risesTo square claimOf joined word words
+    i32At u32At bytesAt table beyond exponentsWithin every risesTo squareWith square claimOf joined word words
 claim-right = refl
 
 header-right : says (Accepted 0) ≡ P.headerAnswer 1 many
@@ -103,7 +103,7 @@ unfolding
 header-right = refl
 
 many-accepted : sheetsAnswer square many ≡ accepted 0
-unfolding sheetsAnswer says square claimOf many manyRows manyPoints joined word
+unfolding sheetsAnswer says squareWith square claimOf many manyRows manyPoints joined word
 many-accepted =
     sym (then-passed (Accepted 0) (C.claimAnswer square) claim-right 0 refl (Accepted 0) _
     (then-passed (Accepted 0) (P.headerAnswer 1 many) header-right 0 refl (Accepted 0) _ rows-right))

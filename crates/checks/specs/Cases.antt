@@ -31,9 +31,13 @@ claimOf n b points coefficients = n ∷ length points ∷ 0 ∷ 0 ∷ word b ++ 
 unfoldable pub proofOf : ℕ → ℤ → ℕ → List (List ℕ) → List ℤ → List ℕ
 proofOf n S k points weights = n ∷ 0 ∷ k ∷ 0 ∷ word S ++ (joined points ++ words weights)
 
--- "the claim n 1, points 0, 1, 2, coefficients 1, −2, 1, b 0, with S 1 and one row 0, 2 weighted 1, 1, −2"
+-- "the claim n 1, points 0, 1, 2, coefficients 1, −2, 1, b 0, with S 1 and one row 0, 2 weighted 1, 1, −2"; its worked
+-- variants have another floor, or another coefficient at point 1
+unfoldable pub squareWith : ℤ → ℤ → List ℕ
+squareWith b x = claimOf 1 b ((0 ∷ []) ∷ (1 ∷ []) ∷ (2 ∷ []) ∷ []) (pos 1 ∷ x ∷ pos 1 ∷ [])
+
 unfoldable pub square : List ℕ
-square = claimOf 1 (pos 0) ((0 ∷ []) ∷ (1 ∷ []) ∷ (2 ∷ []) ∷ []) (pos 1 ∷ negsuc 1 ∷ pos 1 ∷ [])
+square = squareWith (pos 0) (negsuc 1)
 
 unfoldable pub squareProof : List ℕ
 squareProof = proofOf 1 (pos 1) 1 ((0 ∷ []) ∷ (2 ∷ []) ∷ []) (pos 1 ∷ pos 1 ∷ negsuc 1 ∷ [])

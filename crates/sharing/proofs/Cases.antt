@@ -9,12 +9,12 @@ use Rattle.monomials.specs.Rows.{slotsAt, slots}
 use Rattle.monomials.specs.Targets.{lowered, worst, target}
 use Rattle.sheets.specs.ClaimSheet.{floorOf, termPoint, coefficientOf, termOf, termsOf}
 use Rattle.sheets.specs.ProofSheet.{scaleOf, vOf, wOf, wordsAt, tripleOf, weightsOf, rowOf, rowsOf}
-use Rattle.checks.specs.Cases.{joined, word, words, claimOf, proofOf, squareProof}
+use Rattle.checks.specs.Cases.{joined, word, words, claimOf, proofOf, squareWith, squareProof}
 use Rattle.sharing.specs.Sharing.{count, errorAt, shiftedWeight}
 use Rattle.sharing.specs.Targets.{targetOf}
 use Rattle.sharing.specs.Slots.{slotsTo}
 use Rattle.sharing.specs.Shifts.{shiftedWeights, shiftRow, slotsBefore, shiftedRow, shiftedRows}
-use Rattle.sharing.specs.Cases.{squareWith, motzkin, motzkinProof, squares, motzkins, exact, cases, shifted, Worked}
+use Rattle.sharing.specs.Cases.{motzkin, motzkinProof, squares, motzkins, exact, cases, shifted, Worked}
 
 pub worked : Worked
 unfolding

@@ -8,15 +8,11 @@ use Rattle.monomials.specs.declared.rows.Weights.{Weights}
 use Rattle.monomials.specs.declared.rows.Weights.the-variants.{Pair}
 use Rattle.sheets.specs.ClaimSheet.{floorOf}
 use Rattle.sheets.specs.ProofSheet.{scaleOf}
-use Rattle.checks.specs.Cases.{claimOf, proofOf, squareProof}
+use Rattle.checks.specs.Cases.{claimOf, proofOf, squareWith, squareProof}
 use Rattle.sharing.specs.Targets.{targetOf}
 use Rattle.sharing.specs.Shifts.{shiftedRows}
 
 -- ---- sheets
-
--- Square's polynomial with another coefficient at point 1, and another floor
-unfoldable pub squareWith : ℤ → ℤ → List ℕ
-squareWith b x = claimOf 1 b ((0 ∷ []) ∷ (1 ∷ []) ∷ (2 ∷ []) ∷ []) (pos 1 ∷ x ∷ pos 1 ∷ [])
 
 -- "Motzkin (Example 20): points (0,0), (2,2), (2,4), (4,2), coefficients 1, −3, 1, 1, b 0"
 unfoldable pub motzkin : List ℕ

@@ -42,7 +42,7 @@ unfoldable pub shiftedRows : (Exponents → ℤ) → List ℕ → List Row
 shiftedRows τ s = table (shiftedRow τ s) (rowCount s)
 
 -- two sheets that pass their checks, a floor and a scale
-pub record Given (c s : List ℕ) (b : ℤ) (S : ℕ) : Type 0 where
+pub record CheckedSheets (c s : List ℕ) (b : ℤ) (S : ℕ) : Type 0 where
   pub claim : ClaimFacts c (variables c) (termCount c)
   pub proof : ProofFacts s (variables s) (rowCount s)
   pub same : variables s ≡ variables c

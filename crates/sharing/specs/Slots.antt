@@ -1,9 +1,9 @@
 -- The slots of a proof sheet, and those at one point tallied.
 use mathlib.Core.Bool.{Bool, cond}
 use mathlib.Core.List.{List, [], _∷_}
-use Prim.Native.Nat.{ℕ, _+_, _≤_}
+use Prim.Native.Nat.{ℕ, _+_, _^_, _≤_}
 use lib.Dec.{eqb}
-use lib.IntN.{ℤ, pos, _+ℤ_}
+use lib.IntN.{ℤ, pos, natAbs, _+ℤ_}
 use Rattle.monomials.specs.Lists.{table}
 use Rattle.monomials.specs.Points.{Exponents}
 use Rattle.monomials.specs.Keys.{keyOf}
@@ -16,7 +16,7 @@ use Rattle.sharing.specs.declared.slots.Holding.{Holding}
 use Rattle.sharing.specs.declared.slots.Tally.{Tally}
 
 -- a proof of n variables and k rows that passes its checks
-pub record Scanned (s : List ℕ) (n k : ℕ) : Type 0 where
+pub record CheckedProof (s : List ℕ) (n k : ℕ) : Type 0 where
   pub some : 1 ≤ n
   pub few : n ≤ 8
   pub facts : ProofFacts s n k
@@ -24,6 +24,17 @@ pub record Scanned (s : List ℕ) (n k : ℕ) : Type 0 where
 -- the slots of the first i rows, in a proof of n variables and k rows
 unfoldable pub slotsTo : List ℕ → ℕ → ℕ → ℕ → Sum
 slotsTo s n k i = slots (table (rowOf s n k) i)
+
+-- the sum of the weights at a point, its count of slots, and how many of these are before
+unfoldable pub holdingOf : Exponents → Sum → Sum → Holding
+holdingOf α L before = record { sum = coefficient α L; count = count α L; rank = count α before }
+
+-- ---- the same by keys, as the code counts: `tally-sum` and `tally-count` of proofs/slots/Laws.antt show that it is the same
+
+-- a tally that leaves room for more
+pub record Small (a : Tally) : Type 0 where
+  pub sum-small : natAbs (a .sum) ≤ 2 ^ 42
+  pub count-small : a .count ≤ 2 ^ 20
 
 -- one slot more, where it is at the point
 unfoldable pub added : Bool → ℤ → Tally → Tally
@@ -36,7 +47,3 @@ tallyFrom key a (t ∷ L) = tallyFrom key (added (eqb key (keyOf (t .0))) (t .1)
 
 unfoldable pub tallyOf : ℕ → Sum → Tally
 tallyOf key L = tallyFrom key (record { sum = pos 0; count = 0 }) L
-
--- the sum of the weights at a point, its count of slots, and how many of these are before
-unfoldable pub holdingOf : Exponents → Sum → Sum → Holding
-holdingOf α L before = record { sum = coefficient α L; count = count α L; rank = count α before }

@@ -17,6 +17,8 @@ use Rattle.checks.specs.declared.searches.Found.the-variants.{At, Nothing}
 unfoldable pub targetOf : List ℕ → ℤ → ℕ → Exponents → ℤ
 targetOf c b S α = target S (lowered (variables c) b (termsOf c)) α
 
+-- ---- by keys, as the code finds it: `at-point` of proofs/targets/Laws.antt shows that it is the coefficient of g
+
 -- whether term i has a key
 unfoldable pub hasKey : List ℕ → ℕ → ℕ → ℕ → Bool
 hasKey c n key i = eqb key (keyOf (termPoint c n i))

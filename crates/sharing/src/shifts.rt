@@ -22,7 +22,7 @@ ghost use Rattle.sheets.specs.ProofSheet.{rowsOf, byValue};
 ghost use Rattle.sharing.specs.Sharing.{count, shiftedWeight};
 ghost use Rattle.sharing.specs.Targets.{targetOf};
 ghost use Rattle.sharing.specs.Carried.{Carried};
-ghost use Rattle.sharing.specs.Shifts.{Given, IsRow, slotsBefore, shiftedRow};
+ghost use Rattle.sharing.specs.Shifts.{CheckedSheets, IsRow, slotsBefore, shiftedRow};
 
 // A weight with its share of the error.
 fn moved(x: i64, aim: i64, h: Holding) -> i64
@@ -34,7 +34,7 @@ fn moved(x: i64, aim: i64, h: Holding) -> i64
 
 // The weight x of a slot of row i at p, shifted.
 fn shifted(claim: &[u8], proof: &[u8], floor: i64, scale: u64, i: usize, p: Point, x: i64) -> i64
-    requires { ⌜ (Given (now claim) (now proof) floor scale) × (i < rowCount (now proof)) × (Carried (variables (now claim)) (exponents p)) × (natAbs x ≤ greatestWeight) × (0 < count (exponents p) (slots (rowsOf (now proof)))) ⌝ }
+    requires { ⌜ (CheckedSheets (now claim) (now proof) floor scale) × (i < rowCount (now proof)) × (Carried (variables (now claim)) (exponents p)) × (natAbs x ≤ greatestWeight) × (0 < count (exponents p) (slots (rowsOf (now proof)))) ⌝ }
     ensures { λ r. ⌜ r ≡ shiftedWeight (targetOf (now (claim .entry)) floor scale) (slots (rowsOf (now (proof .entry)))) (slotsBefore (now (proof .entry)) i) (exponents p) x ⌝ }
 {
     let h = held(proof, variables(proof), row_count(proof), i, p);
@@ -52,7 +52,7 @@ fn shifted_weights(
     w: Point,
     weights: Weights,
 ) -> Weights
-    requires { ⌜ (Given (now claim) (now proof) floor scale) × (i < rowCount (now proof)) × (IsRow (now proof) i v w weights) ⌝ }
+    requires { ⌜ (CheckedSheets (now claim) (now proof) floor scale) × (i < rowCount (now proof)) × (IsRow (now proof) i v w weights) ⌝ }
     ensures { λ r. ⌜ r ≡ shiftedRow (targetOf (now (claim .entry)) floor scale) (now (proof .entry)) i .weights ⌝ }
 {
     match weights {
@@ -67,7 +67,7 @@ fn shifted_weights(
 
 // Row i with its shifted weights.
 pub fn shifted_row(claim: &[u8], proof: &[u8], floor: i64, scale: u64, i: usize) -> Row
-    requires { ⌜ (Given (now claim) (now proof) floor scale) × (i < rowCount (now proof)) ⌝ }
+    requires { ⌜ (CheckedSheets (now claim) (now proof) floor scale) × (i < rowCount (now proof)) ⌝ }
     ensures { λ r. ⌜ r ≡ byValue (shiftedRow (targetOf (now (claim .entry)) floor scale) (now (proof .entry)) i) ⌝ }
 {
     let row = row_at(proof, variables(proof), row_count(proof), i);

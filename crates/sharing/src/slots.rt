@@ -13,7 +13,7 @@ ghost use Rattle.integers.specs.Words.{i32At};
 ghost use Rattle.monomials.specs.Points.{exponents};
 ghost use Rattle.checks.specs.Bounds.{greatestWeight};
 ghost use Rattle.sharing.specs.Carried.{Carried};
-ghost use Rattle.sharing.specs.Slots.{Scanned, slotsTo, added, tallyOf, holdingOf};
+ghost use Rattle.sharing.specs.Slots.{CheckedProof, Small, slotsTo, added, tallyOf, holdingOf};
 
 // What the slots at a point weigh together, and how many they are.
 pub struct Tally {
@@ -30,7 +30,7 @@ pub struct Holding {
 
 // One slot more, where it is at the point; its weight stands at a place.
 fn add_if(hit: bool, proof: &[u8], at: usize, a: Tally) -> Tally
-    requires { ⌜ (at + 4 ≤ length (now proof)) × (natAbs (i32At (now proof) at) ≤ greatestWeight) × (natAbs (a .sum) ≤ 2 ^ 42) × (a .count ≤ 1048576) ⌝ }
+    requires { ⌜ (at + 4 ≤ length (now proof)) × (natAbs (i32At (now proof) at) ≤ greatestWeight) × (Small a) ⌝ }
     ensures { λ r. ⌜ r ≡ added hit (i32At (now (proof .entry)) at) a ⌝ }
 {
     if hit {
@@ -44,7 +44,7 @@ fn add_if(hit: bool, proof: &[u8], at: usize, a: Tally) -> Tally
 
 // The slots of one row more: a pair's midpoint has the key where twice the key is the sum of its ends' keys.
 fn add_row(proof: &[u8], n: usize, k: usize, i: usize, key: u64, a: Tally) -> Tally
-    requires { ⌜ (Scanned (now proof) n k) × (i < k) × (key < 2 ^ 63) × (a ≡ tallyOf key (slotsTo (now proof) n k i)) ⌝ }
+    requires { ⌜ (CheckedProof (now proof) n k) × (i < k) × (key < 2 ^ 63) × (a ≡ tallyOf key (slotsTo (now proof) n k i)) ⌝ }
     ensures { λ r. ⌜ r ≡ tallyOf key (slotsTo (now (proof .entry)) n k (i + 1)) ⌝ }
 {
     let v = v_key(proof, n, k, i);
@@ -60,7 +60,7 @@ fn add_row(proof: &[u8], n: usize, k: usize, i: usize, key: u64, a: Tally) -> Ta
 
 // From the slots of the first rows to those of more.
 fn scan(proof: &[u8], n: usize, k: usize, from: usize, to: usize, key: u64, a: Tally) -> Tally
-    requires { ⌜ (Scanned (now proof) n k) × (from ≤ to) × (to ≤ k) × (key < 2 ^ 63) × (a ≡ tallyOf key (slotsTo (now proof) n k from)) ⌝ }
+    requires { ⌜ (CheckedProof (now proof) n k) × (from ≤ to) × (to ≤ k) × (key < 2 ^ 63) × (a ≡ tallyOf key (slotsTo (now proof) n k from)) ⌝ }
     ensures { λ r. ⌜ r ≡ tallyOf key (slotsTo (now (proof .entry)) n k to) ⌝ }
 {
     let mut b = a;
@@ -74,7 +74,7 @@ fn scan(proof: &[u8], n: usize, k: usize, from: usize, to: usize, key: u64, a: T
 
 // What the slots at a point are, seen from row i.
 pub(crate) fn held(proof: &[u8], n: usize, k: usize, i: usize, p: Point) -> Holding
-    requires { ⌜ (Scanned (now proof) n k) × (i < k) × (Carried n (exponents p)) ⌝ }
+    requires { ⌜ (CheckedProof (now proof) n k) × (i < k) × (Carried n (exponents p)) ⌝ }
     ensures { λ r. ⌜ r ≡ holdingOf (exponents p) (slotsTo (now (proof .entry)) n k k) (slotsTo (now (proof .entry)) n k i) ⌝ }
 {
     let key = key_of(p);

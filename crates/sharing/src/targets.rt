@@ -43,7 +43,7 @@ fn find_term(claim: &[u8], n: usize, t: usize, key: u64) -> Found
 }
 
 // A coefficient, less the floor where it is the constant's.
-fn taken(c: i64, floor: i64, key: u64) -> i64
+fn lowered_by(c: i64, floor: i64, key: u64) -> i64
     requires { ⌜ (natAbs c ≤ greatestWeight) × (natAbs floor ≤ greatestWeight) ⌝ }
     ensures { λ r. ⌜ (r ≡ loweredBy floor key c) × (natAbs r ≤ 2 ^ 31) ⌝ }
 {
@@ -54,14 +54,14 @@ fn taken(c: i64, floor: i64, key: u64) -> i64
 }
 
 // The coefficient at a key, with the floor taken from the constant.
-fn lowered(claim: &[u8], n: usize, t: usize, floor: i64, key: u64) -> i64
+fn lowered_at(claim: &[u8], n: usize, t: usize, floor: i64, key: u64) -> i64
     requires { ⌜ (ClaimFacts (now claim) n t) × (natAbs floor ≤ greatestWeight) ⌝ }
     ensures { λ r. ⌜ (r ≡ loweredAt (now (claim .entry)) n t floor key) × (natAbs r ≤ 2 ^ 31) ⌝ }
 {
     let Found::At(i) = find_term(claim, n, t, key) else {
-        return taken(0, floor, key);
+        return lowered_by(0, floor, key);
     };
-    taken(coefficient(claim, n, t, i), floor, key)
+    lowered_by(coefficient(claim, n, t, i), floor, key)
 }
 
 // A coefficient with the worst sign: as it stands where the point keeps its sign, else minus its absolute value.
@@ -95,6 +95,6 @@ pub fn target_at(claim: &[u8], floor: i64, scale: u64, p: Point) -> i64
     let t = term_count(claim);
     scaled(
         scale,
-        worst(keeps_sign(p), lowered(claim, n, t, floor, key_of(p))),
+        worst(keeps_sign(p), lowered_at(claim, n, t, floor, key_of(p))),
     )
 }

@@ -153,22 +153,19 @@ pub from-first : (p : Point) (n i key : ℕ) → key ≡ keyFrom (p .exps) n i �
 unfolding keyFrom
 from-first p n i key e h en = let z : i ≡ 0 = omega arith in e ∙ rw z (ap keyOf (exponents-counted p n en))
 
--- it leaves room for the exponents still to come
-pub from-low : (n : ℕ) → 0 < 2 ^ (64 - 8 * n)
-from-low n = pow-pos (64 - 8 * n)
+-- it leaves a byte for each exponent still to come
+pub from-low : (n : ℕ) → 0 < 2 ^ (8 * (8 - n))
+from-low n = pow-pos (8 * (8 - n))
 
-module _ (n i key : ℕ) (k : key < 2 ^ (64 - 8 * i)) (l : 0 < i) (h : i ≤ n) (m : n ≤ 8) where
-  more : 2 ^ (64 - 8 * (i - 1)) ≡ 2 ^ (64 - 8 * i) * 256
-  more = let e : 64 - 8 * (i - 1) ≡ 64 - 8 * i + 8 = omega arith in rw e (pow-add 2 (64 - 8 * i) 8)
+module _ (n i key : ℕ) (k : key < 2 ^ (8 * (8 - i))) (l : 0 < i) (h : i ≤ n) (m : n ≤ 8) where
+  pub from-lower : (a : ℕ) → a < 256 → key * 256 + a < 2 ^ (8 * (8 - (i - 1)))
+  from-lower a b = let e : 8 - (i - 1) ≡ suc (8 - i) = omega arith in rw (e, byte-more (8 - i)) (omega arith)
 
-  least : 2 ^ (64 - 8 * (i - 1)) ≤ 2 ^ 64
-  least = let e : 64 - 8 * (i - 1) ≤ 64 = omega arith in pow-mono e
-
-  pub from-lower : (a : ℕ) → a < 256 → key * 256 + a < 2 ^ (64 - 8 * (i - 1))
-  from-lower a b = rw more (omega arith)
-
-  pub times-fits : Fits w64 (key * 256)
-  times-fits = omega (arith, more, least)
+  least : 2 ^ (8 * (8 - (i - 1))) ≤ 2 ^ 64
+  least = let e : 8 * (8 - (i - 1)) ≤ 64 = omega arith in pow-mono e
 
   pub plus-fits : (a : ℕ) → a < 256 → Fits w64 (key * 256 + a)
   plus-fits a b = omega (arith, from-lower a b, least)
+
+  pub times-fits : Fits w64 (key * 256)
+  times-fits = omega (arith, from-lower 0 (omega arith), least)

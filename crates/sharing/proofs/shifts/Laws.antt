@@ -36,8 +36,8 @@ use Rattle.sharing.specs.Sharing.{count, errorAt, shiftedWeight}
 use Rattle.sharing.specs.Targets.{targetOf}
 use Rattle.sharing.specs.Carried.{Carried}
 use Rattle.sharing.proofs.Carried.{v-carried, w-carried, middle-carried, carried-same}
-use Rattle.sharing.specs.Slots.{Scanned, slotsTo, holdingOf}
-use Rattle.sharing.specs.Shifts.{Given, IsRow, slotsBefore, shiftedWeights, shiftRow, shiftedRow}
+use Rattle.sharing.specs.Slots.{CheckedProof, slotsTo, holdingOf}
+use Rattle.sharing.specs.Shifts.{CheckedSheets, IsRow, slotsBefore, shiftedWeights, shiftRow, shiftedRow}
 use Rattle.sharing.proofs.Sharing.{count-past, count-cons}
 use Rattle.sharing.proofs.slots.Laws.{all-slots, row-held, slots-are, tally-bound, tally-sum}
 use Rattle.sharing.specs.declared.slots.Holding.{Holding}
@@ -73,8 +73,8 @@ module _ (aim aim′ : ℤ) (h : Holding) (ha : natAbs aim ≤ 2 ^ 51) (hs : nat
 
 -- ---- well-formed sheets, with their own floor and scale
 
-pub given-formed : (c s : List ℕ) → WellFormed c s → Given c s (floorOf c) (scaleOf s)
-given-formed c s f =
+pub sheets-checked : (c s : List ℕ) → WellFormed c s → CheckedSheets c s (floorOf c) (scaleOf s)
+sheets-checked c s f =
     let claim = claim-formed c s f in
     let proof = proof-formed c s f in
     record {
@@ -87,10 +87,10 @@ given-formed c s f =
 
 -- ---- shifted: n and k are what the proof sheet says
 
-module _ (c s : List ℕ) (b : ℤ) (S : ℕ) (given : Given c s b S) (n k : ℕ) (en : n ≡ variables s)
+module _ (c s : List ℕ) (b : ℤ) (S : ℕ) (given : CheckedSheets c s b S) (n k : ℕ) (en : n ≡ variables s)
     (ek : k ≡ rowCount s) where
-  pub scanned-here : Scanned s n k
-  scanned-here = rw (en, ek) (record {
+  pub proof-checked : CheckedProof s n k
+  proof-checked = rw (en, ek) (record {
     some = rw (given .same) (given .claim .some);
     few = rw (given .same) (given .claim .few);
     facts = given .proof;
@@ -106,7 +106,7 @@ module _ (c s : List ℕ) (b : ℤ) (S : ℕ) (given : Given c s b S) (n k : ℕ
     pub held-small : Carried (variables c) (exponents p) → natAbs (h .sum) ≤ 2 ^ 42
     unfolding holdingOf
     held-small carried =
-        let f = scanned-here in
+        let f = proof-checked in
         let m = slots-are s n k f k (omega arith) in
         let g = tally-bound n (k * 3) (keyOf (exponents p)) (slotsTo s n k k) m .0 in
         let rows = f .facts .rows in
@@ -133,7 +133,7 @@ weight-past τ L before t α x h = rw (count-past α before t h)
 
 -- ---- a row holds its points once each
 
-module _ (s : List ℕ) (n k i : ℕ) (f : Scanned s n k) (l : i < k) where
+module _ (s : List ℕ) (n k i : ℕ) (f : CheckedProof s n k) (l : i < k) where
   -- of a pair, no two points are the same
   module _ (apart : samePoint (vOf s n i) (wOf s n i) ≡ false) where
     keys-apart : (keyOf (vOf s n i) ≡ keyOf (wOf s n i)) → ⊥
@@ -162,9 +162,9 @@ module _ (s : List ℕ) (n k i : ℕ) (f : Scanned s n k) (l : i < k) where
 
 -- ---- shifted_weights: row i of well-formed sheets
 
-module _ (c s : List ℕ) (b : ℤ) (S i : ℕ) (given : Given c s b S) (l : i < rowCount s) where
-  pub given-back : (b′ : ℤ) → b′ ≡ b → Given c s b′ S
-  given-back b′ e = rw e given
+module _ (c s : List ℕ) (b : ℤ) (S i : ℕ) (given : CheckedSheets c s b S) (l : i < rowCount s) where
+  pub checked-back : (b′ : ℤ) → b′ ≡ b → CheckedSheets c s b′ S
+  checked-back b′ e = rw e given
 
   abbrev n : ℕ
   n = variables s
@@ -178,8 +178,8 @@ module _ (c s : List ℕ) (b : ℤ) (S i : ℕ) (given : Given c s b S) (l : i <
   abbrev β : Exponents
   β = wOf s n i
 
-  scanned : Scanned s n k
-  scanned = scanned-here c s b S given n k refl refl
+  proof-here : CheckedProof s n k
+  proof-here = proof-checked c s b S given n k refl refl
 
   -- the points of the row's own slots are held
   own-held : (γ : Exponents) (L : Sum) → slotsAt (rowOf s n k i .v) (rowOf s n k i .w) (rowOf s n k i .weights) ≡ L
@@ -243,13 +243,13 @@ module _ (c s : List ℕ) (b : ℤ) (S i : ℕ) (given : Given c s b S) (l : i <
       r-within r′ er = rw (er, ← (parts .3)) (given .proof .weights-within i l .r-within)
 
       β-off-α : samePoint β α ≡ false
-      β-off-α = w-off-v s n k i scanned l (parts .0)
+      β-off-α = w-off-v s n k i proof-here l (parts .0)
 
       mid-off-α : samePoint (midpointOf α β) α ≡ false
-      mid-off-α = u-off-v s n k i scanned l (parts .0)
+      mid-off-α = u-off-v s n k i proof-here l (parts .0)
 
       mid-off-β : samePoint (midpointOf α β) β ≡ false
-      mid-off-β = u-off-w s n k i scanned l (parts .0)
+      mid-off-β = u-off-w s n k i proof-here l (parts .0)
 
       pair-held : (γ : Exponents) → 0 < count γ ((α, p) ∷ (β, q) ∷ (midpointOf α β, r) ∷ [])
           → 0 < count γ (slots (rowsOf s))
@@ -282,9 +282,9 @@ module _ (c s : List ℕ) (b : ℤ) (S i : ℕ) (given : Given c s b S) (l : i <
 
 -- ---- shifted_row
 
-module _ (c s : List ℕ) (b : ℤ) (S i n k : ℕ) (given : Given c s b S) (en : n ≡ variables s) (ek : k ≡ rowCount s) where
+module _ (c s : List ℕ) (b : ℤ) (S i n k : ℕ) (given : CheckedSheets c s b S) (en : n ≡ variables s) (ek : k ≡ rowCount s) where
   pub room-here : ProofRoom s n k
-  room-here = let f = scanned-here c s b S given n k en ek in proof-room s n k (f .few) (f .facts)
+  room-here = let f = proof-checked c s b S given n k en ek in proof-room s n k (f .few) (f .facts)
 
   module _ (row : Row) (er : row ≡ byValue (rowOf s n k i)) where
     pub is-row : (v w : Point) (a : Weights) → v ≡ row .v → w ≡ row .w → a ≡ row .weights → IsRow s i v w a

@@ -35,7 +35,7 @@ use Rattle.sheets.proofs.proof_sheet.Laws.{triple-inside, p-there, q-there, r-t
 use Rattle.checks.proofs.well_formed.Laws.{proof-room}
 use Rattle.sharing.specs.Sharing.{count}
 use Rattle.sharing.specs.Carried.{Carried}
-use Rattle.sharing.specs.Slots.{Scanned, slotsTo, added, tallyFrom, tallyOf, holdingOf}
+use Rattle.sharing.specs.Slots.{CheckedProof, Small, slotsTo, added, tallyFrom, tallyOf, holdingOf}
 use Rattle.sharing.specs.declared.slots.Tally.{Tally}
 use Rattle.sharing.proofs.Carried.{v-carried, w-carried, middle-carried, carried-same, carried-low}
 use Rattle.sharing.proofs.Sharing.{count-append}
@@ -102,7 +102,7 @@ slots-append n m d L M h k = record {
   each = all-append (Slot n) L M (h .each) (k .each);
 }
 
-module _ (s : List ℕ) (n k : ℕ) (f : Scanned s n k) where
+module _ (s : List ℕ) (n k : ℕ) (f : CheckedProof s n k) where
   pub slots-are : (i : ℕ) → i ≤ k → Slots n (i * 3) (slotsTo s n k i)
   slots-are zero l = rw (no-slots s n k) (record { short = omega arith; each = tt })
   slots-are (suc i) l =
@@ -205,17 +205,17 @@ module _ (n : ℕ) (α : Exponents) (carried : Carried n α) where
 -- ---- add_if: x is the weight that was read
 
 module _ (s : List ℕ) (at : ℕ) (x : ℤ) (a : Tally) (ex : x ≡ i32At s at) (hx : natAbs (i32At s at) ≤ greatestWeight)
-    (ha : natAbs (a .sum) ≤ 2 ^ 42) where
+    (small : Small a) where
   both-back : back (a .sum) +ℤ back x ≡ a .sum +ℤ i32At s at
   both-back =
-      let f : SFits w64 (a .sum) = fits-within (a .sum) (2 ^ 42) ha (lit< tt) in
+      let f : SFits w64 (a .sum) = fits-within (a .sum) (2 ^ 42) (small .sum-small) (lit< tt) in
       let g : SFits w64 x = fits-within x greatestWeight (rw ex hx) (lit< tt) in
       rw (toZ-ofZ f, toZ-ofZ g, ex)
 
   pub sum-fits : SFits w64 (back (a .sum) +ℤ back x)
   sum-fits =
       let g = abs-add (a .sum) (i32At s at) in
-      rw both-back (fits-within (a .sum +ℤ i32At s at) (2 ^ 43) (omega (arith, g)) (lit< tt))
+      rw both-back (fits-within (a .sum +ℤ i32At s at) (2 ^ 43) (omega (arith, g, small .sum-small)) (lit< tt))
 
   pub added-hit : (hit : Bool) → hit ≡ true
       → record { sum = back (back (a .sum) +ℤ back x); count = a .count + 1 } ≡ added hit (i32At s at) a
@@ -228,7 +228,7 @@ added-miss hit x a h = rw h
 
 -- ---- add_row: v and w are the keys of the row's ends
 
-module _ (s : List ℕ) (n k i : ℕ) (f : Scanned s n k) (l : i < k) (at : ℕ) (ea : at ≡ tripleAt n k i) where
+module _ (s : List ℕ) (n k i : ℕ) (f : CheckedProof s n k) (l : i < k) (at : ℕ) (ea : at ≡ tripleAt n k i) where
   weights : Within greatestWeight (tripleOf s n k i)
   weights = f .facts .weights-within i l
 
@@ -289,37 +289,30 @@ module _ (s : List ℕ) (n k i : ℕ) (f : Scanned s n k) (l : i < k) (at : ℕ)
           hr ∙ rw (hc, hb, middle, p-there s n k i at ea, q-there s n k i at ea, r-there s n k i at ea)
           (sym (rw (add-one, row, tally-append, tally-cons, tally-cons, tally-cons, tally-nil, ← ha, ← ev, ← ew)))
 
+  -- the tallies before the row's first, second and third slot
   module _ (key : ℕ) (a : Tally) (ha : a ≡ tallyOf key (slotsTo s n k i)) where
-    bound : (natAbs (a .sum) ≤ 2 ^ 41) × (a .count ≤ 1048000)
+    bound : (natAbs (a .sum) ≤ 2 ^ 41) × (a .count ≤ 768)
     bound =
         let g = tally-bound n (i * 3) key (slotsTo s n k i) (slots-are s n k f i (omega arith)) in
         let rows = f .facts .rows in
         rw ha (omega (arith, g .0), omega (arith, g .1))
 
-    pub sum-a : natAbs (a .sum) ≤ 2 ^ 42
-    sum-a = omega (arith, bound .0)
-
-    pub count-a : a .count ≤ 1048576
-    count-a = omega (arith, bound .1)
+    pub small-first : Small a
+    small-first = record { sum-small = omega (arith, bound .0); count-small = omega (arith, bound .1) }
 
     module _ (t : Bool) (b : Tally) (hb : b ≡ added t (i32At s at) a) where
-      bound-b : (natAbs (b .sum) ≤ 2 ^ 41 + greatestWeight) × (b .count ≤ 1048001)
+      bound-b : (natAbs (b .sum) ≤ 2 ^ 41 + greatestWeight) × (b .count ≤ 769)
       bound-b =
           let g = added-bound t (i32At s at) a p-within in
           rw hb (omega (arith, bound .0, g .0), omega (arith, bound .1, g .1))
 
-      pub sum-b : natAbs (b .sum) ≤ 2 ^ 42
-      sum-b = omega (arith, bound-b .0)
+      pub small-second : Small b
+      small-second = record { sum-small = omega (arith, bound-b .0); count-small = omega (arith, bound-b .1) }
 
-      pub count-b : b .count ≤ 1048576
-      count-b = omega (arith, bound-b .1)
-
-      module _ (t₂ : Bool) (c : Tally) (hc : c ≡ added t₂ (i32At s (at + 4)) b) where
-        pub sum-c : natAbs (c .sum) ≤ 2 ^ 42
-        sum-c = let g = added-bound t₂ (i32At s (at + 4)) b q-within in rw hc (omega (arith, bound-b .0, g .0))
-
-        pub count-c : c .count ≤ 1048576
-        count-c = let g = added-bound t₂ (i32At s (at + 4)) b q-within in rw hc (omega (arith, bound-b .1, g .1))
+      pub small-third : (t₂ : Bool) (c : Tally) → c ≡ added t₂ (i32At s (at + 4)) b → Small c
+      small-third t₂ c hc =
+          let g = added-bound t₂ (i32At s (at + 4)) b q-within in
+          rw hc (record { sum-small = omega (arith, bound-b .0, g .0); count-small = omega (arith, bound-b .1, g .1) })
 
 -- ---- scan and held
 
@@ -331,7 +324,7 @@ pub tally-none : (s : List ℕ) (n k key : ℕ) → record { sum = pos 0; count 
 unfolding tallyOf
 tally-none s n k key = rw (no-slots s n k, tally-nil)
 
-module _ (s : List ℕ) (n k : ℕ) (f : Scanned s n k) (p : Point) (carried : Carried n (exponents p)) (key : ℕ)
+module _ (s : List ℕ) (n k : ℕ) (f : CheckedProof s n k) (p : Point) (carried : Carried n (exponents p)) (key : ℕ)
     (e : key ≡ keyOf (exponents p)) where
   pub key-bound : key < 2 ^ 63
   key-bound = omega (arith, e, carried-low n (exponents p) (f .few) carried)

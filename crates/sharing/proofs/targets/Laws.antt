@@ -41,27 +41,31 @@ use Rattle.sharing.specs.Targets.{targetOf, hasKey, loweredBy, foundAt, 
 use Rattle.sharing.specs.Carried.{Carried}
 use Rattle.sharing.proofs.Carried.{term-carried, constant-carried, carried-same}
 
--- ---- taken: x is a coefficient and b the floor
+-- a bound, of what the machine reads back
+pub back-small : (r r′ : ℤ) (m : ℕ) → natAbs r ≤ m → r′ ≡ r → natAbs r′ ≤ m
+back-small r r′ m h e = rw e h
+
+-- ---- lowered_by: x is a coefficient and b the floor
 
 difference-small : (x b : ℤ) → natAbs x ≤ greatestWeight → natAbs b ≤ greatestWeight → natAbs (x -ℤ b) ≤ 2 ^ 31
 difference-small x b hx hb = omega (arith, abs-add x (negℤ b), abs-neg b)
 
 module _ (x x′ b b′ : ℤ) (key : ℕ) (hx : natAbs x ≤ greatestWeight) (hb : natAbs b ≤ greatestWeight) (ex : x′ ≡ x)
     (eb : b′ ≡ b) where
-  pub taken-fits : SFits w64 (x′ -ℤ b′)
-  taken-fits = rw (ex, eb) (fits-within (x -ℤ b) (2 ^ 31) (difference-small x b hx hb) (lit< tt))
+  pub lowered-fits : SFits w64 (x′ -ℤ b′)
+  lowered-fits = rw (ex, eb) (fits-within (x -ℤ b) (2 ^ 31) (difference-small x b hx hb) (lit< tt))
 
-  pub taken-constant : key ≡ 0 → back (x′ -ℤ b′) ≡ loweredBy b key x
+  pub lowered-here : key ≡ 0 → back (x′ -ℤ b′) ≡ loweredBy b key x
   unfolding loweredBy
-  taken-constant h = toZ-ofZ taken-fits ∙ rw (ex, eb, eq-eqb key 0 h)
+  lowered-here h = toZ-ofZ lowered-fits ∙ rw (ex, eb, eq-eqb key 0 h)
 
   pub constant-small : natAbs (back (x′ -ℤ b′)) ≤ 2 ^ 31
-  constant-small = rw (toZ-ofZ taken-fits, ex, eb) (difference-small x b hx hb)
+  constant-small = rw (toZ-ofZ lowered-fits, ex, eb) (difference-small x b hx hb)
 
 module _ (x x′ : ℤ) (ex : x′ ≡ x) where
-  pub taken-other : (b : ℤ) (key : ℕ) → (key ≡ 0 → ⊥) → x′ ≡ loweredBy b key x
+  pub lowered-elsewhere : (b : ℤ) (key : ℕ) → (key ≡ 0 → ⊥) → x′ ≡ loweredBy b key x
   unfolding loweredBy
-  taken-other b key h = rw (ex, ne-eqb key 0 h)
+  lowered-elsewhere b key h = rw (ex, ne-eqb key 0 h)
 
   pub other-small : natAbs x ≤ greatestWeight → natAbs x′ ≤ 2 ^ 31
   other-small h = rw ex (omega arith)
@@ -71,9 +75,6 @@ module _ (x x′ : ℤ) (ex : x′ ≡ x) where
 module _ (keeps : Bool) (x x′ : ℤ) (ex : x′ ≡ x) where
   pub kept-is : keeps ≡ true → x′ ≡ worst keeps x
   kept-is h = ex ∙ worst-kept keeps x h
-
-  pub kept-small : natAbs x ≤ 2 ^ 31 → natAbs x′ ≤ 2 ^ 31
-  kept-small h = rw ex h
 
   pub negative-is : keeps ≡ false → ltZ x′ (pos 0) ≡ true → x′ ≡ worst keeps x
   negative-is h t = ex ∙ worst-negative keeps x h (rw ex at (ltZ-true x′ (pos 0) t))
@@ -115,7 +116,7 @@ pub key-tested : (c : List ℕ) (n i key k : ℕ) → k ≡ keyOf (termPoint c n
 unfolding hasKey
 key-tested c n i key k e = rw e
 
--- ---- lowered: f is what was found, r what was taken from it
+-- ---- lowered_at: f is what was found, r what was taken from it
 
 module _ (c : List ℕ) (n t key : ℕ) (b b′ : ℤ) (f : Found) (ef : f ≡ first (hasKey c n key) t) where
   pub lowered-none : (r r′ : ℤ) → r ≡ loweredBy b′ key (pos 0) → f ≡ Nothing → r′ ≡ r → b′ ≡ b
@@ -134,9 +135,6 @@ module _ (c : List ℕ) (n t key : ℕ) (b b′ : ℤ) (f : Found) (ef : f ≡ f
         → r′ ≡ loweredAt c n t b key
     unfolding loweredAt foundAt
     lowered-found x x′ r r′ er ex e e₂ eb = e ∙ er ∙ rw (← ef, h, e₂, ex, eb)
-
-pub back-small : (r r′ : ℤ) (m : ℕ) → natAbs r ≤ m → r′ ≡ r → natAbs r′ ≤ m
-back-small r r′ m h e = rw e h
 
 -- ---- the term found by its key is the one at the point
 

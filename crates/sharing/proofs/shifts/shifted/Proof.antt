@@ -1,6 +1,6 @@
 use mir.Facts.{toZ-ofZ}
 use Rattle.sharing.proofs.targets.Laws.{back-small}
-use Rattle.sharing.proofs.shifts.Laws.{scanned-here, carried-here, row-here, held-small, held-some, shifted-is}
+use Rattle.sharing.proofs.shifts.Laws.{proof-checked, carried-here, row-here, held-small, held-some, shifted-is}
 use borrow.Author.Needs.{needs}
 use Rattle.sharing.proofs.shifts.shifted.Statement.{statement}
 use Rattle.sharing.proofs.shifts.shifted.Tie as tie
@@ -12,7 +12,7 @@ row-count-requires : tie.Need-row-count-requires
 row-count-requires c κs = search needs
 
 held-requires : tie.Need-held-requires
-held-requires c κs = search (needs, scanned-here, carried-here, row-here)
+held-requires c κs = search (needs, proof-checked, carried-here, row-here)
 
 target-at-requires : tie.Need-target-at-requires
 target-at-requires c κs = search (needs, back-small, toZ-ofZ)

@@ -1,5 +1,5 @@
 use Rattle.checks.proofs.well_formed.Laws.{proof-room}
-use Rattle.sharing.proofs.slots.Laws.{p-inside, q-inside, r-inside, p-within, q-within, r-within, sum-a, count-a, sum-b, count-b, sum-c, count-c, ends-fit, lone-added, pair-added}
+use Rattle.sharing.proofs.slots.Laws.{p-inside, q-inside, r-inside, p-within, q-within, r-within, small-first, small-second, small-third, ends-fit, lone-added, pair-added}
 use borrow.Author.Needs.{needs}
 use Rattle.sharing.proofs.slots.add_row.Statement.{statement}
 use Rattle.sharing.proofs.slots.add_row.Tie as tie
@@ -14,7 +14,7 @@ triple-place-requires : tie.Need-triple-place-requires
 triple-place-requires c κs = search needs
 
 add-if-requires : tie.Need-add-if-requires
-add-if-requires c κs = search (needs, p-inside, p-within, sum-a, count-a)
+add-if-requires c κs = search (needs, p-inside, p-within, small-first)
 
 returns : tie.Need-returns
 returns c = search lone-added
@@ -23,7 +23,7 @@ add-add-if : tie.Need-add-add-if
 add-add-if c = search needs
 
 add-if-requires-2 : tie.Need-add-if-requires-2
-add-if-requires-2 c κs = search (needs, q-inside, q-within, sum-b, count-b)
+add-if-requires-2 c κs = search (needs, q-inside, q-within, small-second)
 
 add-add-if-2 : tie.Need-add-add-if-2
 add-add-if-2 c = search ends-fit
@@ -35,7 +35,7 @@ add-add-if-3 : tie.Need-add-add-if-3
 add-add-if-3 c = search needs
 
 add-if-requires-3 : tie.Need-add-if-requires-3
-add-if-requires-3 c κs = search (needs, r-inside, r-within, sum-c, count-c)
+add-if-requires-3 c κs = search (needs, r-inside, r-within, small-third)
 
 returns-2 : tie.Need-returns-2
 returns-2 c = search pair-added

@@ -16,8 +16,8 @@ keeps-sign-requires c κs = search needs
 key-of-requires : tie.Need-key-of-requires
 key-of-requires c κs = search needs
 
-lowered-requires : tie.Need-lowered-requires
-lowered-requires c κs = search (needs, facts-here, back-small, toZ-ofZ)
+lowered-at-requires : tie.Need-lowered-at-requires
+lowered-at-requires c κs = search (needs, facts-here, back-small, toZ-ofZ)
 
 worst-requires : tie.Need-worst-requires
 worst-requires c κs = search needs
@@ -36,7 +36,7 @@ target-at-spec =
     term-count-requires
     keeps-sign-requires
     key-of-requires
-    lowered-requires
+    lowered-at-requires
     worst-requires
     scaled-requires
     returns)

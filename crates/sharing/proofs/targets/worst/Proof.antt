@@ -1,13 +1,13 @@
 use mir.Facts.{toZ-ofZ}
-use Rattle.sharing.proofs.targets.Laws.{kept-is, kept-small, negative-is, negated-fits, positive-is, positive-small}
+use Rattle.sharing.proofs.targets.Laws.{kept-is, back-small, negative-is, negated-fits, positive-is, positive-small}
 use Rattle.sharing.proofs.targets.worst.Statement.{statement}
 use Rattle.sharing.proofs.targets.worst.Tie as tie
 
 returns : tie.Need-returns
-returns c = search (kept-is, kept-small, toZ-ofZ)
+returns c = search (kept-is, back-small, toZ-ofZ)
 
 returns-2 : tie.Need-returns-2
-returns-2 c = search (negative-is, kept-small, toZ-ofZ)
+returns-2 c = search (negative-is, back-small, toZ-ofZ)
 
 sub-result : tie.Need-sub-result
 sub-result c = search (negated-fits, toZ-ofZ)
