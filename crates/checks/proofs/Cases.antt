@@ -89,7 +89,7 @@ rows-right =
     passed-at (Accepted 0) Nothing _ 12 _ exponents-low refl
     (passed-at (Accepted 0) Nothing _ 13 _ midpoints-whole refl
     (passed-at (Accepted 0) Nothing _ 14 _ none-lone refl
-    (passed-at (Accepted 0) Nothing _ 15 _ (nothing-first _ 256 weights-light) refl refl)))
+    (passed-at (Accepted 0) Nothing _ 15 _ (nothing-first _ 256 (λ i l. weights-light i)) refl refl)))
 
 claim-right : says (Accepted 0) ≡ C.claimAnswer square
 unfolding

@@ -4,4 +4,3 @@ pub mod bounds;
 pub mod claim_checks;
 pub mod proof_checks;
 pub mod searches;
-pub mod well_formed;

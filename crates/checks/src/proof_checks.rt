@@ -120,7 +120,7 @@ fn unused_wrong(proof: &[u8], n: usize, k: usize, i: usize) -> bool
 }
 
 // 15: whether one of three weights is beyond ± a limit.
-fn any_beyond(x: Triple, limit: u64) -> bool
+pub fn any_beyond(x: Triple, limit: u64) -> bool
     ensures { λ r. ⌜ r ≡ anyBeyond limit x ⌝ }
 {
     if is_beyond(x.p, limit) {

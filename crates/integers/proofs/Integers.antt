@@ -280,6 +280,13 @@ le-leZ {x} {y} h = pick (leZ x y) (h .le)
     pick true t = refl
     pick false t = absurd t
 
+pub le-ltZ : {x y : ℤ} → y ≤ℤ x → ltZ x y ≡ false
+le-ltZ {x} {y} h = pick (ltZ x y) (ltZ-true x y)
+  where
+    pick : (b : Bool) → (b ≡ true → x <ℤ y) → b ≡ false
+    pick true f = let g = f refl in absurd (omega (arith, le-parts h, lt-parts g))
+    pick false f = refl
+
 pub ltZ-parts : (x y : ℤ) → ltZ x y ≡ true → up x + dn y < up y + dn x
 ltZ-parts x y e = lt-parts (ltZ-true x y e)
 

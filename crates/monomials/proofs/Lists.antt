@@ -13,6 +13,10 @@ pub all-append : {A : Type 0} (P : A → Type 0) (L M : List A) → All P L → 
 all-append P [] M s t = t
 all-append P (a ∷ L) M s t = (s .0, all-append P L M (s .1) t)
 
+append-all : {A : Type 0} (P : A → Type 0) (L M : List A) → All P (L ++ M) → All P L × All P M
+append-all P [] M h = (tt, h)
+append-all P (a ∷ L) M h = let k = append-all P L M (h .1) in ((h .0, k .0), k .1)
+
 module _ {A : Type 0} (f : ℕ → A) where
   pub table-none : table f 0 ≡ []
   unfolding table
@@ -49,6 +53,18 @@ module _ {A : Type 0} (f : ℕ → A) where
   all-table P zero h = tt
   all-table P (suc n) h =
       all-append P (table f n) (f n ∷ []) (all-table P n (λ i l. h i (omega arith))) (h n (omega arith), tt)
+
+  -- and the other way
+  pub table-all : (P : A → Type 0) (n : ℕ) → All P (table f n) → (i : ℕ) → i < n → P (f i)
+  unfolding table
+  table-all P zero h i l = absurd (omega arith)
+  table-all P (suc n) h i l =
+      let k = append-all P (table f n) (f n ∷ []) h in
+      go (decLt i n) (table-all P n (k .0) i) (k .1 .0)
+    where
+      go : Dec (i < n) → (i < n → P (f i)) → P (f n) → P (f i)
+      go (yes m) before last = before m
+      go (no m) before last = let q : i ≡ n = omega arith in rw q last
 
   -- lists with equal entries are equal
   pub table-same : (g : ℕ → A) (n : ℕ) → ((i : ℕ) → i < n → f i ≡ g i) → table f n ≡ table g n

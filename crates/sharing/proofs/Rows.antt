@@ -13,13 +13,13 @@ use Rattle.monomials.specs.Rows.{Row, slotsAt, slots}
 use Rattle.monomials.specs.Decomposition.{Placed, Whole}
 use Rattle.monomials.specs.declared.rows.Weights.{Weights}
 use Rattle.monomials.specs.declared.rows.Weights.the-variants.{Pair, Lone}
-use Rattle.monomials.proofs.Lists.{all-table}
+use Rattle.monomials.proofs.Lists.{all-table, table-all, table-same}
 use Rattle.monomials.proofs.points.Laws.{midpoint-sized}
 use Rattle.monomials.proofs.rows.Laws.{slots-pair, slots-lone, slots-none, slots-more}
 use Rattle.sheets.specs.Layout.{variables, rowCount}
 use Rattle.sheets.specs.ProofSheet.{vOf, wOf, rowOf, rowsOf, Suits}
 use Rattle.checks.specs.WellFormed.{ProofFacts}
-use Rattle.sheets.proofs.proof_sheet.Laws.{row-placed, row-lone, row-pair, row-v, row-w, v-length, w-length}
+use Rattle.sheets.proofs.proof_sheet.Laws.{row-placed, row-lone, row-pair, row-v, row-w, v-length, w-length, rows-table}
 use Rattle.sharing.specs.Sharing.{count, shiftedWeight, shiftedFrom, shiftedSlots}
 use Rattle.sharing.specs.Slots.{slotsTo}
 use Rattle.sharing.specs.Shifts.{shiftedWeights, shiftRow, slotsBefore, shiftedRow, shiftedRows}
@@ -95,11 +95,20 @@ module _ (τ : Exponents → ℤ) (s : List ℕ) (i : ℕ) where
         whole = whole-stays τ (slots (rowsOf s)) (slotsBefore s i) (a .v) (a .w) (a .weights) (h .whole);
       }
 
+-- what holds of each row
+module _ (τ : Exponents → ℤ) (s : List ℕ) (P : Row → Type 0) where
+  pub rows-all : ((i : ℕ) → i < rowCount s → P (shiftedRow τ s i)) → All P (shiftedRows τ s)
+  unfolding shiftedRows
+  rows-all h = all-table (shiftedRow τ s) P (rowCount s) h
+
+  pub rows-each : All P (shiftedRows τ s) → (i : ℕ) → i < rowCount s → P (shiftedRow τ s i)
+  unfolding shiftedRows
+  rows-each h = table-all (shiftedRow τ s) P (rowCount s) h
+
 pub rows-stay-placed : (τ : Exponents → ℤ) (s : List ℕ) → ProofFacts s (variables s) (rowCount s)
     → All (Placed (variables s)) (shiftedRows τ s)
-unfolding shiftedRows
 rows-stay-placed τ s f =
-    all-table (shiftedRow τ s) (Placed (variables s)) (rowCount s)
+    rows-all τ s (Placed (variables s))
     (λ i l. keeps-place τ s i (variables s) (row-placed s (variables s) (rowCount s) i (f .whole i l)))
 
 -- where the proposed weights add up at every point of n exponents, the shifted row is the proposed one
@@ -122,3 +131,9 @@ module _ (τ : Exponents → ℤ) (s : List ℕ)
       let a : Row = rowOf s (variables s) (rowCount s) i in
       rw (weights-stay (slotsBefore s i) (a .v) (a .w) (a .weights) (rw row-v (v-length s (variables s) (rowCount s) i))
       (rw row-w (w-length s (variables s) (rowCount s) i)))
+
+  pub rows-stay : shiftedRows τ s ≡ rowsOf s
+  unfolding shiftedRows
+  rows-stay =
+      table-same (shiftedRow τ s) (rowOf s (variables s) (rowCount s)) (rowCount s) (λ i l. row-stays i)
+      ∙ rows-table s (variables s) (rowCount s) refl refl

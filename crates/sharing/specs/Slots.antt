@@ -1,7 +1,7 @@
 -- The slots of a proof sheet, and those at one point tallied.
-use mathlib.Core.Bool.{Bool, cond}
+use mathlib.Core.Bool.{Bool, cond, _||_}
 use mathlib.Core.List.{List, [], _∷_}
-use Prim.Native.Nat.{ℕ, _+_, _^_, _≤_}
+use Prim.Native.Nat.{ℕ, _+_, _*_, _^_, _≤_}
 use lib.Dec.{eqb}
 use lib.IntN.{ℤ, pos, natAbs, _+ℤ_}
 use Rattle.monomials.specs.Lists.{table}
@@ -9,7 +9,7 @@ use Rattle.monomials.specs.Points.{Exponents}
 use Rattle.monomials.specs.Keys.{keyOf}
 use Rattle.monomials.specs.Sums.{Sum, coefficient}
 use Rattle.monomials.specs.Rows.{slots}
-use Rattle.sheets.specs.ProofSheet.{rowOf}
+use Rattle.sheets.specs.ProofSheet.{vOf, wOf, rowOf}
 use Rattle.checks.specs.WellFormed.{ProofFacts}
 use Rattle.sharing.specs.Sharing.{count}
 use Rattle.sharing.specs.declared.slots.Holding.{Holding}
@@ -29,7 +29,13 @@ slotsTo s n k i = slots (table (rowOf s n k) i)
 unfoldable pub holdingOf : Exponents → Sum → Sum → Holding
 holdingOf α L before = record { sum = coefficient α L; count = count α L; rank = count α before }
 
--- ---- the same by keys, as the code counts: `tally-sum` and `tally-count` of proofs/slots/Laws.antt show that it is the same
+-- ---- the same by keys, as the code counts: `tally-sum`, `tally-count`, `key-held` and `keys-unheld` of
+-- proofs/slots/Laws.antt show that it is the same
+
+-- row i has a slot at the point with a key: v, w, or the midpoint, where twice the key is the sum of their keys
+unfoldable pub holdsKey : List ℕ → ℕ → ℕ → ℕ → Bool
+holdsKey s n key i =
+    eqb key (keyOf (vOf s n i)) || eqb key (keyOf (wOf s n i)) || eqb (keyOf (vOf s n i) + keyOf (wOf s n i)) (key * 2)
 
 -- a tally that leaves room for more
 pub record Small (a : Tally) : Type 0 where

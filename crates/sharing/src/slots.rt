@@ -13,7 +13,7 @@ ghost use Rattle.integers.specs.Words.{i32At};
 ghost use Rattle.monomials.specs.Points.{exponents};
 ghost use Rattle.checks.specs.Bounds.{greatestWeight};
 ghost use Rattle.sharing.specs.Carried.{Carried};
-ghost use Rattle.sharing.specs.Slots.{CheckedProof, Small, slotsTo, added, tallyOf, holdingOf};
+ghost use Rattle.sharing.specs.Slots.{CheckedProof, Small, slotsTo, holdsKey, added, tallyOf, holdingOf};
 
 // What the slots at a point weigh together, and how many they are.
 pub struct Tally {
@@ -85,4 +85,20 @@ pub(crate) fn held(proof: &[u8], n: usize, k: usize, i: usize, p: Point) -> Hold
         count: all.count,
         rank: before.count,
     }
+}
+
+// Whether row i has a slot at the point with a key.
+pub fn holds_key(proof: &[u8], n: usize, k: usize, i: usize, key: u64) -> bool
+    requires { ⌜ (CheckedProof (now proof) n k) × (i < k) × (key < 2 ^ 63) ⌝ }
+    ensures { λ r. ⌜ r ≡ holdsKey (now (proof .entry)) n key i ⌝ }
+{
+    let v = v_key(proof, n, k, i);
+    let w = w_key(proof, n, k, i);
+    if key == v {
+        return true;
+    }
+    if key == w {
+        return true;
+    }
+    v + w == key * 2
 }

@@ -131,7 +131,7 @@ pub fn row_at(proof: &[u8], n: usize, k: usize, i: usize) -> Row
 }
 
 // The triple that a row's weights are written as.
-fn triple_for(weights: Weights) -> Triple
+pub fn triple_for(weights: Weights) -> Triple
     ensures { λ r. ⌜ r ≡ tripleFor weights ⌝ }
 {
     match weights {

@@ -1,8 +1,10 @@
 -- Laws of answers: what it says of each check that all are passed, and the ways through checks one after another.
 use mathlib.Core.Path.{_≡_, refl, sym, _∙_}
 use mathlib.Core.Bool.{Bool, true, false, cond, _||_, false≢true}
-use Prim.Native.Nat.{ℕ}
+use Prim.Native.Nat.{ℕ, _≤_}
+use native.Mathlib.Omega.{arith}
 use lib.Dec.{eqb, leb}
+use borrow.Author.Tests.{lt-leb, ne-eqb}
 use Rattle.checks.specs.Answers.{Answer, claim, proof, output, offsets, says, blames, accepted, refused, refuseIf, refuseAt, blameless, andThen, Passes}
 use Rattle.checks.specs.declared.answers.Sheet.{Sheet}
 use Rattle.checks.specs.declared.answers.Sheet.the-variants.{Claim, Proof, Output, Offsets}
@@ -43,17 +45,34 @@ passes-then a later h = go (blameless a) refl h
     go true e k = (e, k)
     go false e k = absurd (false≢true (sym e ∙ k))
 
+pub then-passes : (a later : Answer) → Passes a → Passes later → Passes (andThen a later)
+unfolding andThen
+then-passes a later h k = rw h k
+
+pub then-on : (a later : Answer) → Passes a → andThen a later ≡ later
+unfolding andThen
+then-on a later h = rw h
+
+pub accepted-passes : (a : Answer) (k : ℕ) → a ≡ accepted k → Passes a
+unfolding blameless accepted
+accepted-passes a k e = rw e
+
 -- v is the verdict on the checks before, r on those after
 module _ (v : Verdict) (a : Answer) (e : says v ≡ a) where
-  pub then-refused : (x : Sheet) (later : Answer) → v ≡ Refused x → says v ≡ andThen a later
-  unfolding says blameless andThen
-  then-refused x later h = rw (← e, h) (go x)
-    where
-      go : (x : Sheet) → says (Refused x) ≡ cond (blameless (says (Refused x))) later (says (Refused x))
-      go (Claim number index) = refl
-      go (Proof number index) = refl
-      go (Output number index) = refl
-      go (Offsets number index) = refl
+  module _ (x : Sheet) (h : v ≡ Refused x) where
+    pub failed : blameless a ≡ false
+    unfolding says blameless
+    failed = rw (← e, h) (go x)
+      where
+        go : (x : Sheet) → blameless (says (Refused x)) ≡ false
+        go (Claim number index) = refl
+        go (Proof number index) = refl
+        go (Output number index) = refl
+        go (Offsets number index) = refl
+
+    pub then-refused : (later : Answer) → says v ≡ andThen a later
+    unfolding andThen
+    then-refused later = rw failed e
 
   module _ (k : ℕ) (h : v ≡ Accepted k) where
     pub passed : Passes a
@@ -101,3 +120,18 @@ claim-says number index h = rw h
 pub proof-says : (number index : ℕ) → blames number ≡ proof → says (Refused (Proof number index)) ≡ refused number index
 unfolding says refused
 proof-says number index h = rw h
+
+-- refusals of the crates above
+pub late-says : (number index : ℕ) → 12 ≤ number → number ≤ 19 → says (Refused (Proof number index)) ≡ refused number index
+unfolding blames
+late-says number index l h =
+    proof-says number index (rw (
+      lt-leb number 7 (omega arith),
+      ne-eqb number 21 (λ q. omega arith),
+      ne-eqb number 11 (λ q. omega arith),
+      ne-eqb number 20 (λ q. omega arith),
+    ))
+
+pub output-says : (index : ℕ) → says (Refused (Output 11 index)) ≡ refused 11 index
+unfolding says refused blames
+output-says index = refl

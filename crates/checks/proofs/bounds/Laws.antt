@@ -4,7 +4,7 @@ use mathlib.Core.Bool.{false}
 use Prim.Native.Nat.{ℕ, _≤_}
 use lib.Dec.{ltb}
 use lib.IntN.{ℤ, natAbs}
-use borrow.Author.Tests.{ltb-false}
+use borrow.Author.Tests.{ltb-false, le-ltb}
 use Rattle.checks.specs.Bounds.{beyond}
 
 -- is_beyond: x′ is the number as the machine reads it back, m its magnitude
@@ -15,3 +15,7 @@ beyond-is limit m x x′ h e = rw (h, e)
 pub within-bound : (limit : ℕ) (x : ℤ) → beyond limit x ≡ false → natAbs x ≤ limit
 unfolding beyond
 within-bound limit x h = ltb-false limit (natAbs x) h
+
+pub bound-within : (limit : ℕ) (x : ℤ) → natAbs x ≤ limit → beyond limit x ≡ false
+unfolding beyond
+bound-within limit x h = le-ltb limit (natAbs x) h

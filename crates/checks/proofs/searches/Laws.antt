@@ -42,11 +42,11 @@ module _ (wrong : ℕ → Bool) where
   pub first-end : (n i : ℕ) → n ≤ i → i ≤ n → first wrong i ≡ Nothing → Nothing ≡ first wrong n
   first-end n i l m h = let q : i ≡ n = omega arith in sym (rw q at h)
 
--- where nothing is wrong at any index there is none
-pub nothing-first : (wrong : ℕ → Bool) (n : ℕ) → ((i : ℕ) → wrong i ≡ false) → Nothing ≡ first wrong n
+-- where nothing is wrong at any index below n there is none
+pub nothing-first : (wrong : ℕ → Bool) (n : ℕ) → ((i : ℕ) → i < n → wrong i ≡ false) → Nothing ≡ first wrong n
 unfolding first
 nothing-first wrong zero h = refl
-nothing-first wrong (suc n) h = rw (← nothing-first wrong n h, h n)
+nothing-first wrong (suc n) h = rw (← nothing-first wrong n (λ i l. h i (omega arith)), h n (omega arith))
 
 -- and where there is none, nothing is wrong at any index
 none-last : (wrong : ℕ → Bool) (n : ℕ) → first wrong (suc n) ≡ Nothing → (first wrong n ≡ Nothing) × (wrong n ≡ false)

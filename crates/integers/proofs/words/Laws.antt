@@ -1,7 +1,7 @@
 -- Laws of words: what is written reads back, what was read and is written again gives the same bytes, no other byte changes.
 use mathlib.Core.Path.{_≡_, refl, sym, _∙_, ap}
 use mathlib.Core.Bool.{true, false}
-use mathlib.Core.List.{List, [], _∷_}
+use mathlib.Core.List.{List, [], _∷_, _++_}
 use Prim.Native.Nat.{ℕ, zero, suc, _+_, _*_, _-_, _/_, _%_, _^_, _<_, _≤_}
 use native.Mathlib.Nat.{add-zero}
 use native.Mathlib.Numerals.{towards-suc}
@@ -9,7 +9,7 @@ use native.Mathlib.Omega.{arith}
 use lib.Dec.{T}
 use lib.IntN.{ℤ, pos, negsuc, natAbs, _+ℤ_, _-ℤ_}
 use lib.ListN.{length, getD, set, length-set}
-use lib.Seq.{sets, length-sets, getD-set-same, getD-set-other, set-getD}
+use lib.Seq.{sets, length-sets, set-append-left, getD-set-same, getD-set-other, set-getD}
 use lib.Signed.{ltZ, nonNeg}
 use mir.Syntax.{w8, w32, w64}
 use mir.Val.{Fits, SFits, toZ, ofZ}
@@ -57,6 +57,11 @@ sets-in (v ∷ vs) l i (suc k) h m =
 
 -- ---- a word written
 
+sets-append : (vs s l : List ℕ) (at : ℕ) → at + length vs ≤ length s → sets (s ++ l) at vs ≡ sets s at vs ++ l
+sets-append [] s l at h = refl
+sets-append (v ∷ vs) s l at h =
+    rw (set-append-left s l at v (omega arith)) (sets-append vs (set s at v) l (suc at) (rw (length-set s at v) (omega arith)))
+
 -- a number is the sum of its bytes
 whole : (u : ℕ) → u < 4294967296 → u % 256 + u / 256 % 256 * 256 + u / 65536 % 256 * 65536 + u / 16777216 * 16777216 ≡ u
 whole u h = omega arith
@@ -81,6 +86,11 @@ module _ (s : List ℕ) (at : ℕ) (v : ℤ) where
   pub written-after : (j : ℕ) → at + 4 ≤ j → getD (withI32 s at v) j 0 ≡ getD s j 0
   unfolding withI32 withBits
   written-after j h = sets-after (bytesOf (ofZ w32 v)) s at j h
+
+  -- what comes after the list stays
+  pub written-append : (l : List ℕ) → at + 4 ≤ length s → withI32 (s ++ l) at v ≡ withI32 s at v ++ l
+  unfolding withI32 withBits
+  written-append l h = sets-append (bytesOf (ofZ w32 v)) s l at h
 
   -- so a word that stands apart reads as before
   pub read-before : (p : ℕ) → p + 4 ≤ at → i32At (withI32 s at v) p ≡ i32At s p

@@ -8,7 +8,7 @@ use native.Mathlib.Nat.{le-of-lt, add-assoc}
 use native.Mathlib.Numerals.{add-one}
 use native.Mathlib.Omega.{arith}
 use lib.Dec.{eqb, ltb, leb}
-use lib.ListN.{length, getD, set, take, drop, replicate, length-append, length-take}
+use lib.ListN.{length, getD, set, take, drop, replicate, length-replicate, replicate-append-replicate, length-append, length-take}
 use lib.Seq.{drop-cons, drop-nil, getD-take, set-at, take-append-seam, ext-getD}
 use borrow.Author.Tests.{lt-ltb, le-ltb, ltb-true, ltb-false, le-leb, leb-true, eq-eqb, eqb-true}
 use borrow.Author.Count.{below-more}
@@ -322,7 +322,14 @@ pub exponents-of : (α : Exponents) → exponents (pointOf α) ≡ α
 unfolding exponents pointOf
 exponents-of α = take-append-seam α (replicate (8 - length α) 0)
 
--- the constant's exponents are within any limit
+-- the constant's point
+pub zeros-point : (n : ℕ) → n ≤ 8 → record { exps = replicate 8 0; n = n } ≡ pointOf (replicate n 0)
+unfolding pointOf
+zeros-point n h =
+    let e : n + (8 - n) ≡ 8 = omega arith in
+    rw (length-replicate {A = ℕ} n 0, replicate-append-replicate {A = ℕ} n (8 - n) 0, e)
+
+-- its exponents are within any limit
 pub zeros-within : (limit n : ℕ) → exponentsWithin limit (replicate n 0) ≡ true
 unfolding exponentsWithin every
 zeros-within limit zero = refl

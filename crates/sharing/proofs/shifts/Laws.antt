@@ -28,7 +28,7 @@ use Rattle.sheets.specs.ProofSheet.{scaleOf, vOf, wOf, tripleOf, rowOf, rowsOf,
 use Rattle.sheets.specs.declared.proof_sheet.Row.{Row}
 use Rattle.sheets.specs.ClaimSheet.{floorOf}
 use Rattle.checks.specs.WellFormed.{WellFormed}
-use Rattle.checks.proofs.well_formed.Laws.{claim-formed, proof-formed, proof-room}
+use Rattle.checks.proofs.WellFormed.{claim-formed, proof-formed, proof-room}
 use Rattle.sheets.proofs.proof_sheet.Laws.{lone-of, pair-of, row-v, row-w, value-v, value-w, value-weights, by-value}
 use Rattle.checks.specs.Bounds.{greatestWeight}
 use Rattle.sheets.specs.Layout.{variables, rowCount, ProofRoom}

@@ -1,23 +1,23 @@
 -- Laws of slots: those of one row more, how much they can weigh, the slots with a point's key are those at the point; and
 -- the ways through the code.
 use mathlib.Core.Path.{_≡_, refl, sym, _∙_, ap}
-use mathlib.Core.Bool.{Bool, true, false, cond}
+use mathlib.Core.Bool.{Bool, true, false, cond, _||_}
 use mathlib.Core.List.{List, [], _∷_, _++_}
 use Prim.Native.Nat.{ℕ, zero, suc, _+_, _*_, _-_, _^_, _<_, _≤_}
 use native.Mathlib.Decide.{ℕ-discrete}
 use native.Mathlib.Nat.{mul-le-mul-right}
 use native.Mathlib.Numerals.{add-one}
 use native.Mathlib.Omega.{arith}
-use lib.Dec.{eqb, lit<}
+use lib.Dec.{eqb, ltb, lit<}
 use lib.IntN.{ℤ, pos, natAbs, _+ℤ_, +ℤ-idl, +ℤ-idr, +ℤ-assoc}
 use lib.ListN.{length, length-append}
-use borrow.Author.Tests.{eq-eqb, ne-eqb}
+use borrow.Author.Tests.{eq-eqb, ne-eqb, lt-ltb, ltb-true, ltb-false}
 use mir.Syntax.{w64}
 use mir.Val.{SFits, Fits}
 use mir.Facts.{toZ-ofZ}
 use Rattle.integers.specs.Words.{i32At}
 use Rattle.integers.proofs.Integers.{back, abs-add, fits-within}
-use Rattle.monomials.specs.Lists.{All}
+use Rattle.monomials.specs.Lists.{table, All}
 use Rattle.monomials.specs.Points.{Exponents, exponents, samePoint, midpointOf}
 use Rattle.monomials.specs.Keys.{keyOf}
 use Rattle.monomials.specs.Sums.{Sum, coefficient}
@@ -25,6 +25,7 @@ use Rattle.monomials.specs.Rows.{slotsAt, slots}
 use Rattle.monomials.specs.declared.points.Point.{Point}
 use Rattle.monomials.proofs.Lists.{all-append}
 use Rattle.monomials.proofs.Sums.{coefficient-nil, coefficient-cons}
+use Rattle.monomials.proofs.points.Laws.{same-eq}
 use Rattle.monomials.proofs.keys.Laws.{key-midpoint}
 use Rattle.monomials.proofs.rows.Laws.{slots-pair, slots-lone, slots-none, slots-more}
 use Rattle.checks.specs.Bounds.{greatestWeight}
@@ -32,13 +33,16 @@ use Rattle.sheets.specs.Layout.{variables, rowCount, tripleAt}
 use Rattle.sheets.specs.ProofSheet.{vOf, wOf, tripleOf, rowOf, rowsOf}
 use Rattle.checks.specs.WellFormed.{Within}
 use Rattle.sheets.proofs.proof_sheet.Laws.{triple-inside, p-there, q-there, r-there, row-lone, row-pair, row-v, row-w, rows-table}
-use Rattle.checks.proofs.well_formed.Laws.{proof-room}
+use Rattle.checks.specs.Searches.{first}
+use Rattle.checks.specs.declared.searches.Found.the-variants.{Nothing}
+use Rattle.checks.proofs.searches.Laws.{first-nothing}
+use Rattle.checks.proofs.WellFormed.{proof-room}
 use Rattle.sharing.specs.Sharing.{count}
 use Rattle.sharing.specs.Carried.{Carried}
-use Rattle.sharing.specs.Slots.{CheckedProof, Small, slotsTo, added, tallyFrom, tallyOf, holdingOf}
+use Rattle.sharing.specs.Slots.{CheckedProof, Small, slotsTo, holdsKey, added, tallyFrom, tallyOf, holdingOf}
 use Rattle.sharing.specs.declared.slots.Tally.{Tally}
 use Rattle.sharing.proofs.Carried.{v-carried, w-carried, middle-carried, carried-same, carried-low}
-use Rattle.sharing.proofs.Sharing.{count-append}
+use Rattle.sharing.proofs.Sharing.{count-append, count-cons, count-nil}
 
 -- ---- the slots of one row more
 
@@ -226,6 +230,112 @@ pub added-miss : (hit : Bool) (x : ℤ) (a : Tally) → hit ≡ false → a ≡ 
 unfolding added
 added-miss hit x a h = rw h
 
+-- ---- the keys of a row's ends, v and w
+
+halved : (u key : ℕ) → eqb (u * 2) (key * 2) ≡ eqb key u
+halved u key = go (ℕ-discrete u key)
+  where
+    go : Dec (u ≡ key) → eqb (u * 2) (key * 2) ≡ eqb key u
+    go (yes e) = eq-eqb (u * 2) (key * 2) (omega (arith, e)) ∙ sym (eq-eqb key u (sym e))
+    go (no e) = ne-eqb (u * 2) (key * 2) (λ q. e (omega arith)) ∙ sym (ne-eqb key u (λ q. e (sym q)))
+
+module _ (s : List ℕ) (n k i : ℕ) (f : CheckedProof s n k) (l : i < k) where
+  module _ (v w : ℕ) (ev : v ≡ keyOf (vOf s n i)) (ew : w ≡ keyOf (wOf s n i)) where
+    lone : eqb v w ≡ samePoint (vOf s n i) (wOf s n i)
+    lone = rw (ev, ew) (carried-same n (vOf s n i) (wOf s n i) (v-carried s n k i (f .facts) l) (w-carried s n k i (f .facts) l))
+
+    pub ends-fit : Fits w64 (v + w)
+    ends-fit =
+        let hv = carried-low n (vOf s n i) (f .few) (v-carried s n k i (f .facts) l) in
+        let hw = carried-low n (wOf s n i) (f .few) (w-carried s n k i (f .facts) l) in
+        omega (arith, ev, ew, hv, hw)
+
+    middle : (key : ℕ) → eqb (v + w) (key * 2) ≡ eqb key (keyOf (midpointOf (vOf s n i) (wOf s n i)))
+    middle key =
+        rw (ev, ew, key-midpoint (vOf s n i) (wOf s n i) (f .facts .whole i l))
+        (halved (keyOf (midpointOf (vOf s n i) (wOf s n i))) key)
+
+    -- holds_key
+    module _ (key : ℕ) where
+      pub key-first : key ≡ v → true ≡ holdsKey s n key i
+      unfolding holdsKey
+      key-first e = rw (← ev, eq-eqb key v e)
+
+      module _ (a : key ≡ v → ⊥) where
+        pub key-second : key ≡ w → true ≡ holdsKey s n key i
+        unfolding holdsKey
+        key-second e = rw (← ev, ← ew, ne-eqb key v a, eq-eqb key w e)
+
+        pub key-middle : (key ≡ w → ⊥) → eqb (v + w) (key * 2) ≡ holdsKey s n key i
+        unfolding holdsKey
+        key-middle b = rw (← ev, ← ew, ne-eqb key v a, ne-eqb key w b)
+
+  -- the slots of the row
+  abbrev own : Sum
+  own = slotsAt (rowOf s n k i .v) (rowOf s n k i .w) (rowOf s n k i .weights)
+
+  -- a row has a slot at a point exactly where it holds the point's key
+  module _ (α : Exponents) (carried : Carried n α) where
+    abbrev at : Exponents → Bool
+    at β = samePoint α β
+
+    some : (m : ℕ) → true ≡ ltb 0 (suc m)
+    some m = sym (lt-ltb 0 (suc m) (omega arith))
+
+    any-held : (a b d : Bool) → a || b || d ≡ ltb 0 (cond a (suc (cond b (suc (cond d 1 0)) (cond d 1 0))) (cond b (suc (cond d 1 0)) (cond d 1 0)))
+    any-held true b d = some (cond b (suc (cond d 1 0)) (cond d 1 0))
+    any-held false true d = some (cond d 1 0)
+    any-held false false true = refl
+    any-held false false false = refl
+
+    held-by-key : holdsKey s n (keyOf α) i ≡ ltb 0 (count α own)
+    unfolding holdsKey
+    held-by-key = go (samePoint (vOf s n i) (wOf s n i)) refl
+      where
+        v-at : eqb (keyOf α) (keyOf (vOf s n i)) ≡ at (vOf s n i)
+        v-at = carried-same n α (vOf s n i) carried (v-carried s n k i (f .facts) l)
+
+        w-at : eqb (keyOf α) (keyOf (wOf s n i)) ≡ at (wOf s n i)
+        w-at = carried-same n α (wOf s n i) carried (w-carried s n k i (f .facts) l)
+
+        u-at : eqb (keyOf (vOf s n i) + keyOf (wOf s n i)) (keyOf α * 2) ≡ at (midpointOf (vOf s n i) (wOf s n i))
+        u-at =
+            middle (keyOf (vOf s n i)) (keyOf (wOf s n i)) refl refl (keyOf α)
+            ∙ carried-same n α (midpointOf (vOf s n i) (wOf s n i)) carried (middle-carried s n k i (f .facts) l)
+
+        once : (a : Bool) → a || a || a ≡ ltb 0 (cond a 1 0)
+        once true = refl
+        once false = refl
+
+        go : (b : Bool) → samePoint (vOf s n i) (wOf s n i) ≡ b
+            → eqb (keyOf α) (keyOf (vOf s n i)) || eqb (keyOf α) (keyOf (wOf s n i)) || eqb (keyOf (vOf s n i) + keyOf (wOf s n i)) (keyOf α * 2)
+            ≡ ltb 0 (count α own)
+        go true e =
+            let q = same-eq (vOf s n i) (wOf s n i) e in
+            let d : keyOf (wOf s n i) + keyOf (wOf s n i) ≡ keyOf (wOf s n i) * 2 = omega arith in
+            rw (row-lone s n k i e, row-v, slots-lone, count-cons, count-nil, q, d, halved, w-at) (once (at (wOf s n i)))
+        go false e =
+            rw (row-pair s n k i e, row-v, row-w, slots-pair, count-cons, count-cons, count-cons, count-nil, v-at, w-at, u-at)
+            (any-held (at (vOf s n i)) (at (wOf s n i)) (at (midpointOf (vOf s n i) (wOf s n i))))
+
+    pub key-held : holdsKey s n (keyOf α) i ≡ true → 0 < count α (slotsTo s n k k)
+    key-held h = row-held s n k i α l (ltb-true 0 (count α own) (sym held-by-key ∙ h))
+
+    key-unheld : holdsKey s n (keyOf α) i ≡ false → count α own ≡ 0
+    key-unheld h = let z = ltb-false 0 (count α own) (sym held-by-key ∙ h) in omega arith
+
+-- where no row holds the key, no slot is at the point
+pub keys-unheld : (s : List ℕ) (n k : ℕ) (α : Exponents) → CheckedProof s n k → Carried n α
+    → first (holdsKey s n (keyOf α)) k ≡ Nothing → count α (slotsTo s n k k) ≡ 0
+unfolding slotsTo
+keys-unheld s n k α f carried h = go k (omega arith)
+  where
+    go : (i : ℕ) → i ≤ k → count α (slots (table (rowOf s n k) i)) ≡ 0
+    go zero l = rw (slots-none, count-nil)
+    go (suc i) l =
+        let z = key-unheld s n k i f l α carried (first-nothing _ k h i l) in
+        rw (slots-more (rowOf s n k) i, count-append) (omega (arith, z, go i (omega arith)))
+
 -- ---- add_row: v and w are the keys of the row's ends
 
 module _ (s : List ℕ) (n k i : ℕ) (f : CheckedProof s n k) (l : i < k) (at : ℕ) (ea : at ≡ tripleAt n k i) where
@@ -254,30 +364,11 @@ module _ (s : List ℕ) (n k i : ℕ) (f : CheckedProof s n k) (l : i < k) (at :
   r-within = rw (r-there s n k i at ea) (weights .r-within)
 
   module _ (key v w : ℕ) (ev : v ≡ keyOf (vOf s n i)) (ew : w ≡ keyOf (wOf s n i)) where
-    lone : eqb v w ≡ samePoint (vOf s n i) (wOf s n i)
-    lone = rw (ev, ew) (carried-same n (vOf s n i) (wOf s n i) (v-carried s n k i (f .facts) l) (w-carried s n k i (f .facts) l))
-
-    pub ends-fit : Fits w64 (v + w)
-    ends-fit =
-        let hv = carried-low n (vOf s n i) (f .few) (v-carried s n k i (f .facts) l) in
-        let hw = carried-low n (wOf s n i) (f .few) (w-carried s n k i (f .facts) l) in
-        omega (arith, ev, ew, hv, hw)
-
-    middle : eqb (v + w) (key * 2) ≡ eqb key (keyOf (midpointOf (vOf s n i) (wOf s n i)))
-    middle = rw (ev, ew, key-midpoint (vOf s n i) (wOf s n i) (f .facts .whole i l)) (go (ℕ-discrete u key))
-      where
-        u : ℕ
-        u = keyOf (midpointOf (vOf s n i) (wOf s n i))
-
-        go : Dec (u ≡ key) → eqb (u * 2) (key * 2) ≡ eqb key u
-        go (yes e) = eq-eqb (u * 2) (key * 2) (omega (arith, e)) ∙ sym (eq-eqb key u (sym e))
-        go (no e) = ne-eqb (u * 2) (key * 2) (λ q. e (omega arith)) ∙ sym (ne-eqb key u (λ q. e (sym q)))
-
     module _ (a b : Tally) (ha : a ≡ tallyOf key (slotsTo s n k i)) (hb : b ≡ added (eqb key v) (i32At s at) a) where
       pub lone-added : v ≡ w → b ≡ tallyOf key (slotsTo s n k (i + 1))
       unfolding tallyOf
       lone-added e =
-          let row = lone-slots s n k i (sym lone ∙ eq-eqb v w e) in
+          let row = lone-slots s n k i (sym (lone s n k i f l v w ev ew) ∙ eq-eqb v w e) in
           hb ∙ rw (add-one, row, tally-append, tally-cons, tally-nil, ← ha, p-there s n k i at ea, ← ev)
 
       pub pair-added : (c r : Tally) → c ≡ added (eqb key w) (i32At s (at + 4)) b
@@ -285,8 +376,8 @@ module _ (s : List ℕ) (n k i : ℕ) (f : CheckedProof s n k) (l : i < k) (at :
           → (v ≡ w → ⊥) → r ≡ tallyOf key (slotsTo s n k (i + 1))
       unfolding tallyOf
       pair-added c r hc hr e =
-          let row = pair-slots s n k i (sym lone ∙ ne-eqb v w e) in
-          hr ∙ rw (hc, hb, middle, p-there s n k i at ea, q-there s n k i at ea, r-there s n k i at ea)
+          let row = pair-slots s n k i (sym (lone s n k i f l v w ev ew) ∙ ne-eqb v w e) in
+          hr ∙ rw (hc, hb, middle s n k i f l v w ev ew key, p-there s n k i at ea, q-there s n k i at ea, r-there s n k i at ea)
           (sym (rw (add-one, row, tally-append, tally-cons, tally-cons, tally-cons, tally-nil, ← ha, ← ev, ← ew)))
 
   -- the tallies before the row's first, second and third slot

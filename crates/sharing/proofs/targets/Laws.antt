@@ -20,7 +20,7 @@ use Rattle.monomials.specs.Lists.{table}
 use Rattle.monomials.specs.Points.{Exponents, exponents, samePoint, keepsSign}
 use Rattle.monomials.specs.Keys.{keyOf}
 use Rattle.monomials.specs.Sums.{Sum, coefficient}
-use Rattle.monomials.specs.Targets.{lowered, worst}
+use Rattle.monomials.specs.Targets.{lowered, worst, target}
 use Rattle.monomials.specs.declared.points.Point.{Point}
 use Rattle.monomials.proofs.Targets.{worst-kept, worst-negative, worst-positive, target-is, lowered-constant, lowered-other}
 use Rattle.monomials.proofs.Lists.{table-none, table-more}
@@ -36,7 +36,7 @@ use Rattle.checks.specs.declared.searches.Found.{Found}
 use Rattle.checks.specs.declared.searches.Found.the-variants.{At, Nothing}
 use Rattle.checks.proofs.searches.Laws.{first-none, first-here, first-stays, first-on, first-inside}
 use Rattle.sheets.proofs.claim_sheet.Laws.{terms-table, term-point, term-coefficient}
-use Rattle.checks.proofs.well_formed.Laws.{points-differ}
+use Rattle.checks.proofs.WellFormed.{points-differ}
 use Rattle.sharing.specs.Targets.{targetOf, hasKey, loweredBy, foundAt, loweredAt}
 use Rattle.sharing.specs.Carried.{Carried}
 use Rattle.sharing.proofs.Carried.{term-carried, constant-carried, carried-same}
@@ -213,3 +213,10 @@ module _ (c : List ℕ) (n t : ℕ) (en : n ≡ variables c) (et : t ≡ termCou
   target-made S key b b′ x x′ y y′ z z′ p k ez ey ex ek e carried bz by bx bb =
       bz ∙ ez ∙ rw (by, ey, bx, ex, bb, ek, e, at-point c n t facts-here (exponents p) (rw en carried) b en et)
       (sym (target-is S (lowered (variables c) b (termsOf c)) (exponents p)))
+
+-- ---- for the crates above
+
+pub target-of : (c : List ℕ) (b : ℤ) (S : ℕ) (α : Exponents)
+    → targetOf c b S α ≡ target S (lowered (variables c) b (termsOf c)) α
+unfolding targetOf
+target-of c b S α = refl

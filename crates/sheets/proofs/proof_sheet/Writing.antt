@@ -1,16 +1,17 @@
 -- Laws of weights written back: no other byte changes, what is written reads back, and a sheet written back as it was is the
 -- same.
-use mathlib.Core.Path.{_≡_, refl, sym, _∙_, ap₂}
+use mathlib.Core.Path.{_≡_, refl, sym, _∙_, ap, ap₂}
 use mathlib.Core.Bool.{Bool, true, false}
-use mathlib.Core.List.{List}
+use mathlib.Core.List.{List, _++_}
 use Prim.Native.Nat.{ℕ, zero, suc, _+_, _*_, _<_, _≤_}
 use native.Mathlib.Decide.{decLt}
 use native.Mathlib.Nat.{mul-le-mul-right}
+use native.Mathlib.Numerals.{add-one}
 use native.Mathlib.Omega.{arith}
 use lib.IntN.{ℤ, pos}
 use lib.ListN.{length, getD}
 use Rattle.integers.specs.Words.{i32At, withI32}
-use Rattle.integers.proofs.words.Laws.{Bytes, written-length, written-before, written-after, read-before, read-written, written-read}
+use Rattle.integers.proofs.words.Laws.{Bytes, written-length, written-before, written-after, written-append, read-before, read-written, written-read}
 use Rattle.monomials.specs.Points.{bytesAt, samePoint}
 use Rattle.monomials.specs.Lists.{table}
 use Rattle.monomials.specs.Rows.{Row}
@@ -46,6 +47,17 @@ module _ (s : List ℕ) (at : ℕ) (x : Triple) where
   triple-after j h =
       written-after two (at + 8) (x .r) j (omega arith) ∙ written-after one (at + 4) (x .q) j (omega arith)
       ∙ written-after s at (x .p) j (omega arith)
+
+  pub triple-append : (l : List ℕ) → at + 12 ≤ length s → withTriple (s ++ l) at x ≡ withTriple s at x ++ l
+  unfolding withTriple
+  triple-append l h =
+      let l₁ = written-length s at (x .p) in
+      let l₂ = written-length one (at + 4) (x .q) ∙ l₁ in
+      rw (
+        written-append s at (x .p) l (omega arith),
+        written-append one (at + 4) (x .q) l (omega arith),
+        written-append two (at + 8) (x .r) l (omega arith),
+      )
 
   pub triple-reads : at + 12 ≤ length s → Narrow x → wordsAt (withTriple s at x) at ≡ x
   unfolding withTriple wordsAt
@@ -85,6 +97,14 @@ module _ (weights : ℕ → Weights) (s : List ℕ) (n k : ℕ) where
   abbrev next : ℕ → Triple
   next i = tripleFor (weights i)
 
+  pub all-none : so 0 ≡ s
+  unfolding withRows
+  all-none = refl
+
+  pub all-more : (i : ℕ) → so (i + 1) ≡ withWeights (so i) n k i (weights i)
+  unfolding withRows
+  all-more i = rw add-one
+
   pub all-length : (i : ℕ) → length (so i) ≡ length s
   unfolding withRows withWeights
   all-length zero = refl
@@ -102,6 +122,14 @@ module _ (weights : ℕ → Weights) (s : List ℕ) (n k : ℕ) where
   all-after zero j l h = refl
   all-after (suc i) j l h =
       triple-after (so i) (tripleAt n k i) (next i) j (omega (arith, mul-le-mul-right 12 l)) ∙ all-after i j (omega arith) h
+
+  pub all-append : (l : List ℕ) (i : ℕ) → i ≤ k → proofLength n k ≤ length s
+      → withRows weights (s ++ l) n k i ≡ so i ++ l
+  unfolding withRows withWeights
+  all-append l zero h r = refl
+  all-append l (suc i) h r =
+      rw (all-append l i (omega arith) r)
+      (triple-append (so i) (tripleAt n k i) (next i) l (rw all-length (omega (arith, mul-le-mul-right 12 h))))
 
   -- each triple reads back
   pub all-read : (i j : ℕ) → j < i → i ≤ k → proofLength n k ≤ length s → ((j : ℕ) → j < k → Narrow (next j))
@@ -147,13 +175,15 @@ module _ (s : List ℕ) (n k : ℕ) where
   abbrev lone : ℕ → Bool
   lone i = samePoint (vOf s n i) (wOf s n i)
 
-  -- a sheet whose weights are all written back as they were is the same sheet
-  pub sheet-again : Bytes s
-      → ((i : ℕ) → i < k → lone i ≡ true → (tripleOf s n k i .q ≡ pos 0) × (tripleOf s n k i .r ≡ pos 0))
-      → withRows (λ i. rowOf s n k i .weights) s n k k ≡ s
-  unfolding rowOf
-  sheet-again b h =
-      all-again (λ i. rowOf s n k i .weights) s n k k b (λ i l. lone-again (lone i) (tripleOf s n k i) (h i l))
+  -- a row's weights are written as they were, and a sheet whose rows all are is the same sheet
+  module _ (unused : (i : ℕ) → i < k → lone i ≡ true → (tripleOf s n k i .q ≡ pos 0) × (tripleOf s n k i .r ≡ pos 0)) where
+    pub row-again : (i : ℕ) → i < k → tripleFor (rowOf s n k i .weights) ≡ tripleOf s n k i
+    unfolding rowOf
+    row-again i l = lone-again (lone i) (tripleOf s n k i) (unused i l)
+
+    pub sheet-again : (weights : ℕ → Weights) → Bytes s → ((i : ℕ) → i < k → weights i ≡ rowOf s n k i .weights)
+        → withRows weights s n k k ≡ s
+    sheet-again weights b same = all-again weights s n k k b (λ i l. ap tripleFor (same i l) ∙ row-again i l)
 
   -- what is written reads back as the same rows with those weights
   module _ (weights : ℕ → Weights) (room : ProofRoom s n k) (narrow : (i : ℕ) → i < k → Narrow (tripleFor (weights i)))

@@ -1,4 +1,4 @@
-use Rattle.checks.proofs.well_formed.Laws.{claim-room}
+use Rattle.checks.proofs.WellFormed.{claim-room}
 use Rattle.sharing.proofs.targets.Laws.{key-tested}
 use borrow.Author.Needs.{needs}
 use Rattle.sharing.proofs.targets.has_key.Statement.{statement}

@@ -1,5 +1,5 @@
 use mir.Facts.{toZ-ofZ}
-use Rattle.checks.proofs.well_formed.Laws.{claim-room}
+use Rattle.checks.proofs.WellFormed.{claim-room}
 use Rattle.sharing.proofs.targets.Laws.{lowered-none, found-inside, found-within, lowered-found, back-small}
 use borrow.Author.Needs.{needs}
 use Rattle.sharing.proofs.targets.lowered_at.Statement.{statement}

@@ -14,7 +14,7 @@ use Rattle.monomials.specs.Points.{samePoint, risesTo, hasMidpoint, exponentsWi
 use Rattle.monomials.specs.Decomposition.{Placed}
 use Rattle.monomials.proofs.Lists.{all-table}
 use Rattle.monomials.proofs.points.Laws.{same-eq, rises-self, rises-trans}
-use Rattle.checks.specs.Answers.{says, Passes}
+use Rattle.checks.specs.Answers.{Passes}
 use Rattle.checks.specs.Bounds.{greatestExponent, greatestWeight, greatestRows, greatestScale}
 use Rattle.sheets.specs.Layout.{variables, termCount, rowCount, proofLength, ClaimRoom, ProofRoom}
 use Rattle.sheets.specs.ClaimSheet.{floorOf, termPoint, coefficientOf}
@@ -22,13 +22,11 @@ use Rattle.checks.specs.ClaimChecks as C
 use Rattle.sheets.specs.ProofSheet.{scaleOf, vOf, wOf, tripleOf, rowOf, rowsOf}
 use Rattle.checks.specs.ProofChecks as P
 use Rattle.checks.specs.WellFormed.{sheetsAnswer, WellFormed, ClaimFacts, Within, ProofFacts}
-use Rattle.checks.specs.declared.answers.Sheet.{Sheet}
-use Rattle.checks.specs.declared.answers.Verdict.{Verdict}
-use Rattle.checks.specs.declared.answers.Verdict.the-variants.{Accepted, Refused}
+use Rattle.sheets.specs.declared.proof_sheet.Triple.{Triple}
 use Rattle.checks.specs.declared.claim_checks.TermRule.the-variants as T
 use Rattle.checks.specs.declared.proof_checks.RowRule.the-variants as R
-use Rattle.checks.proofs.answers.Laws.{passes-if, passes-at, passes-then, passed, then-passed, then-refused}
-use Rattle.checks.proofs.bounds.Laws.{within-bound}
+use Rattle.checks.proofs.answers.Laws.{passes-if, passes-at, passes-then, then-passes}
+use Rattle.checks.proofs.bounds.Laws.{within-bound, bound-within}
 use Rattle.checks.proofs.searches.Laws.{first-nothing}
 use Rattle.sheets.proofs.proof_sheet.Laws.{row-placed, rows-table}
 use Rattle.checks.proofs.claim_checks.Laws.{header-counts}
@@ -45,6 +43,20 @@ nand false b h e = absurd (true≢false (sym e))
 
 positive : (m : ℕ) → eqb m 0 ≡ false → 1 ≤ m
 positive m h = let z = eqb-false m 0 h in omega arith
+
+-- three weights, none of which is beyond a limit
+module _ (limit : ℕ) (x : Triple) where
+  pub none-beyond : P.anyBeyond limit x ≡ false → Within limit x
+  unfolding P.anyBeyond
+  none-beyond h =
+      let y = nor _ _ h in
+      let z = nor _ _ (y .0) in
+      record { p-within = within-bound _ _ (z .0); q-within = within-bound _ _ (z .1); r-within = within-bound _ _ (y .1) }
+
+  pub within-none : Within limit x → P.anyBeyond limit x ≡ false
+  unfolding P.anyBeyond
+  within-none w =
+      rw (bound-within limit (x .p) (w .p-within), bound-within limit (x .q) (w .q-within), bound-within limit (x .r) (w .r-within))
 
 -- ---- the claim
 
@@ -111,11 +123,8 @@ module _ (s : List ℕ) (n k i : ℕ) where
       (abs-zero _ (eqb-true _ _ (not-false _ (z .0))), abs-zero _ (eqb-true _ _ (not-false _ (z .1))))
 
   weights-fact : P.breaks (R.Weight greatestWeight) s n k i ≡ false → Within greatestWeight (tripleOf s n k i)
-  unfolding P.breaks P.anyBeyond
-  weights-fact h =
-      let y = nor _ _ h in
-      let z = nor _ _ (y .0) in
-      record { p-within = within-bound _ _ (z .0); q-within = within-bound _ _ (z .1); r-within = within-bound _ _ (y .1) }
+  unfolding P.breaks
+  weights-fact h = none-beyond greatestWeight _ h
 
 -- a proof of n variables and k rows that passes 8 to 10
 pub record Header (s : List ℕ) (n k : ℕ) : Type 0 where
@@ -126,9 +135,9 @@ pub record Header (s : List ℕ) (n k : ℕ) : Type 0 where
   pub scale : scaleOf s ≤ greatestScale
   pub sized : length s ≡ proofLength n k
 
-header : (n : ℕ) (s : List ℕ) → Passes (P.headerAnswer n s) → Header s n (rowCount s)
+pub header-facts : (n : ℕ) (s : List ℕ) → Passes (P.headerAnswer n s) → Header s n (rowCount s)
 unfolding P.headerAnswer P.headerRight
-header n s h =
+header-facts n s h =
     let p₈ = passes-if _ 8 _ h in
     let p₉ = passes-if _ 9 _ (p₈ .1) in
     let p₁₀ = passes-if _ 10 _ (p₉ .1) in
@@ -153,7 +162,7 @@ proof-facts n s g h =
     let p₁₃ = passes-at _ 13 _ (p₁₂ .1) in
     let p₁₄ = passes-at _ 14 _ (p₁₃ .1) in
     let p₁₅ = passes-at _ 15 _ (p₁₄ .1) in
-    let a = header n s g in
+    let a = header-facts n s g in
     record {
       same = a .same;
       rows = a .rows;
@@ -169,14 +178,31 @@ proof-facts n s g h =
 
 -- ---- both
 
-module _ (c s : List ℕ) (f : WellFormed c s) where
-  pub claim-formed : ClaimFacts c (variables c) (termCount c)
+module _ (c s : List ℕ) where
+  -- the parts that are passed
+  pub formed : Passes (C.claimAnswer c) → Passes (P.headerAnswer (variables c) s)
+      → Passes (P.rowsAnswer s (variables c) (rowCount s)) → WellFormed c s
   unfolding sheetsAnswer
-  claim-formed = claim-facts c (passes-then _ _ f .0)
+  formed a b d = then-passes _ _ a (then-passes _ _ b d)
 
-  pub proof-formed : ProofFacts s (variables c) (rowCount s)
-  unfolding sheetsAnswer
-  proof-formed = let g = passes-then _ _ (passes-then _ _ f .1) in proof-facts (variables c) s (g .0) (g .1)
+  module _ (f : WellFormed c s) where
+    pub formed-claim : Passes (C.claimAnswer c)
+    unfolding sheetsAnswer
+    formed-claim = passes-then _ _ f .0
+
+    pub formed-header : Passes (P.headerAnswer (variables c) s)
+    unfolding sheetsAnswer
+    formed-header = passes-then _ _ (passes-then _ _ f .1) .0
+
+    pub formed-rows : Passes (P.rowsAnswer s (variables c) (rowCount s))
+    unfolding sheetsAnswer
+    formed-rows = passes-then _ _ (passes-then _ _ f .1) .1
+
+    pub claim-formed : ClaimFacts c (variables c) (termCount c)
+    claim-formed = claim-facts c formed-claim
+
+    pub proof-formed : ProofFacts s (variables c) (rowCount s)
+    proof-formed = proof-facts (variables c) s formed-header formed-rows
 
 -- ---- room to read them, and what they are as formal sums and rows
 
@@ -210,39 +236,3 @@ pub rows-placed : (s : List ℕ) (n : ℕ) → ProofFacts s n (rowCount s) → A
 rows-placed s n f =
     rw (← (rows-table s n (rowCount s) (sym (f .same)) refl))
     (all-table (rowOf s n (rowCount s)) (Placed n) (rowCount s) (λ i l. row-placed s n (rowCount s) i (f .whole i l)))
-
--- ---- the ways through check_sheets: v and u are the verdicts on the claim and on the proof's header
-
-module _ (c s : List ℕ) (v : Verdict) (e : says v ≡ C.claimAnswer c) where
-  pub sheets-claim : (x : Sheet) → v ≡ Refused x → says v ≡ sheetsAnswer c s
-  unfolding sheetsAnswer
-  sheets-claim x h = then-refused v _ e x _ h
-
-  module _ (j : ℕ) (h : v ≡ Accepted j) where
-    claim-passed : ClaimFacts c (variables c) (termCount c)
-    claim-passed = claim-facts c (passed v _ e j h)
-
-    pub claim-long : 8 ≤ length c
-    claim-long = omega (arith, claim-passed .sized)
-
-    module _ (n : ℕ) (en : n ≡ variables c) (u : Verdict) (eu : says u ≡ P.headerAnswer n s) where
-      pub sheets-header : (x : Sheet) → u ≡ Refused x → says u ≡ sheetsAnswer c s
-      unfolding sheetsAnswer
-      sheets-header x g = then-passed v _ e j h u _ (then-refused u _ (rw en at eu) x _ g)
-
-      module _ (i : ℕ) (g : u ≡ Accepted i) where
-        header-passed : Header s n (rowCount s)
-        header-passed = header n s (passed u _ eu i g)
-
-        pub proof-long : 8 ≤ length s
-        proof-long = header-passed .long
-
-        module _ (k : ℕ) (ek : k ≡ rowCount s) where
-          pub rows-room : ProofRoom s n k
-          rows-room =
-              let a = header-passed in
-              rw ek (record { few = rw en (claim-passed .few); rows = a .rows; long = omega (arith, a .sized) })
-
-          pub sheets-rows : (r : Verdict) → says r ≡ P.rowsAnswer s n k → says r ≡ sheetsAnswer c s
-          unfolding sheetsAnswer
-          sheets-rows r er = then-passed v _ e j h r _ (then-passed u _ (rw en at eu) i g r _ (rw (en, ek) at er))

@@ -1,0 +1,52 @@
+use mir.Facts.{toZ-ofZ}
+use Rattle.judging.proofs.check.Laws.{check-decides, check-floors, refused-output, refused-keeps, accepted-claim, accepted-proof, accepted-room, accepted-here, within-here, accepted-output, accepted-keeps}
+use borrow.Author.Needs.{needs}
+use Rattle.judging.proofs.check.check.Statement.{statement}
+use Rattle.judging.proofs.check.check.Tie as tie
+use Rattle.judging.proofs.check.check.Reads as reads
+use Rattle.judging.proofs.check.check.Lts as lts
+use Rattle.judging.proofs.check.decide.Reads as decide-reads
+use Rattle.judging.proofs.exact.write_exact.Reads as write-exact-reads
+use Rattle.sheets.proofs.claim_sheet.floor.Reads as floor-reads
+use Rattle.sheets.proofs.proof_sheet.scale.Reads as scale-reads
+
+decide-requires : tie.Need-decide-requires
+decide-requires c κs = search needs
+
+enum-told : tie.Need-enum-told
+enum-told c = search needs
+
+enum-told-2 : tie.Need-enum-told-2
+enum-told-2 c = search needs
+
+returns : tie.Need-returns
+returns c = (search needs, (search refused-output, (search check-decides, (search check-floors, search refused-keeps))))
+
+floor-requires : tie.Need-floor-requires
+floor-requires c κs = search accepted-claim
+
+scale-requires : tie.Need-scale-requires
+scale-requires c κs = search accepted-proof
+
+write-exact-requires : tie.Need-write-exact-requires
+write-exact-requires c κs = (search (accepted-here, toZ-ofZ), search (within-here, toZ-ofZ), search accepted-room)
+
+same-length : tie.Need-same-length
+same-length c = search needs
+
+returns-2 : tie.Need-returns-2
+returns-2 c = (search needs, (search (accepted-output, toZ-ofZ), (search check-decides, (search check-floors, search (accepted-keeps, toZ-ofZ)))))
+
+pub check-spec : {M : Type 1} → statement M
+check-spec =
+    tie.close
+    (tie.spec
+    decide-requires
+    enum-told
+    enum-told-2
+    returns
+    floor-requires
+    scale-requires
+    write-exact-requires
+    same-length
+    returns-2)

@@ -1,0 +1,48 @@
+use borrow.Author.Needs.{needs}
+use mir.Facts.{toZ-ofZ}
+use Rattle.judging.proofs.check.Laws.{decided-input, claim-long, proof-long, own-here, decided-weighed}
+use Rattle.judging.proofs.check.decide.Statement.{statement}
+use Rattle.judging.proofs.check.decide.Tie as tie
+use Rattle.judging.proofs.check.decide.Reads as reads
+use Rattle.judging.proofs.check.decide.Lts as lts
+use Rattle.judging.proofs.check.weigh.Reads as weigh-reads
+use Rattle.judging.proofs.input.check_input.Reads as check-input-reads
+use Rattle.sheets.proofs.claim_sheet.floor.Reads as floor-reads
+use Rattle.sheets.proofs.proof_sheet.scale.Reads as scale-reads
+
+check-input-requires : tie.Need-check-input-requires
+check-input-requires c κs = search needs
+
+enum-told : tie.Need-enum-told
+enum-told c = search needs
+
+enum-told-2 : tie.Need-enum-told-2
+enum-told-2 c = search needs
+
+returns : tie.Need-returns
+returns c = search decided-input
+
+floor-requires : tie.Need-floor-requires
+floor-requires c κs = search claim-long
+
+scale-requires : tie.Need-scale-requires
+scale-requires c κs = search proof-long
+
+weigh-requires : tie.Need-weigh-requires
+weigh-requires c κs = search (own-here, toZ-ofZ)
+
+returns-2 : tie.Need-returns-2
+returns-2 c = search (decided-weighed, toZ-ofZ)
+
+pub decide-spec : {M : Type 1} → statement M
+decide-spec =
+    tie.close
+    (tie.spec
+    check-input-requires
+    enum-told
+    enum-told-2
+    returns
+    floor-requires
+    scale-requires
+    weigh-requires
+    returns-2)

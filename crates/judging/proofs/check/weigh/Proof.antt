@@ -1,0 +1,32 @@
+use borrow.Author.Needs.{needs}
+use mir.Facts.{toZ-ofZ}
+use Rattle.judging.proofs.check.Laws.{weighed-unheld, weighed-judged}
+use Rattle.judging.proofs.check.weigh.Statement.{statement}
+use Rattle.judging.proofs.check.weigh.Tie as tie
+use Rattle.judging.proofs.check.weigh.Reads as reads
+use Rattle.judging.proofs.check.weigh.Lts as lts
+use Rattle.judging.proofs.judgements.check_judged.Reads as check-judged-reads
+use Rattle.judging.proofs.unheld.first_unheld.Reads as first-unheld-reads
+
+first-unheld-requires : tie.Need-first-unheld-requires
+first-unheld-requires c κs = search (needs, toZ-ofZ)
+
+enum-known-i : tie.Need-enum-known-i
+enum-known-i c = search needs
+
+returns : tie.Need-returns
+returns c = search (weighed-unheld, toZ-ofZ)
+
+enum-told : tie.Need-enum-told
+enum-told c = search needs
+
+check-judged-requires : tie.Need-check-judged-requires
+check-judged-requires c κs = search (needs, toZ-ofZ)
+
+returns-2 : tie.Need-returns-2
+returns-2 c = search (weighed-judged, toZ-ofZ)
+
+pub weigh-spec : {M : Type 1} → statement M
+weigh-spec =
+    tie.close
+    (tie.spec first-unheld-requires enum-known-i returns enum-told check-judged-requires returns-2)

@@ -1,0 +1,93 @@
+-- Laws of the exact proof: the ways through writing it, and a proof whose weights add up is written as it stands.
+use mathlib.Core.Path.{_≡_, refl, sym, _∙_, ap}
+use mathlib.Core.List.{List, _++_}
+use Prim.Native.Nat.{ℕ, _+_, _*_, _^_, _≤_, _<_}
+use native.Mathlib.Omega.{arith}
+use lib.Dec.{lit<}
+use lib.IntN.{ℤ}
+use lib.ListN.{length, take, drop, length-append}
+use lib.Seq.{take-length}
+use mir.Syntax.{w32}
+use mir.Val.{SFits}
+use Rattle.integers.proofs.Integers.{fits-within}
+use Rattle.monomials.specs.declared.rows.Weights.{Weights}
+use Rattle.sheets.specs.Layout.{variables, rowCount, ProofRoom}
+use Rattle.sheets.specs.ProofSheet.{tripleFor, byValue, Narrow, withWeights, withRows}
+use Rattle.sheets.specs.declared.proof_sheet.Row.{Row}
+use Rattle.sheets.specs.declared.proof_sheet.Triple.{Triple}
+use Rattle.sheets.proofs.proof_sheet.Laws.{value-weights}
+use Rattle.sheets.proofs.proof_sheet.Writing.{all-none, all-more, all-length, all-append}
+use Rattle.checks.specs.Bounds.{greatestWeight}
+use Rattle.checks.specs.WellFormed.{Within}
+use Rattle.sharing.specs.Targets.{targetOf}
+use Rattle.sharing.specs.Shifts.{shiftedRow, CheckedSheets}
+use Rattle.judging.specs.Exact.{weightsFor, exactProof, AllWithin}
+
+within-narrow : (x : Triple) → Within greatestWeight x → Narrow x
+within-narrow x w = record {
+  p-fits = fits-within (x .p) greatestWeight (w .p-within) (lit< tt);
+  q-fits = fits-within (x .q) greatestWeight (w .q-within) (lit< tt);
+  r-fits = fits-within (x .r) greatestWeight (w .r-within) (lit< tt);
+}
+
+-- ---- write_rows: n and k are what the proof says, b′ is the floor as the machine reads it back, out₀ the bytes before
+
+module _ (c s : List ℕ) (b : ℤ) (S : ℕ) (given : CheckedSheets c s b S) (n k : ℕ) (en : n ≡ variables s)
+    (ek : k ≡ rowCount s) where
+  proof-length : length s ≡ 8 + k * (2 * n + 12)
+  proof-length = rw (en, ek) (given .proof .sized)
+
+  module _ (b′ : ℤ) (eb : b′ ≡ b) (out₀ out : List ℕ) (i : ℕ)
+      (e : out ≡ withRows (weightsFor (targetOf c b′ S) s) out₀ n k i) where
+    pub room-kept : length s ≤ length out₀ → ProofRoom out n k
+    room-kept l = record {
+      few = rw (en, given .same) (given .claim .few);
+      rows = rw ek (given .proof .rows);
+      long = rw (e, all-length (weightsFor (targetOf c b′ S) s) out₀ n k i) (omega (arith, proof-length, l));
+    }
+
+    pub length-kept : length out ≡ length out₀
+    length-kept = rw e (all-length (weightsFor (targetOf c b′ S) s) out₀ n k i)
+
+    module _ (row : Row) (a : Weights) (b″ : ℤ) (er : row ≡ byValue (shiftedRow (targetOf c b″ S) s i)) (ea : a ≡ row .weights)
+        (eb″ : b″ ≡ b) where
+      weights-are : a ≡ weightsFor (targetOf c b′ S) s i
+      unfolding weightsFor
+      weights-are = ea ∙ value-weights _ row er ∙ rw (eb″, eb)
+
+      pub weights-narrow : AllWithin greatestWeight (targetOf c b S) s → i < k → Narrow (tripleFor a)
+      weights-narrow w l =
+          rw (weights-are, eb) (within-narrow _ (w .within i (rw ek at l)))
+
+    pub rows-written : k ≤ i → i ≤ k
+        → out ≡ withRows (weightsFor (targetOf c b S) s) out₀ (variables s) (rowCount s) (rowCount s)
+    rows-written l m = let q : i ≡ k = omega arith in e ∙ rw (q, eb, en, ek)
+
+pub row-written : (c s : List ℕ) (b′ b″ : ℤ) (S n k i : ℕ) (out₀ out out′ : List ℕ) (row : Row) (a : Weights)
+    → out′ ≡ withWeights out n k i a → out ≡ withRows (weightsFor (targetOf c b′ S) s) out₀ n k i
+    → row ≡ byValue (shiftedRow (targetOf c b″ S) s i) → a ≡ row .weights → b″ ≡ b′
+    → out′ ≡ withRows (weightsFor (targetOf c b′ S) s) out₀ n k (i + 1)
+unfolding weightsFor
+row-written c s b′ b″ S n k i out₀ out out′ row a eo e er ea eb =
+    eo ∙ rw (e, ea, value-weights _ row er, eb) (sym (all-more (weightsFor (targetOf c b′ S) s) out₀ n k i))
+
+pub rows-none : (weights : ℕ → Weights) (out : List ℕ) (n k : ℕ) → out ≡ withRows weights out n k 0
+rows-none weights out n k = sym (all-none weights out n k)
+
+-- ---- write_exact: o is the output with the proof copied into it
+
+module _ (c s out o : List ℕ) (b : ℤ) (S : ℕ) (e : o ≡ take (length s) s ++ drop (length s) out) where
+  copied : o ≡ s ++ drop (length s) out
+  copied = e ∙ rw (take-length s)
+
+  pub copied-room : length s ≤ length o
+  copied-room = rw (copied, length-append s (drop (length s) out)) (omega arith)
+
+  pub exact-written : (o′ : List ℕ) (b′ : ℤ) → CheckedSheets c s b S
+      → o′ ≡ withRows (weightsFor (targetOf c b′ S) s) o (variables s) (rowCount s) (rowCount s) → b′ ≡ b
+      → o′ ≡ exactProof (targetOf c b S) s ++ drop (length s) out
+  unfolding exactProof
+  exact-written o′ b′ given eo eb =
+      eo ∙ rw (copied, eb)
+      (all-append (weightsFor (targetOf c b S) s) s (variables s) (rowCount s) (drop (length s) out) (rowCount s) (omega arith)
+      (omega (arith, given .proof .sized)))

@@ -1,0 +1,24 @@
+use mir.Facts.{toZ-ofZ}
+use Rattle.judging.proofs.exact.Laws.{copied-room, exact-written}
+use borrow.Author.Needs.{needs}
+use Rattle.judging.proofs.exact.write_exact.Statement.{statement}
+use Rattle.judging.proofs.exact.write_exact.Tie as tie
+use Rattle.judging.proofs.exact.write_exact.Reads as reads
+use Rattle.judging.proofs.exact.write_exact.Lts as lts
+use Rattle.bytes.proofs.copy.Reads as copy-reads
+use Rattle.judging.proofs.exact.write_rows.Reads as write-rows-reads
+
+copy-requires : tie.Need-copy-requires
+copy-requires c κs = search needs
+
+write-rows-requires : tie.Need-write-rows-requires
+write-rows-requires c κs = (search (needs, toZ-ofZ), search (needs, toZ-ofZ), search copied-room)
+
+same-length : tie.Need-same-length
+same-length c = search needs
+
+returns : tie.Need-returns
+returns c = search (exact-written, toZ-ofZ)
+
+pub write-exact-spec : {M : Type 1} → statement M
+write-exact-spec = tie.close (tie.spec copy-requires write-rows-requires same-length returns)

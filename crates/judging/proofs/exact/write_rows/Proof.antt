@@ -1,0 +1,71 @@
+use borrow.Author.Needs.{needs}
+use Prim.Native.Nat.{_≤_, _-_}
+use mathlib.Core.Path.{_≡_}
+use mir.Facts.{toZ-ofZ}
+use mir.Syntax.{w64}
+use mir.Val.{toZ}
+use Rattle.sheets.specs.ProofSheet.{withRows}
+use Rattle.sharing.specs.Targets.{targetOf}
+use Rattle.judging.specs.Exact.{weightsFor}
+use Rattle.judging.proofs.exact.Laws.{room-kept, length-kept, weights-narrow, row-written, rows-written, rows-none}
+use Rattle.judging.proofs.exact.write_rows.Statement.{statement}
+use Rattle.judging.proofs.exact.write_rows.Tie as tie
+use Rattle.judging.proofs.exact.write_rows.Reads as reads
+use Rattle.judging.proofs.exact.write_rows.Lts as lts
+use Rattle.sharing.proofs.shifts.shifted_row.Reads as shifted-row-reads
+use Rattle.sheets.proofs.layout.variables.Reads as variables-reads
+use Rattle.sheets.proofs.proof_sheet.row_count.Reads as row-count-reads
+use Rattle.sheets.proofs.proof_sheet.write_weights.Reads as write-weights-reads
+
+abbrev Inv-loop : tie.InvT-loop
+Inv-loop claim proof floor scale out₀ n k i₀ out i = (i ≤ k) × (out ≡ withRows (weightsFor (targetOf claim (toZ w64 floor) scale) proof) out₀ n k i)
+
+abbrev μ-loop : tie.MeasureT-loop
+μ-loop claim proof floor scale out₀ n k i₀ out i = k - i
+
+variables-requires : tie.Need-variables-requires Inv-loop μ-loop
+variables-requires c κs = search needs
+
+row-count-requires : tie.Need-row-count-requires Inv-loop μ-loop
+row-count-requires c κs = search needs
+
+loop-holds : tie.Need-loop-holds Inv-loop μ-loop
+loop-holds c = (search needs, search rows-none)
+
+shifted-row-requires : tie.Need-shifted-row-requires Inv-loop μ-loop
+shifted-row-requires c κs = search (needs, toZ-ofZ)
+
+write-weights-requires : tie.Need-write-weights-requires Inv-loop μ-loop
+write-weights-requires c κs = (search (room-kept, toZ-ofZ), search needs, search (weights-narrow, toZ-ofZ))
+
+add-i : tie.Need-add-i Inv-loop μ-loop
+add-i c = search needs
+
+loop-less : tie.Need-loop-less Inv-loop μ-loop
+loop-less c = search needs
+
+loop-again : tie.Need-loop-again Inv-loop μ-loop
+loop-again c = (search needs, search (row-written, toZ-ofZ))
+
+same-length : tie.Need-same-length Inv-loop μ-loop
+same-length c = search (length-kept, toZ-ofZ)
+
+returns : tie.Need-returns Inv-loop μ-loop
+returns c = search (rows-written, toZ-ofZ)
+
+pub write-rows-spec : {M : Type 1} → statement M
+write-rows-spec =
+    tie.close
+    (tie.spec
+    Inv-loop
+    μ-loop
+    variables-requires
+    row-count-requires
+    loop-holds
+    shifted-row-requires
+    write-weights-requires
+    add-i
+    loop-less
+    loop-again
+    same-length
+    returns)

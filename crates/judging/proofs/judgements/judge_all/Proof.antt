@@ -1,0 +1,58 @@
+use borrow.Author.Needs.{needs}
+use Prim.Native.Nat.{_≤_, _-_}
+use mathlib.Core.Path.{_≡_}
+use mir.Facts.{toZ-ofZ}
+use mir.Syntax.{w64}
+use mir.Val.{toZ}
+use Rattle.checks.specs.Bounds.{greatestWeight}
+use Rattle.sharing.specs.Targets.{targetOf}
+use Rattle.sharing.specs.Shifts.{shiftedRow}
+use Rattle.judging.specs.Judgements.{firstsTo}
+use Rattle.judging.proofs.judgements.Laws.{firsts-none, firsts-on, firsts-end}
+use Rattle.judging.proofs.judgements.judge_all.Statement.{statement}
+use Rattle.judging.proofs.judgements.judge_all.Tie as tie
+use Rattle.judging.proofs.judgements.judge_all.Reads as reads
+use Rattle.judging.proofs.judgements.judge_all.Lts as lts
+use Rattle.judging.proofs.judgements.judged_number.Reads as judged-number-reads
+use Rattle.judging.proofs.judgements.note.Reads as note-reads
+
+abbrev Inv-loop : tie.InvT-loop
+Inv-loop claim proof floor scale k f₀ i₀ f i = (i ≤ k) × (f ≡ firstsTo greatestWeight (shiftedRow (targetOf claim (toZ w64 floor) scale) proof) i)
+
+abbrev μ-loop : tie.MeasureT-loop
+μ-loop claim proof floor scale k f₀ i₀ f i = k - i
+
+loop-holds : tie.Need-loop-holds Inv-loop μ-loop
+loop-holds c = search (needs, firsts-none)
+
+judged-number-requires : tie.Need-judged-number-requires Inv-loop μ-loop
+judged-number-requires c κs = search (needs, toZ-ofZ)
+
+note-requires : tie.Need-note-requires Inv-loop μ-loop
+note-requires c κs = search needs
+
+add-i : tie.Need-add-i Inv-loop μ-loop
+add-i c = search needs
+
+loop-less : tie.Need-loop-less Inv-loop μ-loop
+loop-less c = search needs
+
+loop-again : tie.Need-loop-again Inv-loop μ-loop
+loop-again c = search (needs, firsts-on, toZ-ofZ)
+
+returns : tie.Need-returns Inv-loop μ-loop
+returns c = search (firsts-end, toZ-ofZ)
+
+pub judge-all-spec : {M : Type 1} → statement M
+judge-all-spec =
+    tie.close
+    (tie.spec
+    Inv-loop
+    μ-loop
+    loop-holds
+    judged-number-requires
+    note-requires
+    add-i
+    loop-less
+    loop-again
+    returns)

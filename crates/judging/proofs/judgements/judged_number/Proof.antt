@@ -1,0 +1,26 @@
+use mir.Facts.{toZ-ofZ}
+use Rattle.judging.proofs.judgements.Laws.{judged-number}
+use borrow.Author.Needs.{needs}
+use Rattle.judging.proofs.judgements.judged_number.Statement.{statement}
+use Rattle.judging.proofs.judgements.judged_number.Tie as tie
+use Rattle.judging.proofs.judgements.judged_number.Reads as reads
+use Rattle.judging.proofs.judgements.judged_number.Lts as lts
+use Rattle.judging.proofs.judgements.judge.Reads as judge-reads
+use Rattle.judging.proofs.judgements.number_of.Reads as number-of-reads
+use Rattle.sharing.proofs.shifts.shifted_row.Reads as shifted-row-reads
+
+shifted-row-requires : tie.Need-shifted-row-requires
+shifted-row-requires c κs = search needs
+
+judge-requires : tie.Need-judge-requires
+judge-requires c κs = search needs
+
+number-of-requires : tie.Need-number-of-requires
+number-of-requires c κs = search needs
+
+returns : tie.Need-returns
+returns c = search (judged-number, toZ-ofZ)
+
+pub judged-number-spec : {M : Type 1} → statement M
+judged-number-spec =
+    tie.close (tie.spec shifted-row-requires judge-requires number-of-requires returns)

@@ -1,0 +1,37 @@
+-- The whole check: its verdict, and the output.
+use mathlib.Core.Bool.{cond}
+use mathlib.Core.List.{List, _++_}
+use Prim.Native.Nat.{ℕ}
+use lib.IntN.{ℤ}
+use lib.ListN.{length, drop}
+use Rattle.monomials.specs.Points.{Exponents}
+use Rattle.sheets.specs.Layout.{rowCount}
+use Rattle.sheets.specs.ClaimSheet.{floorOf}
+use Rattle.sheets.specs.ProofSheet.{scaleOf}
+use Rattle.checks.specs.Answers.{Answer, andThen, blameless}
+use Rattle.checks.specs.Bounds.{greatestWeight}
+use Rattle.sharing.specs.Targets.{targetOf}
+use Rattle.sharing.specs.Shifts.{shiftedRow}
+use Rattle.judging.specs.Input.{inputAnswer}
+use Rattle.judging.specs.Unheld.{unheldAnswer}
+use Rattle.judging.specs.Judgements.{firstsTo, judgedAnswer}
+use Rattle.judging.specs.Exact.{exactProof}
+
+-- 16 to 19; τ gives each point's target
+unfoldable pub weighedAnswer : (Exponents → ℤ) → List ℕ → List ℕ → Answer
+weighedAnswer τ c s =
+    andThen (unheldAnswer τ c s) (judgedAnswer (firstsTo greatestWeight (shiftedRow τ s) (rowCount s)) (rowCount s))
+
+-- the targets with the claim's floor and the proof's scale
+unfoldable pub targetsOf : List ℕ → List ℕ → Exponents → ℤ
+targetsOf c s = targetOf c (floorOf c) (scaleOf s)
+
+-- 1 to 19; the room is the output's length
+unfoldable pub checkAnswer : List ℕ → List ℕ → ℕ → Answer
+checkAnswer c s room = andThen (inputAnswer c s room) (weighedAnswer (targetsOf c s) c s)
+
+-- "On acceptance the first bytes of the output are the proof with its shifted weights; later bytes keep their values."
+-- "A refusal writes nothing."
+unfoldable pub outputOf : List ℕ → List ℕ → List ℕ → List ℕ
+outputOf c s out =
+    cond (blameless (checkAnswer c s (length out))) (exactProof (targetsOf c s) s ++ drop (length s) out) out

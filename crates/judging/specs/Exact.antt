@@ -1,0 +1,21 @@
+-- The exact proof: "the proof with its shifted weights".
+use mathlib.Core.List.{List}
+use Prim.Native.Nat.{ℕ, _<_}
+use lib.IntN.{ℤ}
+use Rattle.monomials.specs.Points.{Exponents}
+use Rattle.monomials.specs.declared.rows.Weights.{Weights}
+use Rattle.sheets.specs.Layout.{variables, rowCount}
+use Rattle.sheets.specs.ProofSheet.{tripleFor, withRows}
+use Rattle.checks.specs.WellFormed.{Within}
+use Rattle.sharing.specs.Shifts.{shiftedRow}
+
+-- the shifted weights of row i; τ gives each point's target
+unfoldable pub weightsFor : (Exponents → ℤ) → List ℕ → ℕ → Weights
+weightsFor τ s i = shiftedRow τ s i .weights
+
+unfoldable pub exactProof : (Exponents → ℤ) → List ℕ → List ℕ
+exactProof τ s = withRows (weightsFor τ s) s (variables s) (rowCount s) (rowCount s)
+
+-- "the weights, shifted by the published sharing rule, stay within" ± the limit
+pub record AllWithin (limit : ℕ) (τ : Exponents → ℤ) (s : List ℕ) : Type 0 where
+  pub within : (i : ℕ) → i < rowCount s → Within limit (tripleFor (weightsFor τ s i))

@@ -1,0 +1,56 @@
+// The whole check: the verdict on a claim and its proof, and the exact proof in the output.
+use crate::exact::write_exact;
+use crate::input::check_input;
+use crate::judgements::check_judged;
+use crate::unheld::first_unheld;
+use checks::answers::Sheet;
+use checks::answers::Verdict;
+use checks::searches::Found;
+use sheets::claim_sheet::floor;
+use sheets::proof_sheet::scale;
+ghost use mathlib.Core.Path.{_≡_};
+ghost use lib.ListN.{length};
+ghost use Rattle.checks.specs.Answers.{says};
+ghost use Rattle.sharing.specs.Targets.{targetOf};
+ghost use Rattle.sharing.specs.Shifts.{CheckedSheets};
+ghost use Rattle.judging.specs.Check.{weighedAnswer, checkAnswer, outputOf};
+ghost use Rattle.judging.specs.Promises.{Decides, Floors, Keeps};
+
+// The checks 16 to 19, for a floor and a scale.
+pub fn weigh(claim: &[u8], proof: &[u8], floor: i64, scale: u64) -> Verdict
+    requires { ⌜ CheckedSheets (now claim) (now proof) floor scale ⌝ }
+    ensures { λ r. ⌜ says r ≡ weighedAnswer (targetOf (now (claim .entry)) floor scale) (now (claim .entry)) (now (proof .entry)) ⌝ }
+{
+    if let Found::At(i) = first_unheld(claim, proof, floor, scale) {
+        return Verdict::Refused(Sheet::Proof(16, i));
+    }
+    check_judged(claim, proof, floor, scale)
+}
+
+// The verdict alone; the room is the output's length.
+fn decide(claim: &[u8], proof: &[u8], room: usize) -> Verdict
+    ensures { λ r. ⌜ says r ≡ checkAnswer (now (claim .entry)) (now (proof .entry)) room ⌝ }
+{
+    let formed = check_input(claim, proof, room);
+    let Verdict::Accepted(_) = formed else {
+        return formed;
+    };
+    weigh(claim, proof, floor(claim), scale(proof))
+}
+
+// Checks a claim and its proof. Where it is accepted the output's first bytes become the exact proof, and the later ones keep
+// their values; a refusal writes nothing.
+pub fn check(claim: &[u8], proof: &[u8], output: &mut [u8]) -> Verdict
+    ensures verdict { λ r. ⌜ says r ≡ checkAnswer (now (claim .entry)) (now (proof .entry)) (length (now (output .entry))) ⌝ }
+    ensures written { λ r. ⌜ now (output .exit) ≡ outputOf (now (claim .entry)) (now (proof .entry)) (now (output .entry)) ⌝ }
+    ensures decision { λ r. ⌜ Decides (now (claim .entry)) (now (proof .entry)) (now (output .entry)) r ⌝ }
+    ensures floors { λ r. ⌜ Floors (now (claim .entry)) r ⌝ }
+    ensures exact { λ r. ⌜ Keeps (now (claim .entry)) (now (proof .entry)) (now (output .entry)) r (now (output .exit)) ⌝ }
+{
+    let verdict = decide(claim, proof, output.len());
+    let Verdict::Accepted(_) = verdict else {
+        return verdict;
+    };
+    write_exact(claim, proof, floor(claim), scale(proof), output);
+    verdict
+}

@@ -1,0 +1,35 @@
+use Rattle.checks.proofs.WellFormed.{proof-room}
+use Rattle.sharing.proofs.slots.Laws.{key-first, key-second, key-middle, ends-fit}
+use borrow.Author.Needs.{needs}
+use Rattle.sharing.proofs.slots.holds_key.Statement.{statement}
+use Rattle.sharing.proofs.slots.holds_key.Tie as tie
+use Rattle.sharing.proofs.slots.holds_key.Reads as reads
+use Rattle.sharing.proofs.slots.holds_key.Lts as lts
+use Rattle.sheets.proofs.proof_sheet.v_key.Reads as v-key-reads
+use Rattle.sheets.proofs.proof_sheet.w_key.Reads as w-key-reads
+
+v-key-requires : tie.Need-v-key-requires
+v-key-requires c κs = search (needs, proof-room)
+
+w-key-requires : tie.Need-w-key-requires
+w-key-requires c κs = search (needs, proof-room)
+
+returns : tie.Need-returns
+returns c = search key-first
+
+returns-2 : tie.Need-returns-2
+returns-2 c = search key-second
+
+add-result : tie.Need-add-result
+add-result c = search ends-fit
+
+mul-result : tie.Need-mul-result
+mul-result c = search needs
+
+returns-3 : tie.Need-returns-3
+returns-3 c = search key-middle
+
+pub holds-key-spec : {M : Type 1} → statement M
+holds-key-spec =
+    tie.close
+    (tie.spec v-key-requires w-key-requires returns returns-2 add-result mul-result returns-3)
