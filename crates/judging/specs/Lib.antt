@@ -4,3 +4,4 @@ pub mod Judgements
 pub mod Exact
 pub mod Check
 pub mod Promises
+pub mod Cases

@@ -1,4 +1,3 @@
 pub mod Sharing
 pub mod Carried
 pub mod Rows
-pub mod Cases

@@ -3,4 +3,3 @@ pub mod Carried
 pub mod Targets
 pub mod Slots
 pub mod Shifts
-pub mod Cases

@@ -1,0 +1,136 @@
+-- Cases: document 01's worked sheets marked *, and the table's examples for 11 and 16 to 18.
+use mathlib.Core.Path.{_≡_}
+use mathlib.Core.List.{List, [], _∷_, _++_, map}
+use Prim.Native.Nat.{ℕ, _+_, _^_}
+use lib.IntN.{ℤ, pos, negsuc}
+use lib.ListN.{length, replicate}
+use Rattle.monomials.specs.Rows.{Row}
+use Rattle.monomials.specs.declared.rows.Weights.{Weights}
+use Rattle.monomials.specs.declared.rows.Weights.the-variants.{Pair, Lone}
+use Rattle.checks.specs.Answers.{Answer, accepted, refused}
+use Rattle.checks.specs.Cases.{claimOf, proofOf, squareWith, square, squareProof, oneRow}
+use Rattle.sharing.specs.Shifts.{shiftedRows}
+use Rattle.judging.specs.Check.{targetsOf, checkAnswer, outputOf}
+
+-- ---- sheets
+
+-- "t 0, k 0", with a floor
+unfoldable pub bare : ℤ → List ℕ
+bare b = claimOf 1 b [] []
+
+unfoldable pub noRows : List ℕ
+noRows = proofOf 1 (pos 1) 0 [] []
+
+-- "Motzkin (Example 20): points (0,0), (2,2), (2,4), (4,2), coefficients 1, −3, 1, 1, b 0"
+unfoldable pub motzkin : List ℕ
+motzkin =
+    claimOf 2 (pos 0) ((0 ∷ 0 ∷ []) ∷ (2 ∷ 2 ∷ []) ∷ (2 ∷ 4 ∷ []) ∷ (4 ∷ 2 ∷ []) ∷ [])
+    (pos 1 ∷ negsuc 2 ∷ pos 1 ∷ pos 1 ∷ [])
+
+-- "Rows (0,0)(2,4) with 1, 1, −2; (1,2)(3,2) with 2, 2, −4; (2,2)(4,2) with 1, 1, −2": with any first r
+unfoldable pub motzkinProof : ℤ → List ℕ
+motzkinProof r =
+    proofOf 2 (pos 1) 3
+    ((0 ∷ 0 ∷ []) ∷ (2 ∷ 4 ∷ []) ∷ (1 ∷ 2 ∷ []) ∷ (3 ∷ 2 ∷ []) ∷ (2 ∷ 2 ∷ []) ∷ (4 ∷ 2 ∷ []) ∷ [])
+    (pos 1 ∷ pos 1 ∷ r ∷ pos 2 ∷ pos 2 ∷ negsuc 3 ∷ pos 1 ∷ pos 1 ∷ negsuc 1 ∷ [])
+
+-- one term in one variable
+unfoldable pub oneTerm : ℕ → ℤ → List ℕ
+oneTerm e x = claimOf 1 (pos 0) ((e ∷ []) ∷ []) (x ∷ [])
+
+-- ---- the cases
+
+-- two sheets and an output; the weights that every row has after the shift, the answer, and the output afterwards
+pub record Case : Type 0 where
+  pub claim : List ℕ
+  pub proof : List ℕ
+  pub output : List ℕ
+  pub weights : List Weights
+  pub answer : Answer
+  pub written : List ℕ
+
+-- an output with two bytes more than a proof
+unfoldable pub spare : List ℕ → List ℕ
+spare s = replicate (length s + 2) 7
+
+-- accepted, with k and the exact proof
+unfoldable pub accepts : List ℕ → List ℕ → List Weights → ℕ → List ℕ → Case
+accepts c s weights k exact = record {
+  claim = c;
+  proof = s;
+  output = spare s;
+  weights = weights;
+  answer = accepted k;
+  written = exact ++ 7 ∷ 7 ∷ [];
+}
+
+-- refused, with number and index
+unfoldable pub refuses : List ℕ → List ℕ → List Weights → ℕ → ℕ → Case
+refuses c s weights number index = record {
+  claim = c;
+  proof = s;
+  output = spare s;
+  weights = weights;
+  answer = refused number index;
+  written = spare s;
+}
+
+unfoldable pub motzkinExact : List Weights
+motzkinExact = Pair (pos 1) (pos 1) (negsuc 1) ∷ Pair (pos 2) (pos 2) (negsuc 3) ∷ Pair (pos 1) (pos 1) (negsuc 1) ∷ []
+
+-- "The sheets marked * are put together as one list"
+unfoldable pub marked : List Case
+marked =
+    -- A: "Square is accepted"
+    accepts square squareProof (Pair (pos 1) (pos 1) (negsuc 1) ∷ []) 1 squareProof
+    -- B: "the target is −2 either way"
+    ∷ accepts (squareWith (pos 0) (pos 2)) squareProof (Pair (pos 1) (pos 1) (negsuc 1) ∷ []) 1 squareProof
+    -- C: "p becomes 2, accepted"
+    ∷ accepts (squareWith (negsuc 0) (negsuc 1)) squareProof (Pair (pos 2) (pos 1) (negsuc 1) ∷ []) 1
+    (oneRow 0 2 (pos 2) (pos 1) (negsuc 1))
+    -- D: "p becomes 0, refused 19 at 0"
+    ∷ refuses (squareWith (pos 1) (negsuc 1)) squareProof (Pair (pos 0) (pos 1) (negsuc 1) ∷ []) 19 0
+    -- E: "accepted, 8 bytes written"; F: "the same, b 1 or −1: refused 16 at 0"
+    ∷ accepts (bare (pos 0)) noRows [] 0 noRows
+    ∷ refuses (bare (pos 1)) noRows [] 16 0
+    ∷ refuses (bare (negsuc 0)) noRows [] 16 0
+    -- G: "Accepted"; H: "the first slot takes it, same result as G"
+    ∷ accepts motzkin (motzkinProof (negsuc 1)) motzkinExact 3 (motzkinProof (negsuc 1))
+    ∷ accepts motzkin (motzkinProof (negsuc 2)) motzkinExact 3 (motzkinProof (negsuc 1))
+    -- I: "shares 0 and −1, the second row's p is 1, refused 19 at 1"
+    ∷ refuses motzkin (motzkinProof (negsuc 0))
+    (Pair (pos 1) (pos 1) (negsuc 0) ∷ Pair (pos 1) (pos 2) (negsuc 3) ∷ Pair (pos 1) (pos 1) (negsuc 1) ∷ []) 19 1
+    ∷ []
+
+unfoldable pub tabled : List Case
+tabled =
+    -- 11: "Square, 21 bytes"
+    record {
+      claim = square;
+      proof = squareProof;
+      output = replicate 21 7;
+      weights = Pair (pos 1) (pos 1) (negsuc 1) ∷ [];
+      answer = refused 11 0;
+      written = replicate 21 7;
+    }
+    -- 16: "Square, k 0"; 17: "2^30 at point 2, S 2, lone row 2"; 18: "claim 1 at point 1, lone row 1"
+    ∷ refuses square noRows [] 16 0
+    ∷ refuses (oneTerm 2 (pos (2 ^ 30))) (proofOf 1 (pos 2) 1 ((2 ∷ []) ∷ (2 ∷ []) ∷ []) (pos 0 ∷ pos 0 ∷ pos 0 ∷ []))
+    (Lone (pos (2 ^ 31)) ∷ []) 17 0
+    ∷ refuses (oneTerm 1 (pos 1)) (oneRow 1 1 (pos 0) (pos 0) (pos 0)) (Lone (negsuc 0) ∷ []) 18 0
+    ∷ []
+
+-- ---- the definitions give every weight, answer and byte
+
+unfoldable pub worked : Case → Case
+worked a = record {
+  claim = a .claim;
+  proof = a .proof;
+  output = a .output;
+  weights = map (λ (row : Row). row .weights) (shiftedRows (targetsOf (a .claim) (a .proof)) (a .proof));
+  answer = checkAnswer (a .claim) (a .proof) (length (a .output));
+  written = outputOf (a .claim) (a .proof) (a .output);
+}
+
+abbrev pub Worked : Type 0
+Worked = map worked (marked ++ tabled) ≡ marked ++ tabled
