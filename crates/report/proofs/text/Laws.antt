@@ -2,8 +2,9 @@
 use mathlib.Core.Path.{_≡_, refl, sym, _∙_, ap}
 use mathlib.Core.Bool.{Bool, true, false, true≢false}
 use mathlib.Core.List.{List, [], _∷_, _++_}
-use Prim.Native.Nat.{ℕ, zero, suc, _+_, _/_, _%_, _<_, _≤_}
+use Prim.Native.Nat.{ℕ, zero, suc, _+_, _/_, _%_, _^_, _<_, _≤_}
 use native.Mathlib.Decide.{decLt}
+use native.Mathlib.Nat.{pow-succ'}
 use native.Mathlib.Numerals.{add-one}
 use native.Mathlib.Omega.{arith}
 use lib.Dec.{ltb}
@@ -83,6 +84,23 @@ natural-last n h = digits-last n n h
 natural-before : (n : ℕ) → 10 ≤ n → natural n ≡ natural (n / 10) ++ ((48 + n % 10) ∷ [])
 unfolding natural
 natural-before n h = digits-before n n h ∙ rw (digits-enough n (suc (n / 10)) (n / 10) (omega arith) (omega arith))
+
+-- a number below 10^k has at most k digits
+pub natural-short : (k n : ℕ) → n < 10 ^ suc k → length (natural n) ≤ suc k
+natural-short zero n h = rw (natural-last n h) (omega arith)
+natural-short (suc k) n h = go (decLt n 10) (natural-short k (n / 10))
+  where
+    go : Dec (n < 10) → (n / 10 < 10 ^ suc k → length (natural (n / 10)) ≤ suc k) → length (natural n) ≤ suc (suc k)
+    go (yes l) before = rw (natural-last n l) (omega arith)
+    go (no l) before =
+        let e = pow-succ' 10 (suc k) in
+        rw (natural-before n (omega arith), length-append (natural (n / 10)) ((48 + n % 10) ∷ []))
+        (omega (arith, before (omega arith)))
+
+pub integer-short : (k : ℕ) (z : ℤ) → natAbs z < 10 ^ suc k → length (integer z) ≤ suc (suc k)
+unfolding integer
+integer-short k (pos n) h = omega (arith, natural-short k n h)
+integer-short k (negsuc n) h = omega (arith, natural-short k (suc n) h)
 
 -- natural
 module _ (l : List ℕ) (n at : ℕ) where

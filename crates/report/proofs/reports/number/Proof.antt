@@ -1,0 +1,60 @@
+use Rattle.checks.specs.Answers.{accepted, says}
+use borrow.Author.Needs.{needs}
+use Rattle.report.proofs.reports.number.Statement.{statement}
+use Rattle.report.proofs.reports.number.Tie as tie
+use Rattle.report.proofs.reports.number.Reads as reads
+use Rattle.report.proofs.reports.number.Lts as lts
+
+enum-told : tie.Need-enum-told
+enum-told c = search needs
+
+enum-known-verdict : tie.Need-enum-known-verdict
+enum-known-verdict c = search needs
+
+enum-known-sheet : tie.Need-enum-known-sheet
+enum-known-sheet c = search needs
+
+enum-known-sheet-2 : tie.Need-enum-known-sheet-2
+enum-known-sheet-2 c = search needs
+
+enum-known-sheet-3 : tie.Need-enum-known-sheet-3
+enum-known-sheet-3 c = search needs
+
+enum-known-sheet-4 : tie.Need-enum-known-sheet-4
+enum-known-sheet-4 c = search needs
+
+returns : tie.Need-returns
+unfolding says accepted
+returns c = search needs
+
+returns-2 : tie.Need-returns-2
+unfolding says
+returns-2 c = search needs
+
+returns-3 : tie.Need-returns-3
+unfolding says
+returns-3 c = search needs
+
+returns-4 : tie.Need-returns-4
+unfolding says
+returns-4 c = search needs
+
+returns-5 : tie.Need-returns-5
+unfolding says
+returns-5 c = search needs
+
+pub number-spec : {M : Type 1} → statement M
+number-spec =
+    tie.close
+    (tie.spec
+    enum-told
+    enum-known-verdict
+    enum-known-sheet
+    enum-known-sheet-2
+    enum-known-sheet-3
+    enum-known-sheet-4
+    returns
+    returns-2
+    returns-3
+    returns-4
+    returns-5)
