@@ -1,6 +1,6 @@
 -- Reports: what the program prints for a verdict on a claim, with its exact proof where it is accepted.
 use mathlib.Core.Bool.{Bool, cond, _&&_}
-use mathlib.Core.List.{List, [], _∷_, _++_}
+use mathlib.Core.List.{List, [], _++_}
 use Prim.Native.Nat.{ℕ, zero, suc}
 use lib.Dec.{leb}
 use lib.ListN.{length}
@@ -9,11 +9,12 @@ use Rattle.sheets.specs.ClaimSheet.{floorOf}
 use Rattle.sheets.specs.ProofSheet.{scaleOf, tripleOf}
 use Rattle.checks.specs.Answers.{Answer, blameless}
 use Rattle.checks.specs.Bounds.{greatestRows}
+use Rattle.report.specs.Text.{ascii}
 use Rattle.report.specs.Lines.{acceptedLine, rowLine, refusedLine}
 
 -- "Every line ends with a line feed."
 unfoldable pub ended : List ℕ → List ℕ
-ended line = line ++ (10 ∷ [])
+ended line = line ++ ascii "\n"
 
 -- row i of a proof of n variables and k rows, and the first i rows
 unfoldable pub rowText : List ℕ → ℕ → ℕ → ℕ → List ℕ

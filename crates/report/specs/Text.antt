@@ -2,13 +2,20 @@
 use mathlib.Core.Path.{_≡_}
 use mathlib.Core.Bool.{true, false}
 use mathlib.Core.List.{List, [], _∷_, _++_}
+use Prim.Native.Char.{code}
 use Prim.Native.Nat.{ℕ, zero, suc, _+_, _/_, _%_, _≤_}
+use Prim.Native.String.{String, [] as []ˢ, _∷_ as _∷ˢ_}
 use lib.Dec.{ltb}
 use lib.IntN.{ℤ, pos, negsuc}
 use lib.ListN.{length}
 use lib.Seq.{sets}
 
--- the last decimal digits of a number, at most so many, the most significant first and no zero before it
+-- the codes of a text's characters
+abbrev pub ascii : String → List ℕ
+ascii []ˢ = []
+ascii (c ∷ˢ s) = code c ∷ ascii s
+
+-- the last decimal digits of a number, at most so many, the most significant first and no zero before it; 48 is the code of 0
 unfoldable pub digits : ℕ → ℕ → List ℕ
 digits zero n = []
 digits (suc most) n = elim (ltb n 10) [ true ↦ [] | false ↦ digits most (n / 10) ] ++ ((48 + n % 10) ∷ [])
@@ -20,7 +27,7 @@ natural n = digits (suc n) n
 -- a number of either sign: a minus sign where it is negative
 unfoldable pub integer : ℤ → List ℕ
 integer (pos n) = natural n
-integer (negsuc n) = 45 ∷ natural (suc n)
+integer (negsuc n) = ascii "-" ++ natural (suc n)
 
 -- a label and a count, a label and a number of either sign
 unfoldable pub counted : List ℕ → ℕ → List ℕ

@@ -59,8 +59,8 @@ fn row_text(proof: &[u8], n: usize, k: usize, i: usize, out: &mut [u8], at: usiz
     ensures { λ r. ⌜ Written (now (out .entry)) at (rowText (now (proof .entry)) n k i) (now (out .exit)) r ⌝ }
 {
     let x = row_triple(proof, n, k, i);
-    let a = row_line(i as u64, x, out, at);
-    put_byte(b'\n', out, a)
+    let row = row_line(i as u64, x, out, at);
+    put_byte(b'\n', out, row)
 }
 
 // The lines of all rows.
@@ -82,8 +82,8 @@ fn first_text(claim: &[u8], proof: &[u8], k: usize, out: &mut [u8], at: usize) -
     requires { ⌜ (8 ≤ length (now claim)) × (8 ≤ length (now proof)) × (Room (now out) at (firstText (now claim) (now proof) k)) ⌝ }
     ensures { λ r. ⌜ Written (now (out .entry)) at (firstText (now (claim .entry)) (now (proof .entry)) k) (now (out .exit)) r ⌝ }
 {
-    let a = accepted_line(k as u64, scale(proof), floor(claim), out, at);
-    put_byte(b'\n', out, a)
+    let first = accepted_line(k as u64, scale(proof), floor(claim), out, at);
+    put_byte(b'\n', out, first)
 }
 
 // All lines of an acceptance of k rows.
@@ -91,8 +91,8 @@ fn accepted_text(claim: &[u8], proof: &[u8], k: usize, out: &mut [u8], at: usize
     requires { ⌜ (carries (now claim) (now proof) k ≡ true) × (Room (now out) at (acceptedText (now claim) (now proof) k)) ⌝ }
     ensures { λ r. ⌜ Written (now (out .entry)) at (acceptedText (now (claim .entry)) (now (proof .entry)) k) (now (out .exit)) r ⌝ }
 {
-    let a = first_text(claim, proof, k, out, at);
-    rows_text(proof, variables(proof), k, out, a)
+    let rows = first_text(claim, proof, k, out, at);
+    rows_text(proof, variables(proof), k, out, rows)
 }
 
 // The line of a refusal.
@@ -100,8 +100,8 @@ fn refused_text(number: u32, index: usize, out: &mut [u8], at: usize) -> usize
     requires { ⌜ Room (now out) at (refusedText number index) ⌝ }
     ensures { λ r. ⌜ Written (now (out .entry)) at (refusedText number index) (now (out .exit)) r ⌝ }
 {
-    let a = refused_line(number as u64, index as u64, out, at);
-    put_byte(b'\n', out, a)
+    let refused = refused_line(number as u64, index as u64, out, at);
+    put_byte(b'\n', out, refused)
 }
 
 // Whether the sheets have what an acceptance of k rows prints: a floor, a scale and k rows.

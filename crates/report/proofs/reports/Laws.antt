@@ -23,8 +23,8 @@ use Rattle.checks.specs.declared.answers.Sheet.{Sheet}
 use Rattle.checks.specs.declared.answers.Sheet.the-variants.{Claim, Proof, Output, Offsets}
 use Rattle.checks.specs.declared.answers.Verdict.{Verdict}
 use Rattle.checks.specs.declared.answers.Verdict.the-variants.{Accepted, Refused}
-use Rattle.report.specs.Text.{natural, integer, counted, numbered, Room, Written}
-use Rattle.report.specs.Lines.{rowsLabel, scaleLabel, floorLabel, rowLabel, pLabel, qLabel, rLabel, refusedLabel, atLabel, scaleText, acceptedLine, laterText, weightsText, rowLine, refusedLine}
+use Rattle.report.specs.Text.{ascii, natural, integer, counted, numbered, Room, Written}
+use Rattle.report.specs.Lines.{scaleText, acceptedLine, laterText, weightsText, rowLine, refusedLine}
 use Rattle.report.specs.Reports.{ended, rowText, rowsText, firstText, acceptedText, refusedText, carries, reportText}
 use Rattle.report.proofs.text.Laws.{natural-short, integer-short, room-first, room-then, written-then}
 
@@ -45,9 +45,9 @@ first-short c s k bc bs h =
     simp length-append
     (omega (
       arith,
-      counted-short rowsLabel 2 k (omega arith),
-      counted-short scaleLabel 9 (scaleOf s) (omega arith),
-      word-short floorLabel (floorOf c) (i32-fits c 4 bc),
+      counted-short (ascii "accepted rows ") 2 k (omega arith),
+      counted-short (ascii " scale ") 9 (scaleOf s) (omega arith),
+      word-short (ascii " floor ") (floorOf c) (i32-fits c 4 bc),
     ))
 
 row-short : (s : List ℕ) (n k i : ℕ) → Bytes s → i < 256 → length (rowText s n k i) ≤ 50
@@ -58,10 +58,10 @@ row-short s n k i b h =
     simp length-append
     (omega (
       arith,
-      counted-short rowLabel 2 i (omega arith),
-      word-short pLabel (x .p) (i32-fits s at b),
-      word-short qLabel (x .q) (i32-fits s (at + 4) b),
-      word-short rLabel (x .r) (i32-fits s (at + 8) b),
+      counted-short (ascii "row ") 2 i (omega arith),
+      word-short (ascii " p ") (x .p) (i32-fits s at b),
+      word-short (ascii " q ") (x .q) (i32-fits s (at + 4) b),
+      word-short (ascii " r ") (x .r) (i32-fits s (at + 8) b),
     ))
 
 rows-short : (s : List ℕ) (n k i : ℕ) → Bytes s → i ≤ 256 → length (rowsText s n k i) ≤ i * 50
@@ -74,7 +74,7 @@ rows-short s n k (suc i) b h =
 refused-short : (number index : ℕ) → number < 10 ^ 10 → index < 10 ^ 20 → length (refusedText number index) ≤ 43
 unfolding refusedText ended refusedLine
 refused-short number index h l =
-    simp length-append (omega (arith, counted-short refusedLabel 9 number h, counted-short atLabel 19 index l))
+    simp length-append (omega (arith, counted-short (ascii "refused ") 9 number h, counted-short (ascii " at ") 19 index l))
 
 -- ---- a row's line: x is the triple that was read
 
@@ -185,6 +185,12 @@ enough c s k h =
       proof = leb-true _ _ (t .1);
       rows = record { few = leb-true _ _ (r .1); rows = leb-true _ _ (q .1); long = leb-true _ _ (p .1) };
     }
+
+-- and that is enough
+pub carries-enough : (c s : List ℕ) (k : ℕ) → 8 ≤ length c → ProofRoom s (variables s) k → carries c s k ≡ true
+unfolding carries
+carries-enough c s k h r =
+    rw (le-leb 8 (length c) h, le-leb 8 (length s) (omega (arith, r .long)), le-leb _ _ (r .few), le-leb _ _ (r .rows), le-leb _ _ (r .long))
 
 module _ (c s : List ℕ) (k : ℕ) (h : carries c s k ≡ true) where
   pub claim-carried : 8 ≤ length c
