@@ -3,8 +3,8 @@ use crate::lines::accepted_line;
 use crate::lines::refused_line;
 use crate::lines::row_line;
 use crate::text::put_byte;
-use checks::answers::Sheet;
 use checks::answers::Verdict;
+use checks::answers::numbers_of;
 use checks::bounds::GREATEST_ROWS;
 use sheets::claim_sheet::floor;
 use sheets::layout::place_of;
@@ -22,36 +22,6 @@ ghost use Rattle.report.specs.Reports.{rowText, rowsText, carries, first
 
 // The longest report: 53 bytes for the first line, and 50 for each of 256 rows.
 pub const LONGEST: usize = 12853;
-
-// The number that a verdict says: 0 where it is accepted.
-pub fn number(verdict: Verdict) -> u32
-    ensures { λ r. ⌜ r ≡ says verdict .number ⌝ }
-{
-    match verdict {
-        Verdict::Accepted(_) => 0,
-        Verdict::Refused(sheet) => match sheet {
-            Sheet::Claim(number, _) => number,
-            Sheet::Proof(number, _) => number,
-            Sheet::Output(number, _) => number,
-            Sheet::Offsets(number, _) => number,
-        },
-    }
-}
-
-// The index that a verdict says, or k where it is accepted.
-pub fn value(verdict: Verdict) -> usize
-    ensures { λ r. ⌜ r ≡ says verdict .value ⌝ }
-{
-    match verdict {
-        Verdict::Accepted(k) => k,
-        Verdict::Refused(sheet) => match sheet {
-            Sheet::Claim(_, index) => index,
-            Sheet::Proof(_, index) => index,
-            Sheet::Output(_, index) => index,
-            Sheet::Offsets(_, index) => index,
-        },
-    }
-}
 
 // The line of row i.
 fn row_text(proof: &[u8], n: usize, k: usize, i: usize, out: &mut [u8], at: usize) -> usize
@@ -130,7 +100,8 @@ pub fn report_text(claim: &[u8], proof: &[u8], verdict: Verdict, out: &mut [u8; 
     ensures { λ r. ⌜ Written (now (out .entry)) 0 (reportText (now (claim .entry)) (now (proof .entry)) (says verdict)) (now (out .exit)) r ⌝ }
 {
     let Verdict::Accepted(k) = verdict else {
-        return refused_text(number(verdict), value(verdict), out, 0);
+        let said = numbers_of(verdict);
+        return refused_text(said.number, said.value, out, 0);
     };
     if carries(claim, proof, k) {
         return accepted_text(claim, proof, k, out, 0);

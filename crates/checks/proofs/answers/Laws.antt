@@ -109,6 +109,10 @@ module _ (v : Verdict) (f found : Found) (number : ℕ) (later : Answer) (e : f 
   passed-at h k = rw (← e, h) k
 
 -- an acceptance, and a refusal of the claim or of the proof as its number has it
+pub accepted-value : (k : ℕ) → says (Accepted k) .value ≡ k
+unfolding says accepted
+accepted-value k = refl
+
 pub accepted-says : (k : ℕ) → says (Accepted k) ≡ accepted k
 unfolding says
 accepted-says k = refl

@@ -1,28 +1,29 @@
 -- Laws of reports: how long they are, what they are for a verdict, and the ways through the code.
-use mathlib.Core.Path.{_≡_, refl, sym, _∙_, ap}
-use mathlib.Core.Bool.{Bool, true, false, cond, _&&_, and-eq-true-iff}
-use mathlib.Core.List.{List, [], _∷_, _++_}
+use mathlib.Core.Path.{_≡_, refl, sym, _∙_}
+use mathlib.Core.Bool.{Bool, true, false, _&&_, and-eq-true-iff}
+use mathlib.Core.List.{List, [], _∷_}
 use Prim.Native.Nat.{ℕ, zero, suc, _+_, _-_, _*_, _^_, _<_, _≤_}
 use native.Mathlib.Numerals.{add-one}
 use native.Mathlib.Omega.{arith}
 use lib.Dec.{leb}
-use lib.IntN.{ℤ, natAbs}
+use lib.IntN.{ℤ}
 use lib.ListN.{length, length-append}
 use mir.Syntax.{w32, w64}
 use mir.Val.{Fits, SFits}
 use borrow.Author.Tests.{le-leb, lt-leb, leb-true}
-use Rattle.integers.specs.Words.{u32At, i32At}
 use Rattle.integers.proofs.Integers.{ints, sizes}
-use Rattle.integers.proofs.words.Laws.{Bytes, u32-bound, i32-fits}
-use Rattle.sheets.specs.Layout.{variables, place, proofLength, tripleAt, ProofRoom}
+use Rattle.integers.proofs.words.Laws.{Bytes}
+use Rattle.sheets.specs.Layout.{variables, place, ProofRoom}
 use Rattle.sheets.specs.ClaimSheet.{floorOf}
-use Rattle.sheets.specs.ProofSheet.{scaleOf, wordsAt, tripleOf}
+use Rattle.sheets.specs.ProofSheet.{scaleOf, tripleOf}
 use Rattle.sheets.specs.declared.proof_sheet.Triple.{Triple}
-use Rattle.checks.specs.Answers.{Answer, accepted, says, blameless}
+use Rattle.checks.specs.Answers.{says}
 use Rattle.checks.specs.declared.answers.Sheet.{Sheet}
-use Rattle.checks.specs.declared.answers.Sheet.the-variants.{Claim, Proof, Output, Offsets}
 use Rattle.checks.specs.declared.answers.Verdict.{Verdict}
 use Rattle.checks.specs.declared.answers.Verdict.the-variants.{Accepted, Refused}
+use Rattle.sheets.proofs.claim_sheet.Laws.{floor-fits}
+use Rattle.sheets.proofs.proof_sheet.Laws.{scale-bound, triple-narrow}
+use Rattle.checks.proofs.answers.Laws.{failed, passed, accepted-value}
 use Rattle.report.specs.Text.{ascii, natural, integer, counted, numbered, Room, Written}
 use Rattle.report.specs.Lines.{scaleText, acceptedLine, laterText, weightsText, rowLine, refusedLine}
 use Rattle.report.specs.Reports.{ended, rowText, rowsText, firstText, acceptedText, refusedText, carries, reportText}
@@ -39,29 +40,28 @@ unfolding numbered
 word-short label z f = rw (length-append label (integer z)) (omega (ints, integer-short 9 z (omega (ints, sizes z))))
 
 first-short : (c s : List ℕ) (k : ℕ) → Bytes c → Bytes s → k ≤ 256 → length (firstText c s k) ≤ 53
-unfolding firstText ended acceptedLine scaleText scaleOf floorOf
+unfolding firstText ended acceptedLine scaleText
 first-short c s k bc bs h =
-    let u : scaleOf s < 4294967296 = u32-bound s 4 bs in
     simp length-append
     (omega (
       arith,
       counted-short (ascii "accepted rows ") 2 k (omega arith),
-      counted-short (ascii " scale ") 9 (scaleOf s) (omega arith),
-      word-short (ascii " floor ") (floorOf c) (i32-fits c 4 bc),
+      counted-short (ascii " scale ") 9 (scaleOf s) (omega (arith, scale-bound s bs)),
+      word-short (ascii " floor ") (floorOf c) (floor-fits c bc),
     ))
 
 row-short : (s : List ℕ) (n k i : ℕ) → Bytes s → i < 256 → length (rowText s n k i) ≤ 50
-unfolding rowText ended rowLine weightsText laterText tripleOf wordsAt
+unfolding rowText ended rowLine weightsText laterText
 row-short s n k i b h =
-    let at = tripleAt n k i in
     let x = tripleOf s n k i in
+    let f = triple-narrow s n k i b in
     simp length-append
     (omega (
       arith,
       counted-short (ascii "row ") 2 i (omega arith),
-      word-short (ascii " p ") (x .p) (i32-fits s at b),
-      word-short (ascii " q ") (x .q) (i32-fits s (at + 4) b),
-      word-short (ascii " r ") (x .r) (i32-fits s (at + 8) b),
+      word-short (ascii " p ") (x .p) (f .p-fits),
+      word-short (ascii " q ") (x .q) (f .q-fits),
+      word-short (ascii " r ") (x .r) (f .r-fits),
     ))
 
 rows-short : (s : List ℕ) (n k i : ℕ) → Bytes s → i ≤ 256 → length (rowsText s n k i) ≤ i * 50
@@ -214,18 +214,11 @@ module _ (c s l m : List ℕ) (k at mid : ℕ) (w : Written l at (firstText c s 
 
 -- ---- the report of a verdict
 
-blamed : (x : Sheet) → blameless (says (Refused x)) ≡ false
-unfolding says blameless
-blamed (Claim number index) = refl
-blamed (Proof number index) = refl
-blamed (Output number index) = refl
-blamed (Offsets number index) = refl
-
 module _ (c s l o : List ℕ) (v : Verdict) (end : ℕ) where
   pub refused-report : (x : Sheet) (number index : ℕ) → v ≡ Refused x → number ≡ says v .number → index ≡ says v .value
       → Written l 0 (refusedText number index) o end → Written l 0 (reportText c s (says v)) o end
   unfolding reportText
-  refused-report x number index h en ei w = rw (h, blamed x, ← h, ← en, ← ei) w
+  refused-report x number index h en ei w = rw (failed v (says v) refl x h, ← en, ← ei) w
 
 -- b is whether the sheets carry it
 module _ (c s l : List ℕ) (k : ℕ) (b : Bool) (e : b ≡ carries c s k) where
@@ -235,12 +228,14 @@ module _ (c s l : List ℕ) (k : ℕ) (b : Bool) (e : b ≡ carries c s k) where
   module _ (v : Verdict) (h : v ≡ Accepted k) where
     pub accepted-report : (o : List ℕ) (end : ℕ) → b ≡ true → Written l 0 (acceptedText c s k) o end
         → Written l 0 (reportText c s (says v)) o end
-    unfolding reportText says accepted blameless
-    accepted-report o end t w = rw (h, ← e, t) w
+    unfolding reportText
+    accepted-report o end t w = rw (passed v (says v) refl k h, h, accepted-value k, ← e, t) w
 
     pub empty-report : b ≡ false → Written l 0 (reportText c s (says v)) l 0
-    unfolding reportText says accepted blameless
-    empty-report t = rw (h, ← e, t) (record { bytes = refl; ends = refl; kept = refl; inside = omega arith })
+    unfolding reportText
+    empty-report t =
+        rw (passed v (says v) refl k h, h, accepted-value k, ← e, t)
+        (record { bytes = refl; ends = refl; kept = refl; inside = omega arith })
 
 -- it has room
 pub accepted-room : (c s l : List ℕ) (k : ℕ) (b : Bool) → Bytes c → Bytes s → b ≡ carries c s k → b ≡ true

@@ -1,19 +1,18 @@
 -- Laws of text: one text after another, the digits of a number, and the ways through the code that puts them.
 use mathlib.Core.Path.{_≡_, refl, sym, _∙_, ap}
-use mathlib.Core.Bool.{Bool, true, false, true≢false}
+use mathlib.Core.Bool.{true, false, true≢false}
 use mathlib.Core.List.{List, [], _∷_, _++_}
 use Prim.Native.Nat.{ℕ, zero, suc, _+_, _/_, _%_, _^_, _<_, _≤_}
 use native.Mathlib.Decide.{decLt}
 use native.Mathlib.Nat.{pow-succ'}
 use native.Mathlib.Numerals.{add-one}
 use native.Mathlib.Omega.{arith}
-use lib.Dec.{ltb}
 use lib.IntN.{ℤ, pos, negsuc, natAbs}
 use lib.ListN.{length, getD, take, set, length-append, length-take}
 use lib.Seq.{sets, length-sets, take-suc, take-all}
 use lib.Signed.{ltZ}
-use borrow.Author.Tests.{lt-ltb, le-ltb, ltb-true, ltb-false}
-use Rattle.report.specs.Text.{digits, natural, integer, counted, numbered, Room, Written}
+use borrow.Author.Tests.{lt-ltb, le-ltb, ltb-true}
+use Rattle.report.specs.Text.{digits, natural, integer, numbered, Room, Written}
 
 -- ---- one text after another
 

@@ -5,10 +5,6 @@ use Rattle.report.proofs.lines.Laws.{scale-then}
 use borrow.Author.Needs.{needs}
 use Rattle.report.proofs.lines.accepted_line.Statement.{statement}
 use Rattle.report.proofs.lines.accepted_line.Tie as tie
-use Rattle.report.proofs.lines.accepted_line.Reads as reads
-use Rattle.report.proofs.lines.accepted_line.Lts as lts
-use Rattle.report.proofs.lines.scale_text.Reads as scale-text-reads
-use Rattle.report.proofs.text.counted.Reads as counted-reads
 
 slice-aggregate-counted : tie.Need-slice-aggregate-counted
 slice-aggregate-counted c = search needs

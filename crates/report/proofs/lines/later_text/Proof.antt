@@ -4,9 +4,6 @@ use Rattle.report.proofs.text.Laws.{room-first, numbered-back, numbered
 use borrow.Author.Needs.{needs}
 use Rattle.report.proofs.lines.later_text.Statement.{statement}
 use Rattle.report.proofs.lines.later_text.Tie as tie
-use Rattle.report.proofs.lines.later_text.Reads as reads
-use Rattle.report.proofs.lines.later_text.Lts as lts
-use Rattle.report.proofs.text.numbered.Reads as numbered-reads
 
 slice-aggregate-numbered : tie.Need-slice-aggregate-numbered
 slice-aggregate-numbered c = search needs

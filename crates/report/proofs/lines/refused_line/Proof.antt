@@ -3,9 +3,6 @@ use Rattle.report.proofs.text.Laws.{room-first, room-then, written-then
 use borrow.Author.Needs.{needs}
 use Rattle.report.proofs.lines.refused_line.Statement.{statement}
 use Rattle.report.proofs.lines.refused_line.Tie as tie
-use Rattle.report.proofs.lines.refused_line.Reads as reads
-use Rattle.report.proofs.lines.refused_line.Lts as lts
-use Rattle.report.proofs.text.counted.Reads as counted-reads
 
 slice-aggregate-counted : tie.Need-slice-aggregate-counted
 slice-aggregate-counted c = search needs

@@ -4,10 +4,6 @@ use Rattle.report.proofs.text.Laws.{room-first, room-then, written-then
 use borrow.Author.Needs.{needs}
 use Rattle.report.proofs.lines.scale_text.Statement.{statement}
 use Rattle.report.proofs.lines.scale_text.Tie as tie
-use Rattle.report.proofs.lines.scale_text.Reads as reads
-use Rattle.report.proofs.lines.scale_text.Lts as lts
-use Rattle.report.proofs.text.counted.Reads as counted-reads
-use Rattle.report.proofs.text.numbered.Reads as numbered-reads
 
 slice-aggregate-counted : tie.Need-slice-aggregate-counted
 slice-aggregate-counted c = search needs

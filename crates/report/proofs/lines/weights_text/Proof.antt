@@ -5,10 +5,6 @@ use Rattle.report.proofs.lines.Laws.{later-room, later-then}
 use borrow.Author.Needs.{needs}
 use Rattle.report.proofs.lines.weights_text.Statement.{statement}
 use Rattle.report.proofs.lines.weights_text.Tie as tie
-use Rattle.report.proofs.lines.weights_text.Reads as reads
-use Rattle.report.proofs.lines.weights_text.Lts as lts
-use Rattle.report.proofs.lines.later_text.Reads as later-text-reads
-use Rattle.report.proofs.text.numbered.Reads as numbered-reads
 
 slice-aggregate-numbered : tie.Need-slice-aggregate-numbered
 slice-aggregate-numbered c = search needs

@@ -4,11 +4,6 @@ use Rattle.report.proofs.text.Laws.{room-first}
 use Rattle.report.proofs.reports.Laws.{claim-carried, proof-carried, room-carried, rows-after, accepted-written}
 use Rattle.report.proofs.reports.accepted_text.Statement.{statement}
 use Rattle.report.proofs.reports.accepted_text.Tie as tie
-use Rattle.report.proofs.reports.accepted_text.Reads as reads
-use Rattle.report.proofs.reports.accepted_text.Lts as lts
-use Rattle.report.proofs.reports.first_text.Reads as first-text-reads
-use Rattle.report.proofs.reports.rows_text.Reads as rows-text-reads
-use Rattle.sheets.proofs.layout.variables.Reads as variables-reads
 
 first-text-requires : tie.Need-first-text-requires
 unfolding acceptedText

@@ -2,10 +2,6 @@ use Rattle.report.proofs.reports.Laws.{no-claim, no-proof, many-variabl
 use borrow.Author.Needs.{needs}
 use Rattle.report.proofs.reports.carries.Statement.{statement}
 use Rattle.report.proofs.reports.carries.Tie as tie
-use Rattle.report.proofs.reports.carries.Reads as reads
-use Rattle.report.proofs.reports.carries.Lts as lts
-use Rattle.sheets.proofs.layout.place_of.Reads as place-of-reads
-use Rattle.sheets.proofs.layout.variables.Reads as variables-reads
 
 returns : tie.Need-returns
 returns c = search no-claim

@@ -3,12 +3,6 @@ use Rattle.report.proofs.reports.Laws.{first-room, first-feed, first-wr
 use borrow.Author.Needs.{needs}
 use Rattle.report.proofs.reports.first_text.Statement.{statement}
 use Rattle.report.proofs.reports.first_text.Tie as tie
-use Rattle.report.proofs.reports.first_text.Reads as reads
-use Rattle.report.proofs.reports.first_text.Lts as lts
-use Rattle.report.proofs.lines.accepted_line.Reads as accepted-line-reads
-use Rattle.report.proofs.text.put_byte.Reads as put-byte-reads
-use Rattle.sheets.proofs.claim_sheet.floor.Reads as floor-reads
-use Rattle.sheets.proofs.proof_sheet.scale.Reads as scale-reads
 
 scale-requires : tie.Need-scale-requires
 scale-requires c κs = search needs

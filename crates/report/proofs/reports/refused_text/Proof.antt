@@ -3,10 +3,6 @@ use Rattle.report.proofs.text.Laws.{room-first, room-then, written-then
 use borrow.Author.Needs.{needs}
 use Rattle.report.proofs.reports.refused_text.Statement.{statement}
 use Rattle.report.proofs.reports.refused_text.Tie as tie
-use Rattle.report.proofs.reports.refused_text.Reads as reads
-use Rattle.report.proofs.reports.refused_text.Lts as lts
-use Rattle.report.proofs.lines.refused_line.Reads as refused-line-reads
-use Rattle.report.proofs.text.put_byte.Reads as put-byte-reads
 
 refused-line-requires : tie.Need-refused-line-requires
 unfolding refusedText ended

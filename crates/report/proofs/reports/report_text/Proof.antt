@@ -2,13 +2,6 @@ use Rattle.report.proofs.reports.Laws.{refused-report, carried, accepte
 use borrow.Author.Needs.{needs}
 use Rattle.report.proofs.reports.report_text.Statement.{statement}
 use Rattle.report.proofs.reports.report_text.Tie as tie
-use Rattle.report.proofs.reports.report_text.Reads as reads
-use Rattle.report.proofs.reports.report_text.Lts as lts
-use Rattle.report.proofs.reports.accepted_text.Reads as accepted-text-reads
-use Rattle.report.proofs.reports.carries.Reads as carries-reads
-use Rattle.report.proofs.reports.number.Reads as number-reads
-use Rattle.report.proofs.reports.refused_text.Reads as refused-text-reads
-use Rattle.report.proofs.reports.value.Reads as value-reads
 
 enum-known-verdict : tie.Need-enum-known-verdict
 enum-known-verdict c = search needs
@@ -16,11 +9,8 @@ enum-known-verdict c = search needs
 enum-told : tie.Need-enum-told
 enum-told c = search needs
 
-number-requires : tie.Need-number-requires
-number-requires c κs = search needs
-
-value-requires : tie.Need-value-requires
-value-requires c κs = search needs
+numbers-of-requires : tie.Need-numbers-of-requires
+numbers-of-requires c κs = search needs
 
 refused-text-requires : tie.Need-refused-text-requires
 refused-text-requires c κs = search refused-room
@@ -46,8 +36,7 @@ report-text-spec =
     (tie.spec
     enum-known-verdict
     enum-told
-    number-requires
-    value-requires
+    numbers-of-requires
     refused-text-requires
     returns
     carries-requires

@@ -2,11 +2,6 @@ use Rattle.report.proofs.reports.Laws.{row-room, row-feed, row-written}
 use borrow.Author.Needs.{needs}
 use Rattle.report.proofs.reports.row_text.Statement.{statement}
 use Rattle.report.proofs.reports.row_text.Tie as tie
-use Rattle.report.proofs.reports.row_text.Reads as reads
-use Rattle.report.proofs.reports.row_text.Lts as lts
-use Rattle.report.proofs.lines.row_line.Reads as row-line-reads
-use Rattle.report.proofs.text.put_byte.Reads as put-byte-reads
-use Rattle.sheets.proofs.proof_sheet.row_triple.Reads as row-triple-reads
 
 row-triple-requires : tie.Need-row-triple-requires
 row-triple-requires c κs = search needs

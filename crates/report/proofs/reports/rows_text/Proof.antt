@@ -5,9 +5,6 @@ use Rattle.report.specs.Reports.{rowsText}
 use Rattle.report.proofs.reports.Laws.{rows-none, next-room, rows-more, rows-all}
 use Rattle.report.proofs.reports.rows_text.Statement.{statement}
 use Rattle.report.proofs.reports.rows_text.Tie as tie
-use Rattle.report.proofs.reports.rows_text.Reads as reads
-use Rattle.report.proofs.reports.rows_text.Lts as lts
-use Rattle.report.proofs.reports.row_text.Reads as row-text-reads
 
 abbrev Inv-loop : tie.InvT-loop
 Inv-loop proof n k out₀ at end₀ i₀ out end i = (i ≤ k) × (Written out₀ at (rowsText proof n k i) out end)

@@ -3,10 +3,6 @@ use Rattle.report.proofs.text.Laws.{room-first, room-then, written-then
 use borrow.Author.Needs.{needs}
 use Rattle.report.proofs.text.counted.Statement.{statement}
 use Rattle.report.proofs.text.counted.Tie as tie
-use Rattle.report.proofs.text.counted.Reads as reads
-use Rattle.report.proofs.text.counted.Lts as lts
-use Rattle.report.proofs.text.natural.Reads as natural-reads
-use Rattle.report.proofs.text.put_text.Reads as put-text-reads
 
 put-text-requires : tie.Need-put-text-requires
 unfolding counted

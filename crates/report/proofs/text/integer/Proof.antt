@@ -3,11 +3,6 @@ use Rattle.report.proofs.text.Laws.{unsigned-room, unsigned-written, mi
 use borrow.Author.Needs.{needs}
 use Rattle.report.proofs.text.integer.Statement.{statement}
 use Rattle.report.proofs.text.integer.Tie as tie
-use Rattle.report.proofs.text.integer.Reads as reads
-use Rattle.report.proofs.text.integer.Lts as lts
-use Rattle.integers.proofs.magnitudes.magnitude.Reads as magnitude-reads
-use Rattle.report.proofs.text.natural.Reads as natural-reads
-use Rattle.report.proofs.text.put_byte.Reads as put-byte-reads
 
 magnitude-requires : tie.Need-magnitude-requires
 magnitude-requires c κs = search needs

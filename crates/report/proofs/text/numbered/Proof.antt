@@ -4,10 +4,6 @@ use Rattle.report.proofs.text.Laws.{room-first, room-then, numbered-wri
 use borrow.Author.Needs.{needs}
 use Rattle.report.proofs.text.numbered.Statement.{statement}
 use Rattle.report.proofs.text.numbered.Tie as tie
-use Rattle.report.proofs.text.numbered.Reads as reads
-use Rattle.report.proofs.text.numbered.Lts as lts
-use Rattle.report.proofs.text.integer.Reads as integer-reads
-use Rattle.report.proofs.text.put_text.Reads as put-text-reads
 
 put-text-requires : tie.Need-put-text-requires
 unfolding numbered

@@ -6,8 +6,6 @@ use lib.Seq.{sets}
 use Rattle.report.proofs.text.Laws.{copied-more, copied-all}
 use Rattle.report.proofs.text.put_text.Statement.{statement}
 use Rattle.report.proofs.text.put_text.Tie as tie
-use Rattle.report.proofs.text.put_text.Reads as reads
-use Rattle.report.proofs.text.put_text.Lts as lts
 
 abbrev Inv-loop : tie.InvT-loop
 Inv-loop text out₀ at i₀ out i = (i ≤ length text) × (length out ≡ length out₀) × (out ≡ sets out₀ at (take i text))

@@ -1,15 +1,15 @@
 use Rattle.checks.specs.Answers.{accepted, says}
 use borrow.Author.Needs.{needs}
-use Rattle.report.proofs.reports.number.Statement.{statement}
-use Rattle.report.proofs.reports.number.Tie as tie
-use Rattle.report.proofs.reports.number.Reads as reads
-use Rattle.report.proofs.reports.number.Lts as lts
-
-enum-told : tie.Need-enum-told
-enum-told c = search needs
+use Rattle.checks.proofs.answers.numbers_of.Statement.{statement}
+use Rattle.checks.proofs.answers.numbers_of.Tie as tie
+use Rattle.checks.proofs.answers.numbers_of.Reads as reads
+use Rattle.checks.proofs.answers.numbers_of.Lts as lts
 
 enum-known-verdict : tie.Need-enum-known-verdict
 enum-known-verdict c = search needs
+
+enum-known-verdict-2 : tie.Need-enum-known-verdict-2
+enum-known-verdict-2 c = search needs
 
 enum-known-sheet : tie.Need-enum-known-sheet
 enum-known-sheet c = search needs
@@ -43,12 +43,12 @@ returns-5 : tie.Need-returns-5
 unfolding says
 returns-5 c = search needs
 
-pub number-spec : {M : Type 1} → statement M
-number-spec =
+pub numbers-of-spec : {M : Type 1} → statement M
+numbers-of-spec =
     tie.close
     (tie.spec
-    enum-told
     enum-known-verdict
+    enum-known-verdict-2
     enum-known-sheet
     enum-known-sheet-2
     enum-known-sheet-3
