@@ -30,22 +30,10 @@ pub fn numbers_of(verdict: Verdict) -> Numbers
             value: k,
         },
         Verdict::Refused(sheet) => match sheet {
-            Sheet::Claim(number, index) => Numbers {
-                number,
-                value: index,
-            },
-            Sheet::Proof(number, index) => Numbers {
-                number,
-                value: index,
-            },
-            Sheet::Output(number, index) => Numbers {
-                number,
-                value: index,
-            },
-            Sheet::Offsets(number, index) => Numbers {
-                number,
-                value: index,
-            },
+            Sheet::Claim(number, value) => Numbers { number, value },
+            Sheet::Proof(number, value) => Numbers { number, value },
+            Sheet::Output(number, value) => Numbers { number, value },
+            Sheet::Offsets(number, value) => Numbers { number, value },
         },
     }
 }
