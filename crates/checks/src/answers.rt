@@ -1,4 +1,6 @@
 // Verdicts: accepted with the number of rows, or refused with the sheet at fault.
+ghost use mathlib.Core.Path.{_≡_};
+ghost use Rattle.checks.specs.Answers.{says};
 
 // The sheet at fault, with the refusal's number and index.
 pub enum Sheet {
@@ -11,4 +13,27 @@ pub enum Sheet {
 pub enum Verdict {
     Accepted(usize),
     Refused(Sheet),
+}
+
+// A verdict's two numbers: the refusal's number and its index, or 0 and k where it is accepted.
+pub struct Numbers {
+    pub number: u32,
+    pub value: usize,
+}
+
+pub fn numbers_of(verdict: Verdict) -> Numbers
+    ensures { λ r. ⌜ (r .number ≡ says verdict .number) × (r .value ≡ says verdict .value) ⌝ }
+{
+    match verdict {
+        Verdict::Accepted(k) => Numbers {
+            number: 0,
+            value: k,
+        },
+        Verdict::Refused(sheet) => match sheet {
+            Sheet::Claim(number, value) => Numbers { number, value },
+            Sheet::Proof(number, value) => Numbers { number, value },
+            Sheet::Output(number, value) => Numbers { number, value },
+            Sheet::Offsets(number, value) => Numbers { number, value },
+        },
+    }
 }

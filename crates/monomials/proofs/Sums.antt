@@ -6,7 +6,7 @@ use mathlib.Core.List.{[], _∷_, _++_}
 use Prim.Native.Nat.{ℕ, zero, suc, _+_, _≤_}
 use native.Mathlib.Nat.{le-refl}
 use native.Mathlib.Omega.{arith}
-use lib.IntN.{ℤ, pos, _+ℤ_, _*ℤ_, +ℤ-idl, +ℤ-assoc, *ℤ-zero}
+use lib.IntN.{ℤ, pos, _+ℤ_, _*ℤ_, +ℤ-idl, +ℤ-idr, +ℤ-assoc, *ℤ-zero}
 use lib.ListN.{length}
 use lib.Signed.{_≤ℤ_, ≤ℤ-refl}
 use Rattle.integers.proofs.Integers.{ring, ints, by-eq, +ℤ-mono, *ℤ-+ℤ}
@@ -35,6 +35,14 @@ coefficient-append α (t ∷ L) M = go (samePoint α (t .0)) (coefficient-append
         → cond b (t .1 +ℤ coefficient α (L ++ M)) (coefficient α (L ++ M)) ≡ cond b (t .1 +ℤ coefficient α L) (coefficient α L) +ℤ coefficient α M
     go true e = rw e (sym (+ℤ-assoc (t .1) (coefficient α L) (coefficient α M)))
     go false e = e
+
+pub value-nil : (φ : Exponents → ℤ) → value φ [] ≡ pos 0
+unfolding value
+value-nil φ = refl
+
+pub value-one : (φ : Exponents → ℤ) (t : Exponents × ℤ) → value φ (t ∷ []) ≡ t .1 *ℤ φ (t .0)
+unfolding value
+value-one φ t = +ℤ-idr (t .1 *ℤ φ (t .0))
 
 pub value-append : (φ : Exponents → ℤ) (L M : Sum) → value φ (L ++ M) ≡ value φ L +ℤ value φ M
 unfolding value

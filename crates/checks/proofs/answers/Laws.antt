@@ -53,6 +53,14 @@ pub then-on : (a later : Answer) → Passes a → andThen a later ≡ later
 unfolding andThen
 then-on a later h = rw h
 
+pub if-on : (b : Bool) (number : ℕ) (later : Answer) → b ≡ false → refuseIf b number later ≡ later
+unfolding refuseIf
+if-on b number later h = rw h
+
+pub at-on : (f : Found) (number : ℕ) (later : Answer) → f ≡ Nothing → refuseAt f number later ≡ later
+unfolding refuseAt
+at-on f number later h = rw h
+
 pub accepted-passes : (a : Answer) (k : ℕ) → a ≡ accepted k → Passes a
 unfolding blameless accepted
 accepted-passes a k e = rw e
@@ -109,6 +117,10 @@ module _ (v : Verdict) (f found : Found) (number : ℕ) (later : Answer) (e : f 
   passed-at h k = rw (← e, h) k
 
 -- an acceptance, and a refusal of the claim or of the proof as its number has it
+pub accepted-value : (k : ℕ) → says (Accepted k) .value ≡ k
+unfolding says accepted
+accepted-value k = refl
+
 pub accepted-says : (k : ℕ) → says (Accepted k) ≡ accepted k
 unfolding says
 accepted-says k = refl
@@ -135,3 +147,11 @@ late-says number index l h =
 pub output-says : (index : ℕ) → says (Refused (Output 11 index)) ≡ refused 11 index
 unfolding says refused blames
 output-says index = refl
+
+pub large-says : (index : ℕ) → says (Refused (Claim 21 index)) ≡ refused 21 index
+unfolding says refused blames
+large-says index = refl
+
+pub offsets-says : (index : ℕ) → says (Refused (Offsets 20 index)) ≡ refused 20 index
+unfolding says refused blames
+offsets-says index = refl

@@ -6,14 +6,17 @@ use native.Mathlib.Nat.{mul-le-mul, mul-le-mul-right}
 use native.Mathlib.Omega.{arith}
 use lib.IntN.{ℤ}
 use lib.ListN.{length, getD}
+use mir.Syntax.{w32}
+use mir.Val.{SFits}
 use Rattle.integers.specs.Words.{i32At}
+use Rattle.integers.proofs.words.Laws.{Bytes, i32-fits}
 use Rattle.monomials.specs.Decomposition.{Sized}
 use Rattle.monomials.proofs.Lists.{table-length, table-get, all-table}
 use Rattle.monomials.specs.Lists.{table}
 use Rattle.monomials.specs.Points.{Exponents}
 use Rattle.monomials.proofs.points.Laws.{bytes-length}
 use Rattle.sheets.specs.Layout.{variables, termCount, place, pointAt, ClaimRoom}
-use Rattle.sheets.specs.ClaimSheet.{termPoint, coefficientOf, termOf, termsOf}
+use Rattle.sheets.specs.ClaimSheet.{floorOf, termPoint, coefficientOf, termOf, termsOf}
 
 module _ (c : List ℕ) (n t i : ℕ) (room : ClaimRoom c n t) (l : i < t) where
   -- term_point
@@ -36,6 +39,11 @@ pub coefficient-read : (c : List ℕ) (n t i from at : ℕ) (z z′ : ℤ) → f
     → z ≡ i32At c at → z′ ≡ z → z′ ≡ coefficientOf c n t i
 unfolding coefficientOf
 coefficient-read c n t i from at z z′ e f h b = b ∙ h ∙ rw (f, e)
+
+-- a floor has 32 bits
+pub floor-fits : (c : List ℕ) → Bytes c → SFits w32 (floorOf c)
+unfolding floorOf
+floor-fits c b = i32-fits c 4 b
 
 -- ---- terms by their index
 

@@ -8,6 +8,7 @@ use native.Mathlib.Omega.{arith}
 use lib.IntN.{ℤ, pos}
 use lib.ListN.{length, getD}
 use Rattle.integers.specs.Words.{i32At, withI32}
+use Rattle.integers.proofs.words.Laws.{Bytes, u32-bound, i32-fits}
 use Rattle.monomials.proofs.Lists.{table-length, table-get}
 use Rattle.monomials.proofs.points.Laws.{bytes-length, exponents-of}
 use Rattle.monomials.specs.Lists.{table}
@@ -18,7 +19,7 @@ use Rattle.monomials.specs.declared.points.Point.{Point}
 use Rattle.monomials.specs.declared.rows.Weights.{Weights}
 use Rattle.monomials.specs.declared.rows.Weights.the-variants.{Pair, Lone}
 use Rattle.sheets.specs.Layout.{variables, rowCount, place, vAt, tripleAt, ProofRoom}
-use Rattle.sheets.specs.ProofSheet.{vOf, wOf, wordsAt, tripleOf, weightsOf, rowOf, rowsOf, byValue, tripleFor, Narrow, withTriple}
+use Rattle.sheets.specs.ProofSheet.{scaleOf, vOf, wOf, wordsAt, tripleOf, weightsOf, rowOf, rowsOf, byValue, tripleFor, Narrow, withTriple}
 use Rattle.sheets.specs.declared.proof_sheet.Row.{Row}
 use Rattle.sheets.specs.declared.proof_sheet.Triple.{Triple}
 
@@ -95,6 +96,17 @@ triple-written out o₁ o₂ o₃ at x p q r e₁ e₂ e₃ ep eq er = e₃ ∙ 
 
 pub narrow-here : (a : Weights) (x : Triple) → x ≡ tripleFor a → Narrow (tripleFor a) → Narrow x
 narrow-here a x e h = rw e h
+
+-- a scale and a row's numbers have 32 bits
+pub scale-bound : (s : List ℕ) → Bytes s → scaleOf s < 4294967296
+unfolding scaleOf
+scale-bound s b = u32-bound s 4 b
+
+pub triple-narrow : (s : List ℕ) (n k i : ℕ) → Bytes s → Narrow (tripleOf s n k i)
+unfolding tripleOf wordsAt
+triple-narrow s n k i b =
+    let at = tripleAt n k i in
+    record { p-fits = i32-fits s at b; q-fits = i32-fits s (at + 4) b; r-fits = i32-fits s (at + 8) b }
 
 -- the three numbers of a row, where they stand
 module _ (s : List ℕ) (n k i at : ℕ) (e : at ≡ tripleAt n k i) where

@@ -1,0 +1,227 @@
+-- Laws of evaluation: what a value that is given is, when one is given, and the ways through the code.
+use mathlib.Core.Path.{_≡_, refl, sym, _∙_, ap, subst}
+use mathlib.Core.Bool.{Bool, true, false, not, cond}
+use mathlib.Core.List.{List, [], _∷_}
+use Prim.Native.Nat.{ℕ, suc, _+_, _*_, _^_, _<_, _≤_}
+use native.Mathlib.Numerals.{add-one}
+use native.Mathlib.Omega.{arith}
+use lib.Dec.{eqb}
+use lib.IntN.{ℤ, pos, natAbs, _+ℤ_, _*ℤ_}
+use lib.ListN.{length}
+use mir.Syntax.{w64}
+use mir.Val.{SFits, toZ, ofZ}
+use mir.Facts.{toZ-ofZ}
+use borrow.Author.Tests.{eq-eqb, ne-eqb, eqb-true, not-false}
+use Rattle.integers.proofs.Integers.{abs-add, fits-within}
+use Rattle.monomials.specs.Lists.{table}
+use Rattle.monomials.specs.Points.{exponents, pointOf}
+use Rattle.monomials.specs.Powers.{monomialOf, Says, within}
+use Rattle.monomials.specs.Sums.{value, valueAt}
+use Rattle.monomials.specs.declared.points.Point.{Point}
+use Rattle.monomials.specs.declared.powers.Bounded.{Bounded}
+use Rattle.monomials.specs.declared.powers.Bounded.the-variants.{TooLarge, Value as Exact}
+use Rattle.monomials.proofs.Lists.{table-none, table-more}
+use Rattle.monomials.proofs.Sums.{value-nil, value-one, value-append}
+use Rattle.monomials.proofs.points.Laws.{exponents-of}
+use Rattle.monomials.proofs.powers.Laws.{within-says}
+use Rattle.sheets.specs.Layout.{variables, termCount, ClaimRoom}
+use Rattle.sheets.specs.ClaimSheet.{termPoint, coefficientOf, termOf, termsOf}
+use Rattle.sheets.proofs.claim_sheet.Laws.{terms-table, term-point, term-coefficient}
+use Rattle.checks.specs.Answers.{Answer, accepted, says, refuseIf, blameless, Passes}
+use Rattle.checks.specs.ClaimChecks.{claimAnswer}
+use Rattle.checks.specs.Searches.{first}
+use Rattle.checks.specs.declared.answers.Sheet.{Sheet}
+use Rattle.checks.specs.declared.answers.Sheet.the-variants.{Claim, Offsets}
+use Rattle.checks.specs.declared.answers.Verdict.{Verdict}
+use Rattle.checks.specs.declared.answers.Verdict.the-variants as Verdicts
+use Rattle.checks.specs.declared.searches.Found.the-variants.{At, Nothing}
+use Rattle.checks.proofs.answers.Laws.{passes-if, passes-at, passes-then, then-on, if-on, at-on, accepted-passes, failed, then-refused, passed, then-passed, refused-if, refused-at, large-says, offsets-says}
+use Rattle.checks.proofs.bounds.Laws.{over-bound, within-bound, bound-within}
+use Rattle.checks.proofs.searches.Laws.{first-at, first-on, first-nothing, nothing-first}
+use Rattle.checks.proofs.WellFormed.{claim-facts, claim-room}
+use Rattle.evaluation.specs.Evaluations as Spec
+use Rattle.evaluation.specs.Evaluations.{refusal, tells, toldBy, termValue, greatestTerm, large, largeAnswer, sumTo, summed, evaluationAnswer, evaluationOf, Evaluable, Evaluates}
+use Rattle.evaluation.specs.declared.evaluations.Evaluation.{Evaluation}
+use Rattle.evaluation.specs.declared.evaluations.Evaluation.the-variants.{Value, Refused}
+
+-- ---- what checks tell
+
+told-refused : (x : Sheet) (a : Answer) (z : ℤ) → says (Verdicts.Refused x) ≡ a → tells (Refused x) ≡ toldBy a z
+unfolding tells toldBy
+told-refused x a z e = rw (← e, failed (Verdicts.Refused x) _ refl x refl)
+
+told-value : (a : Answer) (z : ℤ) → Passes a → tells (Value z) ≡ toldBy a z
+unfolding tells toldBy
+told-value a z h = rw h
+
+-- a value is told only where every check is passed, and it is the one meant
+value-told : (a : Answer) (y z : ℤ) → toldBy a z ≡ Spec.value y → Passes a × (y ≡ z)
+unfolding toldBy
+value-told a y z h = go (blameless a) refl h
+  where
+    go : (b : Bool) → blameless a ≡ b → cond b (Spec.value z) (refusal a) ≡ Spec.value y → Passes a × (y ≡ z)
+    go true e k = (e, cc)
+    go false e k = let q : _≡_ {A = ℕ} 0 1 = cc in absurd (omega arith)
+
+-- ---- a value that is given, and when one is given
+
+pub value-given : (c : List ℕ) (x : List ℤ) (z : ℤ) → evaluationOf c x ≡ Spec.value z → z ≡ valueAt x (termsOf c)
+unfolding evaluationOf
+value-given c x z h = value-told _ z _ h .1
+
+evaluable : (c : List ℕ) (x : List ℤ) → Passes (evaluationAnswer c x) → Evaluable c x
+unfolding evaluationAnswer largeAnswer large
+evaluable c x h =
+    let p = passes-then _ _ h in
+    let q = passes-if _ 20 _ (p .1) in
+    let r = passes-at _ 21 _ (q .1) in
+    record {
+      formed = p .0;
+      counted = eqb-true _ _ (not-false _ (q .0));
+      small = λ i l. within-bound _ _ (first-nothing _ _ (r .0) i l);
+    }
+
+large-passes : (c : List ℕ) (n t : ℕ) (x : List ℤ) → ((i : ℕ) → i < t → natAbs (termValue c n t x i) ≤ greatestTerm)
+    → Passes (largeAnswer c n t x)
+unfolding largeAnswer large
+large-passes c n t x h =
+    let f = nothing-first (large c n t x) t (λ i l. bound-within _ _ (h i l)) in
+    rw (at-on _ 21 (accepted 0) (sym f)) (accepted-passes _ 0 refl)
+
+passes : (c : List ℕ) (x : List ℤ) → Evaluable c x → Passes (evaluationAnswer c x)
+unfolding evaluationAnswer
+passes c x e =
+    let large = largeAnswer c (variables c) (termCount c) x in
+    let m : not (eqb (length x) (variables c)) ≡ false = rw (eq-eqb _ _ (e .counted)) in
+    rw (then-on (claimAnswer c) (refuseIf (not (eqb (length x) (variables c))) 20 large) (e .formed), if-on _ 20 large m)
+    (large-passes c (variables c) (termCount c) x (e .small))
+
+-- only a value tells one
+value-only : (r : Evaluation) (z : ℤ) → tells r ≡ Spec.value z → r ≡ Value z
+unfolding tells
+value-only (Value y) z h = ap Value (cc)
+value-only (Refused sheet) z h = let q : _≡_ {A = ℕ} 0 1 = cc in absurd (omega arith)
+
+tells-value : (r : Evaluation) (z : ℤ) → r ≡ Value z → tells r ≡ Spec.value z
+unfolding tells
+tells-value r z h = rw h
+
+pub evaluates : (c : List ℕ) (x : List ℤ) (r : Evaluation) → tells r ≡ evaluationOf c x → Evaluates c x r
+unfolding evaluationOf
+evaluates c x r h = record {
+  given = λ e. value-only r _ (h ∙ sym (told-value _ _ (passes c x e)) ∙ tells-value (Value _) _ refl);
+  exact = λ z q. (let t = value-told _ z _ (sym h ∙ tells-value r z q) in (evaluable c x (t .0), t .1));
+}
+
+-- ---- the sum of the first terms
+
+sum-none : (c : List ℕ) (n t : ℕ) (x : List ℤ) → sumTo c n t x 0 ≡ pos 0
+unfolding sumTo
+sum-none c n t x = rw (table-none (termOf c n t)) (value-nil (monomialOf x))
+
+sum-more : (c : List ℕ) (n t : ℕ) (x : List ℤ) (i : ℕ) → sumTo c n t x (suc i) ≡ sumTo c n t x i +ℤ termValue c n t x i
+unfolding sumTo termValue
+sum-more c n t x i =
+    rw (table-more (termOf c n t) i, value-append (monomialOf x) (table (termOf c n t) i) (termOf c n t i ∷ []))
+    (ap (_+ℤ_ (valueAt x (table (termOf c n t) i)))
+    (value-one (monomialOf x) (termOf c n t i) ∙ rw (term-coefficient c n t i, term-point c n t i)))
+
+-- ---- the ways through the code; a prime marks a number as the machine reads it back
+
+-- term_value
+pub term-read : (c : List ℕ) (n t i : ℕ) (x : List ℤ) (z z′ : ℤ) (p : Point) (r : Bounded) → z ≡ coefficientOf c n t i
+    → p ≡ pointOf (termPoint c n i) → z′ ≡ z → r ≡ within (z′ *ℤ monomialOf x (exponents p))
+    → r ≡ within (termValue c n t x i)
+unfolding termValue
+term-read c n t i x z z′ p r ez ep back er = er ∙ rw (back, ez, ep, exponents-of (termPoint c n i))
+
+-- summed: the first i terms are within the limit, and so is their sum within i times the limit
+module _ (c : List ℕ) (n t : ℕ) (x : List ℤ) where
+  pub sum-start : 0 ≡ ofZ w64 (sumTo c n t x 0)
+  sum-start = rw (sum-none c n t x)
+
+  pub small-start : natAbs (sumTo c n t x 0) ≤ 0 * 2 ^ 56
+  small-start = rw (sum-none c n t x) (omega arith)
+
+  module _ (i : ℕ) (r : Bounded) (er : r ≡ within (termValue c n t x i)) where
+    pub large-here : i < t → first (large c n t x) i ≡ Nothing → r ≡ TooLarge → tells (Refused (Claim 21 i)) ≡ summed c n t x
+    unfolding summed largeAnswer large
+    large-here l none h =
+        let k : Says TooLarge (termValue c n t x i) = subst (λ b. Says b (termValue c n t x i)) (sym er ∙ h) (within-says _) in
+        let f = first-at (large c n t x) t i true l none (sym (over-bound _ _ k)) refl in
+        told-refused (Claim 21 i) _ _
+        (refused-at (Verdicts.Refused (Claim 21 i)) (At i) (first (large c n t x) t) 21 (accepted 0) f i refl (large-says i))
+
+    module _ (v : ℤ) (h : r ≡ Exact v) where
+      here : Says (Exact v) (termValue c n t x i)
+      here = subst (λ b. Says b (termValue c n t x i)) (sym er ∙ h) (within-says _)
+
+      pub none-more : first (large c n t x) i ≡ Nothing → first (large c n t x) (i + 1) ≡ Nothing
+      unfolding large
+      none-more none = first-on (large c n t x) i false none (sym (bound-within _ _ (here .1))) refl
+
+      module _ (small : natAbs (sumTo c n t x i) ≤ i * 2 ^ 56) where
+        pub small-more : natAbs (sumTo c n t x (i + 1)) ≤ (i + 1) * 2 ^ 56
+        small-more =
+            rw (add-one, sum-more c n t x i)
+            (omega (arith, here .1, abs-add (sumTo c n t x i) (termValue c n t x i)))
+
+        module _ (l : i < t) (room : ClaimRoom c n t) (sum : ℕ) (es : sum ≡ ofZ w64 (sumTo c n t x i)) (v′ : ℤ) (back : v′ ≡ v) where
+          added : toZ w64 sum +ℤ v′ ≡ sumTo c n t x (i + 1)
+          added =
+              let f : SFits w64 (sumTo c n t x i) = fits-within _ (i * 2 ^ 56) small (omega (arith, room .terms)) in
+              rw (es, toZ-ofZ f, back, here .0, add-one, sum-more c n t x i)
+
+          pub sum-fits : SFits w64 (toZ w64 sum +ℤ v′)
+          sum-fits = rw added (fits-within _ ((i + 1) * 2 ^ 56) small-more (omega (arith, room .terms)))
+
+          pub sum-next : ofZ w64 (toZ w64 sum +ℤ v′) ≡ ofZ w64 (sumTo c n t x (i + 1))
+          sum-next = ap (ofZ w64) added
+
+  pub summed-all : (i sum : ℕ) → t ≤ i → i ≤ t → ClaimRoom c n t → first (large c n t x) i ≡ Nothing
+      → natAbs (sumTo c n t x i) ≤ i * 2 ^ 56 → sum ≡ ofZ w64 (sumTo c n t x i)
+      → tells (Value (toZ w64 sum)) ≡ summed c n t x
+  unfolding summed largeAnswer
+  summed-all i sum l m room none small es =
+      let q : i ≡ t = omega arith in
+      let f : SFits w64 (sumTo c n t x i) = fits-within _ (i * 2 ^ 56) small (omega (arith, room .terms)) in
+      let e : toZ w64 sum ≡ sumTo c n t x t = rw (es, toZ-ofZ f, q) in
+      rw e
+      (told-value _ _ (rw (at-on (first (large c n t x) t) 21 (accepted 0) (rw q at none)) (accepted-passes _ 0 refl)))
+
+-- evaluate: v is the verdict on the claim
+module _ (c : List ℕ) (x : List ℤ) (v : Verdict) (e : says v ≡ claimAnswer c) where
+  pub claim-refused : (y : Sheet) → v ≡ Verdicts.Refused y → tells (Refused y) ≡ evaluationOf c x
+  unfolding evaluationOf evaluationAnswer
+  claim-refused y h = told-refused y _ _ (sym (ap says h) ∙ then-refused v (claimAnswer c) e y h _)
+
+  module _ (j : ℕ) (h : v ≡ Verdicts.Accepted j) where
+    pub claim-long : 8 ≤ length c
+    claim-long = omega (arith, claim-facts c (passed v _ e j h) .sized)
+
+    module _ (n : ℕ) (en : n ≡ variables c) where
+      pub offsets-refused : (length x ≡ n → ⊥) → tells (Refused (Offsets 20 0)) ≡ evaluationOf c x
+      unfolding evaluationOf evaluationAnswer
+      offsets-refused d =
+          let w : not (eqb (length x) (variables c)) ≡ true = rw (← en, ne-eqb _ _ d) in
+          told-refused (Offsets 20 0) _ _
+          (then-passed v (claimAnswer c) e j h (Verdicts.Refused (Offsets 20 0)) _
+          (refused-if (Verdicts.Refused (Offsets 20 0)) _ 20 _ w (offsets-says 0)))
+
+      module _ (t : ℕ) (et : t ≡ termCount c) where
+        pub terms-room : ClaimRoom c n t
+        terms-room = rw (en, et) (claim-room c _ _ (claim-facts c (passed v _ e j h)))
+
+        pub all-summed : (r : Evaluation) → length x ≡ n → tells r ≡ summed c n t x → tells r ≡ evaluationOf c x
+        unfolding evaluationOf evaluationAnswer summed sumTo
+        all-summed r d er =
+            let w : not (eqb (length x) (variables c)) ≡ false = rw (← en, eq-eqb _ _ d) in
+            let large = largeAnswer c (variables c) (termCount c) x in
+            rw (
+              then-on (claimAnswer c) (refuseIf (not (eqb (length x) (variables c))) 20 large) (passed v _ e j h),
+              if-on _ 20 large w,
+              ← terms-table c n t en et,
+              ← en,
+              ← et,
+            )
+            er

@@ -1,0 +1,45 @@
+use Rattle.evaluation.proofs.evaluations.Laws.{evaluates, claim-refused, claim-long, offsets-refused, terms-room, all-summed}
+use borrow.Author.Needs.{needs}
+use Rattle.evaluation.proofs.evaluations.evaluate.Statement.{statement}
+use Rattle.evaluation.proofs.evaluations.evaluate.Tie as tie
+
+check-claim-requires : tie.Need-check-claim-requires
+check-claim-requires c κs = search needs
+
+enum-known-sheet : tie.Need-enum-known-sheet
+enum-known-sheet c = search needs
+
+returns : tie.Need-returns
+returns c = search (claim-refused, evaluates)
+
+enum-told : tie.Need-enum-told
+enum-told c = search needs
+
+variables-requires : tie.Need-variables-requires
+variables-requires c κs = search claim-long
+
+returns-2 : tie.Need-returns-2
+returns-2 c = search (offsets-refused, evaluates)
+
+term-count-requires : tie.Need-term-count-requires
+term-count-requires c κs = search claim-long
+
+summed-requires : tie.Need-summed-requires
+summed-requires c κs = search terms-room
+
+returns-3 : tie.Need-returns-3
+returns-3 c = search (all-summed, evaluates)
+
+pub evaluate-spec : {M : Type 1} → statement M
+evaluate-spec =
+    tie.close
+    (tie.spec
+    check-claim-requires
+    enum-known-sheet
+    returns
+    enum-told
+    variables-requires
+    returns-2
+    term-count-requires
+    summed-requires
+    returns-3)

@@ -1,0 +1,67 @@
+use borrow.Author.Needs.{needs}
+use Prim.Native.Nat.{_*_, _-_, _^_, _≤_}
+use mathlib.Core.Path.{_≡_}
+use lib.IntN.{natAbs}
+use mir.Syntax.{w64}
+use mir.Val.{ofZ}
+use mir.Facts.{toZ-ofZ}
+use Rattle.checks.specs.Searches.{first}
+use Rattle.checks.specs.declared.searches.Found.the-variants.{Nothing}
+use Rattle.checks.proofs.searches.Laws.{first-none}
+use Rattle.evaluation.specs.Evaluations.{large, sumTo}
+use Rattle.evaluation.proofs.evaluations.Laws.{sum-start, small-start, large-here, none-more, small-more, sum-fits, sum-next, summed-all}
+use Rattle.evaluation.proofs.evaluations.summed.Statement.{statement}
+use Rattle.evaluation.proofs.evaluations.summed.Tie as tie
+
+abbrev Inv-loop : tie.InvT-loop
+Inv-loop claim n t offsets sum₀ i₀ sum i = (i ≤ t) × (first (large claim n t offsets) i ≡ Nothing) × (natAbs (sumTo claim n t offsets i) ≤ i * 2 ^ 56) × (sum ≡ ofZ w64 (sumTo claim n t offsets i))
+
+abbrev μ-loop : tie.MeasureT-loop
+μ-loop claim n t offsets sum₀ i₀ sum i = t - i
+
+loop-holds : tie.Need-loop-holds Inv-loop μ-loop
+loop-holds c = (search needs, search first-none, search small-start, search sum-start)
+
+term-value-requires : tie.Need-term-value-requires Inv-loop μ-loop
+term-value-requires c κs = search needs
+
+enum-known-v : tie.Need-enum-known-v Inv-loop μ-loop
+enum-known-v c = search needs
+
+enum-told : tie.Need-enum-told Inv-loop μ-loop
+enum-told c = search needs
+
+returns : tie.Need-returns Inv-loop μ-loop
+returns c = search large-here
+
+add-sum : tie.Need-add-sum Inv-loop μ-loop
+add-sum c = search (sum-fits, toZ-ofZ)
+
+add-i : tie.Need-add-i Inv-loop μ-loop
+add-i c = search needs
+
+loop-less : tie.Need-loop-less Inv-loop μ-loop
+loop-less c = search needs
+
+loop-again : tie.Need-loop-again Inv-loop μ-loop
+loop-again c = (search needs, search none-more, search small-more, search (sum-next, toZ-ofZ))
+
+returns-2 : tie.Need-returns-2 Inv-loop μ-loop
+returns-2 c = search summed-all
+
+pub summed-spec : {M : Type 1} → statement M
+summed-spec =
+    tie.close
+    (tie.spec
+    Inv-loop
+    μ-loop
+    loop-holds
+    term-value-requires
+    enum-known-v
+    enum-told
+    returns
+    add-sum
+    add-i
+    loop-less
+    loop-again
+    returns-2)

@@ -1,0 +1,84 @@
+-- Evaluation of a claim's polynomial at offsets: the exact value, or one of the refusals 1 to 7, 20 and 21.
+use mathlib.Core.Path.{_≡_}
+use mathlib.Core.Bool.{Bool, not, cond}
+use mathlib.Core.List.{List}
+use Prim.Native.Nat.{ℕ, _^_, _<_, _≤_}
+use lib.Dec.{eqb}
+use lib.IntN.{ℤ, natAbs, _*ℤ_}
+use lib.ListN.{length}
+use Rattle.monomials.specs.Lists.{table}
+use Rattle.monomials.specs.Powers.{monomialOf}
+use Rattle.monomials.specs.Sums.{valueAt}
+use Rattle.sheets.specs.Layout.{variables, termCount}
+use Rattle.sheets.specs.ClaimSheet.{termPoint, coefficientOf, termOf, termsOf}
+use Rattle.checks.specs.Answers.{Answer, accepted, says, refuseIf, refuseAt, blameless, andThen, Passes}
+use Rattle.checks.specs.Bounds.{beyond}
+use Rattle.checks.specs.ClaimChecks.{claimAnswer}
+use Rattle.checks.specs.Searches.{first}
+use Rattle.checks.specs.declared.answers.Verdict.the-variants as Verdicts
+use Rattle.evaluation.specs.declared.evaluations.Evaluation.{Evaluation}
+use Rattle.evaluation.specs.declared.evaluations.Evaluation.the-variants.{Value, Refused}
+
+-- a value, or a refusal with its number, the sheet at fault and its index
+pub data Told : Type 0 where
+  value : ℤ → Told
+  refusal : Answer → Told
+
+-- what each evaluation tells
+unfoldable pub tells : Evaluation → Told
+tells (Value z) = value z
+tells (Refused sheet) = refusal (says (Verdicts.Refused sheet))
+
+-- what checks that have this answer tell: the value where all are passed
+unfoldable pub toldBy : Answer → ℤ → Told
+toldBy answer z = cond (blameless answer) (value z) (refusal answer)
+
+-- ---- terms
+
+-- "coefficient times monomial": term i at the offsets, in a claim of n variables and t terms
+unfoldable pub termValue : List ℕ → ℕ → ℕ → List ℤ → ℕ → ℤ
+termValue c n t x i = coefficientOf c n t i *ℤ monomialOf x (termPoint c n i)
+
+-- "at most 2^56"
+abbrev pub greatestTerm : ℕ
+greatestTerm = 2 ^ 56
+
+-- 21: "a term over 2^56", and the first such term
+unfoldable pub large : List ℕ → ℕ → ℕ → List ℤ → ℕ → Bool
+large c n t x i = beyond greatestTerm (termValue c n t x i)
+
+unfoldable pub largeAnswer : List ℕ → ℕ → ℕ → List ℤ → Answer
+largeAnswer c n t x = refuseAt (first (large c n t x) t) 21 (accepted 0)
+
+-- the sum of the first i terms
+unfoldable pub sumTo : List ℕ → ℕ → ℕ → List ℤ → ℕ → ℤ
+sumTo c n t x i = valueAt x (table (termOf c n t) i)
+
+unfoldable pub summed : List ℕ → ℕ → ℕ → List ℤ → Told
+summed c n t x = toldBy (largeAnswer c n t x) (sumTo c n t x t)
+
+-- ---- evaluation
+
+-- "An evaluation uses 1 to 7, then 20 and 21"; 20: "count of offsets not n"
+unfoldable pub evaluationAnswer : List ℕ → List ℤ → Answer
+evaluationAnswer c x =
+    andThen (claimAnswer c)
+    (refuseIf (not (eqb (length x) (variables c))) 20
+    (largeAnswer c (variables c) (termCount c) x))
+
+unfoldable pub evaluationOf : List ℕ → List ℤ → Told
+evaluationOf c x = toldBy (evaluationAnswer c x) (valueAt x (termsOf c))
+
+-- ---- its promise
+
+-- "Offsets are n signed 32-bit numbers", for a claim that passes its checks, with "every term's exact absolute value .. at
+-- most 2^56"
+pub record Evaluable (c : List ℕ) (x : List ℤ) : Type 0 where
+  pub formed : Passes (claimAnswer c)
+  pub counted : length x ≡ variables c
+  pub small : (i : ℕ) → i < termCount c → natAbs (termValue c (variables c) (termCount c) x i) ≤ greatestTerm
+
+-- "The exact value of f is given if every term's exact absolute value is at most 2^56", and only then
+pub record Evaluates (c : List ℕ) (x : List ℤ) (r : Evaluation) : Type 0 where
+  pub given : Evaluable c x → r ≡ Value (valueAt x (termsOf c))
+  pub exact : (z : ℤ) → r ≡ Value z → Evaluable c x × (z ≡ valueAt x (termsOf c))

@@ -1,0 +1,2 @@
+pub mod Evaluations
+pub mod Cases

@@ -1,0 +1,254 @@
+-- Laws of reports: how long they are, what they are for a verdict, and the ways through the code.
+use mathlib.Core.Path.{_≡_, refl, sym, _∙_}
+use mathlib.Core.Bool.{Bool, true, false, _&&_, and-eq-true-iff}
+use mathlib.Core.List.{List, [], _∷_}
+use Prim.Native.Nat.{ℕ, zero, suc, _+_, _-_, _*_, _^_, _<_, _≤_}
+use native.Mathlib.Numerals.{add-one}
+use native.Mathlib.Omega.{arith}
+use lib.Dec.{leb}
+use lib.IntN.{ℤ}
+use lib.ListN.{length, length-append}
+use mir.Syntax.{w32, w64}
+use mir.Val.{Fits, SFits}
+use borrow.Author.Tests.{le-leb, lt-leb, leb-true}
+use Rattle.integers.proofs.Integers.{ints, sizes}
+use Rattle.integers.proofs.words.Laws.{Bytes}
+use Rattle.sheets.specs.Layout.{variables, place, ProofRoom}
+use Rattle.sheets.specs.ClaimSheet.{floorOf}
+use Rattle.sheets.specs.ProofSheet.{scaleOf, tripleOf}
+use Rattle.sheets.specs.declared.proof_sheet.Triple.{Triple}
+use Rattle.checks.specs.Answers.{says}
+use Rattle.checks.specs.declared.answers.Sheet.{Sheet}
+use Rattle.checks.specs.declared.answers.Verdict.{Verdict}
+use Rattle.checks.specs.declared.answers.Verdict.the-variants.{Accepted, Refused}
+use Rattle.sheets.proofs.claim_sheet.Laws.{floor-fits}
+use Rattle.sheets.proofs.proof_sheet.Laws.{scale-bound, triple-narrow}
+use Rattle.checks.proofs.answers.Laws.{failed, passed, accepted-value}
+use Rattle.report.specs.Text.{ascii, natural, integer, counted, numbered, Room, Written}
+use Rattle.report.specs.Lines.{scaleText, acceptedLine, laterText, weightsText, rowLine, refusedLine}
+use Rattle.report.specs.Reports.{ended, rowText, rowsText, firstText, acceptedText, refusedText, carries, reportText}
+use Rattle.report.proofs.text.Laws.{natural-short, integer-short, room-first, room-then, written-then}
+
+-- ---- how long they are: numbers of 32 bits and at most 256 rows
+
+counted-short : (label : List ℕ) (k n : ℕ) → n < 10 ^ suc k → length (counted label n) ≤ length label + suc k
+unfolding counted
+counted-short label k n h = rw (length-append label (natural n)) (omega (arith, natural-short k n h))
+
+word-short : (label : List ℕ) (z : ℤ) → SFits w32 z → length (numbered label z) ≤ length label + 11
+unfolding numbered
+word-short label z f = rw (length-append label (integer z)) (omega (ints, integer-short 9 z (omega (ints, sizes z))))
+
+first-short : (c s : List ℕ) (k : ℕ) → Bytes c → Bytes s → k ≤ 256 → length (firstText c s k) ≤ 53
+unfolding firstText ended acceptedLine scaleText
+first-short c s k bc bs h =
+    simp length-append
+    (omega (
+      arith,
+      counted-short (ascii "accepted rows ") 2 k (omega arith),
+      counted-short (ascii " scale ") 9 (scaleOf s) (omega (arith, scale-bound s bs)),
+      word-short (ascii " floor ") (floorOf c) (floor-fits c bc),
+    ))
+
+row-short : (s : List ℕ) (n k i : ℕ) → Bytes s → i < 256 → length (rowText s n k i) ≤ 50
+unfolding rowText ended rowLine weightsText laterText
+row-short s n k i b h =
+    let x = tripleOf s n k i in
+    let f = triple-narrow s n k i b in
+    simp length-append
+    (omega (
+      arith,
+      counted-short (ascii "row ") 2 i (omega arith),
+      word-short (ascii " p ") (x .p) (f .p-fits),
+      word-short (ascii " q ") (x .q) (f .q-fits),
+      word-short (ascii " r ") (x .r) (f .r-fits),
+    ))
+
+rows-short : (s : List ℕ) (n k i : ℕ) → Bytes s → i ≤ 256 → length (rowsText s n k i) ≤ i * 50
+unfolding rowsText
+rows-short s n k zero b h = omega arith
+rows-short s n k (suc i) b h =
+    rw (length-append (rowsText s n k i) (rowText s n k i))
+    (omega (arith, rows-short s n k i b (omega arith), row-short s n k i b h))
+
+refused-short : (number index : ℕ) → number < 10 ^ 10 → index < 10 ^ 20 → length (refusedText number index) ≤ 43
+unfolding refusedText ended refusedLine
+refused-short number index h l =
+    simp length-append (omega (arith, counted-short (ascii "refused ") 9 number h, counted-short (ascii " at ") 19 index l))
+
+-- ---- a row's line: x is the triple that was read
+
+module _ (s l : List ℕ) (n k i at : ℕ) (x : Triple) (e : x ≡ tripleOf s n k i) where
+  pub row-room : Room l at (rowText s n k i) → Room l at (rowLine i x)
+  unfolding rowText ended
+  row-room r = rw e (room-first _ _ r)
+
+  module _ (m : List ℕ) (mid : ℕ) (w : Written l at (rowLine i x) m mid) where
+    pub row-feed : Room l at (rowText s n k i) → Room m mid (10 ∷ [])
+    unfolding rowText ended
+    row-feed r = room-then _ _ r (rw e at w)
+
+    pub row-written : (o : List ℕ) (end : ℕ) → Written m mid (10 ∷ []) o end → Written l at (rowText s n k i) o end
+    unfolding rowText ended
+    row-written o end u = written-then _ _ (rw e at w) u
+
+-- ---- the lines of all rows: mid is where those of the first i end
+
+module _ (s l : List ℕ) (n k at : ℕ) where
+  pub rows-none : Room l at (rowsText s n k k) → Written l at (rowsText s n k 0) l at
+  unfolding rowsText
+  rows-none r = record { bytes = refl; ends = omega arith; kept = refl; inside = omega (arith, r .room) }
+
+  rows-grow : (i d : ℕ) → length (rowsText s n k i) ≤ length (rowsText s n k (i + d))
+  unfolding rowsText
+  rows-grow i zero = let e : i + 0 ≡ i = omega arith in rw e (omega arith)
+  rows-grow i (suc d) =
+      let e : i + suc d ≡ suc (i + d) = omega arith in
+      rw (e, length-append (rowsText s n k (i + d)) (rowText s n k (i + d))) (omega (arith, rows-grow i d))
+
+  module _ (i mid : ℕ) (m : List ℕ) (w : Written l at (rowsText s n k i) m mid) where
+    pub next-room : Room l at (rowsText s n k k) → i < k → Room m mid (rowText s n k i)
+    unfolding rowsText
+    next-room r h =
+        let e : suc i + (k - suc i) ≡ k = omega arith in
+        let g : length (rowsText s n k (suc i)) ≤ length (rowsText s n k k) = rw e at (rows-grow (suc i) (k - suc i)) in
+        room-then (rowsText s n k i) (rowText s n k i) (record { room = omega (arith, r .room) }) w
+
+    pub rows-more : (o : List ℕ) (end : ℕ) → Written m mid (rowText s n k i) o end → Written l at (rowsText s n k (i + 1)) o end
+    unfolding rowsText
+    rows-more o end u = rw add-one (written-then (rowsText s n k i) (rowText s n k i) w u)
+
+    pub rows-all : k ≤ i → i ≤ k → Written l at (rowsText s n k k) m mid
+    rows-all h g = let e : i ≡ k = omega arith in rw e at w
+
+-- ---- an acceptance: a prime marks a number as the machine reads it back
+
+module _ (c s l : List ℕ) (k at scale : ℕ) (floor floor′ : ℤ) (es : scale ≡ scaleOf s) (ef : floor ≡ floorOf c)
+    (back : floor′ ≡ floor) where
+  pub first-room : Room l at (firstText c s k) → Room l at (acceptedLine k scale floor′)
+  unfolding firstText ended
+  first-room r = rw (back, ef, es) (room-first _ _ r)
+
+  module _ (m : List ℕ) (mid : ℕ) (w : Written l at (acceptedLine k scale floor′) m mid) where
+    pub first-feed : Room l at (firstText c s k) → Room m mid (10 ∷ [])
+    unfolding firstText ended
+    first-feed r = room-then _ _ r (rw (back, ef, es) at w)
+
+    pub first-written : (o : List ℕ) (end : ℕ) → Written m mid (10 ∷ []) o end → Written l at (firstText c s k) o end
+    unfolding firstText ended
+    first-written o end u = written-then _ _ (rw (back, ef, es) at w) u
+
+-- ---- sheets that carry an acceptance
+
+module _ (c s : List ℕ) (k : ℕ) where
+  pub no-claim : length c < 8 → false ≡ carries c s k
+  unfolding carries
+  no-claim h = rw (lt-leb 8 (length c) h)
+
+  module _ (p : 8 ≤ length c) where
+    pub no-proof : length s < 8 → false ≡ carries c s k
+    unfolding carries
+    no-proof h = rw (le-leb 8 (length c) p, lt-leb 8 (length s) h)
+
+    module _ (q : 8 ≤ length s) (n : ℕ) (en : n ≡ variables s) where
+      long : leb 8 (length c) && leb 8 (length s) ≡ true
+      long = rw (le-leb 8 (length c) p, le-leb 8 (length s) q)
+
+      pub many-variables : 8 < n → false ≡ carries c s k
+      unfolding carries
+      many-variables h = rw (long, ← en, lt-leb n 8 h)
+
+      module _ (few : n ≤ 8) where
+        pub many-rows : 256 < k → false ≡ carries c s k
+        unfolding carries
+        many-rows h = rw (long, ← en, le-leb n 8 few, lt-leb k 256 h)
+
+        pub rows-carried : k ≤ 256 → (l : ℕ) → l ≡ place 8 k (2 * n + 12) → leb l (length s) ≡ carries c s k
+        unfolding carries
+        rows-carried h l el = rw (long, ← en, le-leb n 8 few, le-leb k 256 h, el)
+
+-- what such sheets have
+record Enough (c s : List ℕ) (k : ℕ) : Type 0 where
+  claim : 8 ≤ length c
+  proof : 8 ≤ length s
+  rows : ProofRoom s (variables s) k
+
+enough : (c s : List ℕ) (k : ℕ) → carries c s k ≡ true → Enough c s k
+unfolding carries
+enough c s k h =
+    let p = and-eq-true-iff _ _ .0 h in
+    let q = and-eq-true-iff _ _ .0 (p .0) in
+    let r = and-eq-true-iff _ _ .0 (q .0) in
+    let t = and-eq-true-iff _ _ .0 (r .0) in
+    record {
+      claim = leb-true _ _ (t .0);
+      proof = leb-true _ _ (t .1);
+      rows = record { few = leb-true _ _ (r .1); rows = leb-true _ _ (q .1); long = leb-true _ _ (p .1) };
+    }
+
+-- and that is enough
+pub carries-enough : (c s : List ℕ) (k : ℕ) → 8 ≤ length c → ProofRoom s (variables s) k → carries c s k ≡ true
+unfolding carries
+carries-enough c s k h r =
+    rw (le-leb 8 (length c) h, le-leb 8 (length s) (omega (arith, r .long)), le-leb _ _ (r .few), le-leb _ _ (r .rows), le-leb _ _ (r .long))
+
+module _ (c s : List ℕ) (k : ℕ) (h : carries c s k ≡ true) where
+  pub claim-carried : 8 ≤ length c
+  claim-carried = enough c s k h .claim
+
+  pub proof-carried : 8 ≤ length s
+  proof-carried = enough c s k h .proof
+
+  pub room-carried : (n : ℕ) → n ≡ variables s → ProofRoom s n k
+  room-carried n e = rw e (enough c s k h .rows)
+
+-- accepted_text
+module _ (c s l m : List ℕ) (k at mid : ℕ) (w : Written l at (firstText c s k) m mid) (n : ℕ) (e : n ≡ variables s) where
+  pub rows-after : Room l at (acceptedText c s k) → Room m mid (rowsText s n k k)
+  unfolding acceptedText
+  rows-after r = rw e (room-then (firstText c s k) (rowsText s (variables s) k k) r w)
+
+  pub accepted-written : (o : List ℕ) (end : ℕ) → Written m mid (rowsText s n k k) o end → Written l at (acceptedText c s k) o end
+  unfolding acceptedText
+  accepted-written o end u = written-then (firstText c s k) (rowsText s (variables s) k k) w (rw e at u)
+
+-- ---- the report of a verdict
+
+module _ (c s l o : List ℕ) (v : Verdict) (end : ℕ) where
+  pub refused-report : (x : Sheet) (number index : ℕ) → v ≡ Refused x → number ≡ says v .number → index ≡ says v .value
+      → Written l 0 (refusedText number index) o end → Written l 0 (reportText c s (says v)) o end
+  unfolding reportText
+  refused-report x number index h en ei w = rw (failed v (says v) refl x h, ← en, ← ei) w
+
+-- b is whether the sheets carry it
+module _ (c s l : List ℕ) (k : ℕ) (b : Bool) (e : b ≡ carries c s k) where
+  pub carried : b ≡ true → carries c s k ≡ true
+  carried t = sym e ∙ t
+
+  module _ (v : Verdict) (h : v ≡ Accepted k) where
+    pub accepted-report : (o : List ℕ) (end : ℕ) → b ≡ true → Written l 0 (acceptedText c s k) o end
+        → Written l 0 (reportText c s (says v)) o end
+    unfolding reportText
+    accepted-report o end t w = rw (passed v (says v) refl k h, h, accepted-value k, ← e, t) w
+
+    pub empty-report : b ≡ false → Written l 0 (reportText c s (says v)) l 0
+    unfolding reportText
+    empty-report t =
+        rw (passed v (says v) refl k h, h, accepted-value k, ← e, t)
+        (record { bytes = refl; ends = refl; kept = refl; inside = omega arith })
+
+-- it has room
+pub accepted-room : (c s l : List ℕ) (k : ℕ) (b : Bool) → Bytes c → Bytes s → b ≡ carries c s k → b ≡ true
+    → length l ≡ 12853 → Room l 0 (acceptedText c s k)
+unfolding acceptedText
+accepted-room c s l k b bc bs eb t e =
+    let few = enough c s k (sym eb ∙ t) .rows .rows in
+    record {
+      room = rw (length-append (firstText c s k) (rowsText s (variables s) k k))
+          (omega (arith, first-short c s k bc bs few, rows-short s (variables s) k k bs few));
+    }
+
+pub refused-room : (l : List ℕ) (number index : ℕ) → Fits w32 number → Fits w64 index → length l ≡ 12853
+    → Room l 0 (refusedText number index)
+refused-room l number index f g e =
+    record { room = omega (arith, refused-short number index (omega (arith, f .fits)) (omega (arith, g .fits))) }

@@ -1,0 +1,27 @@
+use borrow.Author.Needs.{needs}
+use Rattle.report.specs.Reports.{acceptedText}
+use Rattle.report.proofs.text.Laws.{room-first}
+use Rattle.report.proofs.reports.Laws.{claim-carried, proof-carried, room-carried, rows-after, accepted-written}
+use Rattle.report.proofs.reports.accepted_text.Statement.{statement}
+use Rattle.report.proofs.reports.accepted_text.Tie as tie
+
+first-text-requires : tie.Need-first-text-requires
+unfolding acceptedText
+first-text-requires c κs = (search claim-carried, search proof-carried, search room-first)
+
+variables-requires : tie.Need-variables-requires
+variables-requires c κs = search proof-carried
+
+rows-text-requires : tie.Need-rows-text-requires
+rows-text-requires c κs = (search room-carried, search rows-after)
+
+same-length : tie.Need-same-length
+same-length c = search needs
+
+returns : tie.Need-returns
+returns c = search accepted-written
+
+pub accepted-text-spec : {M : Type 1} → statement M
+accepted-text-spec =
+    tie.close
+    (tie.spec first-text-requires variables-requires rows-text-requires same-length returns)

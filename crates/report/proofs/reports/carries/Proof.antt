@@ -1,0 +1,45 @@
+use Rattle.report.proofs.reports.Laws.{no-claim, no-proof, many-variables, many-rows, rows-carried}
+use borrow.Author.Needs.{needs}
+use Rattle.report.proofs.reports.carries.Statement.{statement}
+use Rattle.report.proofs.reports.carries.Tie as tie
+
+returns : tie.Need-returns
+returns c = search no-claim
+
+returns-2 : tie.Need-returns-2
+returns-2 c = search no-proof
+
+variables-requires : tie.Need-variables-requires
+variables-requires c κs = search needs
+
+returns-3 : tie.Need-returns-3
+returns-3 c = search many-variables
+
+returns-4 : tie.Need-returns-4
+returns-4 c = search many-rows
+
+mul-place-of : tie.Need-mul-place-of
+mul-place-of c = search needs
+
+add-place-of : tie.Need-add-place-of
+add-place-of c = search needs
+
+place-of-requires : tie.Need-place-of-requires
+place-of-requires c κs = search needs
+
+returns-5 : tie.Need-returns-5
+returns-5 c = search rows-carried
+
+pub carries-spec : {M : Type 1} → statement M
+carries-spec =
+    tie.close
+    (tie.spec
+    returns
+    returns-2
+    variables-requires
+    returns-3
+    returns-4
+    mul-place-of
+    add-place-of
+    place-of-requires
+    returns-5)

@@ -1,0 +1,34 @@
+use mir.Facts.{toZ-ofZ}
+use Rattle.report.proofs.reports.Laws.{first-room, first-feed, first-written}
+use borrow.Author.Needs.{needs}
+use Rattle.report.proofs.reports.first_text.Statement.{statement}
+use Rattle.report.proofs.reports.first_text.Tie as tie
+
+scale-requires : tie.Need-scale-requires
+scale-requires c κs = search needs
+
+floor-requires : tie.Need-floor-requires
+floor-requires c κs = search needs
+
+accepted-line-requires : tie.Need-accepted-line-requires
+accepted-line-requires c κs = search (first-room, toZ-ofZ)
+
+put-byte-requires : tie.Need-put-byte-requires
+put-byte-requires c κs = search (first-feed, toZ-ofZ)
+
+same-length : tie.Need-same-length
+same-length c = search needs
+
+returns : tie.Need-returns
+returns c = search (first-written, toZ-ofZ)
+
+pub first-text-spec : {M : Type 1} → statement M
+first-text-spec =
+    tie.close
+    (tie.spec
+    scale-requires
+    floor-requires
+    accepted-line-requires
+    put-byte-requires
+    same-length
+    returns)

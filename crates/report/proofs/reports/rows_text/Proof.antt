@@ -1,0 +1,48 @@
+use borrow.Author.Needs.{needs}
+use Prim.Native.Nat.{_-_, _≤_}
+use Rattle.report.specs.Text.{Written}
+use Rattle.report.specs.Reports.{rowsText}
+use Rattle.report.proofs.reports.Laws.{rows-none, next-room, rows-more, rows-all}
+use Rattle.report.proofs.reports.rows_text.Statement.{statement}
+use Rattle.report.proofs.reports.rows_text.Tie as tie
+
+abbrev Inv-loop : tie.InvT-loop
+Inv-loop proof n k out₀ at end₀ i₀ out end i = (i ≤ k) × (Written out₀ at (rowsText proof n k i) out end)
+
+abbrev μ-loop : tie.MeasureT-loop
+μ-loop proof n k out₀ at end₀ i₀ out end i = k - i
+
+loop-holds : tie.Need-loop-holds Inv-loop μ-loop
+loop-holds c = search (needs, rows-none)
+
+row-text-requires : tie.Need-row-text-requires Inv-loop μ-loop
+row-text-requires c κs = search (needs, next-room)
+
+add-i : tie.Need-add-i Inv-loop μ-loop
+add-i c = search needs
+
+loop-less : tie.Need-loop-less Inv-loop μ-loop
+loop-less c = search needs
+
+loop-again : tie.Need-loop-again Inv-loop μ-loop
+loop-again c = search (needs, rows-more)
+
+same-length : tie.Need-same-length Inv-loop μ-loop
+same-length c = search needs
+
+returns : tie.Need-returns Inv-loop μ-loop
+returns c = search rows-all
+
+pub rows-text-spec : {M : Type 1} → statement M
+rows-text-spec =
+    tie.close
+    (tie.spec
+    Inv-loop
+    μ-loop
+    loop-holds
+    row-text-requires
+    add-i
+    loop-less
+    loop-again
+    same-length
+    returns)

@@ -1,0 +1,49 @@
+-- Reports: what the program prints for a verdict on a claim, with its exact proof where it is accepted.
+use mathlib.Core.Bool.{Bool, cond, _&&_}
+use mathlib.Core.List.{List, [], _++_}
+use Prim.Native.Nat.{ℕ, zero, suc}
+use lib.Dec.{leb}
+use lib.ListN.{length}
+use Rattle.sheets.specs.Layout.{variables, proofLength}
+use Rattle.sheets.specs.ClaimSheet.{floorOf}
+use Rattle.sheets.specs.ProofSheet.{scaleOf, tripleOf}
+use Rattle.checks.specs.Answers.{Answer, blameless}
+use Rattle.checks.specs.Bounds.{greatestRows}
+use Rattle.report.specs.Text.{ascii}
+use Rattle.report.specs.Lines.{acceptedLine, rowLine, refusedLine}
+
+-- "Every line ends with a line feed."
+unfoldable pub ended : List ℕ → List ℕ
+ended line = line ++ ascii "\n"
+
+-- row i of a proof of n variables and k rows, and the first i rows
+unfoldable pub rowText : List ℕ → ℕ → ℕ → ℕ → List ℕ
+rowText s n k i = ended (rowLine i (tripleOf s n k i))
+
+unfoldable pub rowsText : List ℕ → ℕ → ℕ → ℕ → List ℕ
+rowsText s n k zero = []
+rowsText s n k (suc i) = rowsText s n k i ++ rowText s n k i
+
+-- an acceptance of k rows: the first line, and all lines
+unfoldable pub firstText : List ℕ → List ℕ → ℕ → List ℕ
+firstText c s k = ended (acceptedLine k (scaleOf s) (floorOf c))
+
+unfoldable pub acceptedText : List ℕ → List ℕ → ℕ → List ℕ
+acceptedText c s k = firstText c s k ++ rowsText s (variables s) k k
+
+-- a refusal: its one line
+unfoldable pub refusedText : ℕ → ℕ → List ℕ
+refusedText number index = ended (refusedLine number index)
+
+-- the sheets have what an acceptance of k rows prints: a floor, a scale and k rows
+unfoldable pub carries : List ℕ → List ℕ → ℕ → Bool
+carries c s k =
+    leb 8 (length c) && leb 8 (length s) && leb (variables s) 8 && leb k greatestRows
+    && leb (proofLength (variables s) k) (length s)
+
+-- the report of what a verdict says; an acceptance that the sheets do not carry, which is no check's verdict, has none
+unfoldable pub reportText : List ℕ → List ℕ → Answer → List ℕ
+reportText c s answer =
+    cond (blameless answer)
+    (cond (carries c s (answer .value)) (acceptedText c s (answer .value)) [])
+    (refusedText (answer .number) (answer .value))
