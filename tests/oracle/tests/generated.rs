@@ -1,7 +1,7 @@
 //! The oracle against sheets made backwards, which say themselves what they must come to.
 
 use oracle::{check, evaluate, Refusal};
-use sheets::random::{Kind, Outcome, Plan, Rng, Shape};
+use sheets::random::{Expected, Kind, Plan, Rng, Shape};
 use sheets::MOST;
 
 #[test]
@@ -19,17 +19,17 @@ fn shifted_weights_are_the_planned_ones() {
 
 #[test]
 fn every_kind_comes_to_what_it_was_made_for() {
-    let number = |refusal: Option<Refusal>| refusal.map_or(0, |refusal| refusal.number);
+    let number_of = |refusal: Option<Refusal>| refusal.map_or(0, |refusal| refusal.number);
     for kind in Kind::all() {
         let mut rng = Rng::new(2);
         for _ in 0..200 {
             let case = kind.case(&mut rng);
-            let checked = number(check(&case.claim, &case.proof, case.room).err());
-            let evaluated = number(evaluate(&case.claim, &case.offsets).err());
-            match kind.outcome() {
-                Outcome::Check(expected) => assert_eq!(checked, expected, "{kind}"),
-                Outcome::Evaluation(expected) => assert_eq!(evaluated, expected, "{kind}"),
-                Outcome::Any => {}
+            let checked = number_of(check(&case.claim, &case.proof, case.room).err());
+            let evaluated = number_of(evaluate(&case.claim, &case.offsets).err());
+            match kind.expected() {
+                Expected::Check(number) => assert_eq!(checked, number, "{kind}"),
+                Expected::Evaluation(number) => assert_eq!(evaluated, number, "{kind}"),
+                Expected::Any => {}
             }
         }
     }

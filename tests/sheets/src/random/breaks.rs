@@ -77,17 +77,23 @@ fn beyond(rng: &mut Rng) -> i32 {
     rng.pick(&[least, -least, any, -any, i32::MAX, i32::MIN])
 }
 
-fn byte_within(rng: &mut Rng, range: RangeInclusive<i64>) -> u8 {
-    rng.within(range) as u8
+/// A number past the limit: the first of the range as often as any other.
+fn past(rng: &mut Rng, range: RangeInclusive<u16>) -> u16 {
+    let any = rng.within((*range.start()).into()..=(*range.end()).into()) as u16;
+    rng.pick(&[*range.start(), any])
+}
+
+fn past_byte(rng: &mut Rng, first: u8) -> u8 {
+    past(rng, first.into()..=255) as u8
 }
 
 fn spoil_claim_header(rng: &mut Rng, claim: &mut [u8]) {
     match rng.below(5) {
         0 => claim[0] = 0,
-        1 => claim[0] = byte_within(rng, 9..=255),
-        2 => claim[1] = byte_within(rng, 65..=255),
-        3 => claim[2] = byte_within(rng, 1..=255),
-        _ => claim[3] = byte_within(rng, 1..=255),
+        1 => claim[0] = past_byte(rng, 9),
+        2 => claim[1] = past_byte(rng, 65),
+        3 => claim[2] = past_byte(rng, 1),
+        _ => claim[3] = past_byte(rng, 1),
     }
 }
 
@@ -108,8 +114,7 @@ fn spoil_coefficient(rng: &mut Rng, claim: &mut [u8]) {
 }
 
 fn spoil_exponent(rng: &mut Rng, points: Range<usize>, sheet: &mut [u8]) {
-    let most = rng.pick(&[121, 255]);
-    sheet[points.start + rng.below(points.len())] = byte_within(rng, 121..=most);
+    sheet[points.start + rng.below(points.len())] = past_byte(rng, 121);
 }
 
 /// Makes a point equal to the one before it, or lower in one exponent.
@@ -122,12 +127,12 @@ fn spoil_order(rng: &mut Rng, claim: &mut [u8]) {
 }
 
 fn spoil_proof_header(rng: &mut Rng, proof: &mut [u8]) {
-    let rows = rng.within(257..=65_535) as u16;
+    let rows = past(rng, 257..=65_535);
     let scale = (1 << 20) + 1 + rng.below(1 << 20) as i32;
     match rng.below(6) {
         0 => proof[0] = proof[0] % 8 + 1,
-        1 => proof[0] = byte_within(rng, 9..=255),
-        2 => proof[1] = byte_within(rng, 1..=255),
+        1 => proof[0] = past_byte(rng, 9),
+        2 => proof[1] = past_byte(rng, 1),
         3 => proof[2..4].copy_from_slice(&rows.to_le_bytes()),
         4 => put_word(proof, 4, rng.pick(&[0, -1, i32::MIN])),
         _ => put_word(proof, 4, rng.pick(&[scale, (1 << 20) + 1])),

@@ -26,7 +26,7 @@ pub enum Kind {
 /// What a case must come to by the way it was made: a number of the table, 0 where it is accepted
 /// or a value is given.
 #[derive(Clone, Copy, Debug, PartialEq, Eq)]
-pub enum Outcome {
+pub enum Expected {
     Check(u32),
     Evaluation(u32),
     Any,
@@ -40,13 +40,13 @@ impl Kind {
         [Accepted, Extreme, Largest, Damaged, Noise].into_iter().chain(refused).collect()
     }
 
-    pub fn outcome(self) -> Outcome {
+    pub fn expected(self) -> Expected {
         match self {
-            Kind::Accepted | Kind::Extreme => Outcome::Check(0),
-            Kind::Largest => Outcome::Evaluation(0),
-            Kind::Refused(number @ (20 | 21)) => Outcome::Evaluation(number),
-            Kind::Refused(number) => Outcome::Check(number),
-            Kind::Damaged | Kind::Noise => Outcome::Any,
+            Kind::Accepted | Kind::Extreme => Expected::Check(0),
+            Kind::Largest => Expected::Evaluation(0),
+            Kind::Refused(number @ (20 | 21)) => Expected::Evaluation(number),
+            Kind::Refused(number) => Expected::Check(number),
+            Kind::Damaged | Kind::Noise => Expected::Any,
         }
     }
 
@@ -97,9 +97,9 @@ fn evaluated((claim, offsets): (Claim, Vec<i32>)) -> Case {
     Case { offsets, ..Case::new(&claim, &proof) }
 }
 
-/// Shapes at the limits once in four.
+/// Shapes at the limits once in eight.
 fn any_shape(rng: &mut Rng) -> Shape {
-    if rng.once_in(4) {
+    if rng.once_in(8) {
         Shape::extreme(rng)
     } else {
         Shape::random(rng)

@@ -9,6 +9,6 @@ mod offsets;
 mod plan;
 mod rng;
 
-pub use kinds::{Kind, Outcome};
+pub use kinds::{Expected, Kind};
 pub use plan::{Plan, Shape};
 pub use rng::Rng;

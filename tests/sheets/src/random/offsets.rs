@@ -11,7 +11,7 @@ pub fn offsets(rng: &mut Rng, count: usize) -> Vec<i32> {
     let mut offset = || match sort {
         0 | 1 => rng.pick(&[0, 1, -1]),
         2..=4 => rng.within(-9..=9) as i32,
-        5 => rng.next() as i32 >> rng.below(32),
+        5 => rng.bits() as i32 >> rng.below(32),
         6 => rng.pick(&[0, 1, -1, i32::MIN, i32::MAX, 2]),
         _ => rng.pick(&[1, 2, 3, -2, i32::MIN, i32::MAX]),
     };

@@ -13,6 +13,8 @@ pub struct Shape {
     pub pool: Vec<Point>,
     /// Midpoints are of the pool too.
     pub closed: bool,
+    /// No lone rows are drawn.
+    pub only_pairs: bool,
     /// How many rows are drawn, before others make the sums meet the targets.
     pub rows: usize,
     /// How many rows there are to be at least.
@@ -46,6 +48,7 @@ impl Shape {
         Shape {
             pool: grid(rng, n, sides, step, top),
             closed: rng.once_in(2),
+            only_pairs: false,
             rows: rng.pick(&[0, 1, 2, 3, 5, 8, 13, 40]),
             least_rows: 0,
             scale: rng.pick(&[1, 1, 2, 3, 10, 1000, 65_537, 1 << 20]),
@@ -63,10 +66,24 @@ impl Shape {
         Shape {
             pool: grid(rng, n, sides, 2, top),
             closed: true,
+            only_pairs: false,
             rows: if many { 150 } else { 2 },
             least_rows: if many { 256 } else { 0 },
             scale: rng.pick(&[(1 << 20) - 1, 1 << 20]),
             weight: i64::from(MOST),
+        }
+    }
+
+    /// A shape of so many pairs of 8 variables, with terms at up to 64 points.
+    pub fn pairs(rng: &mut Rng, rows: usize) -> Shape {
+        Shape {
+            pool: grid(rng, 8, [8, 8], 2, false),
+            closed: true,
+            only_pairs: true,
+            rows,
+            least_rows: 0,
+            scale: 1,
+            weight: 1 << 20,
         }
     }
 
@@ -148,7 +165,7 @@ impl Draft {
             if self.rows.is_empty() || !rng.once_in(5) { None } else { Some(rng.pick(&self.rows)) };
         let ends = match earlier {
             Some(row) => (row.v, row.w),
-            None if rng.once_in(4) => lone_ends(rng, shape),
+            None if !shape.only_pairs && rng.once_in(4) => lone_ends(rng, shape),
             None => pair_ends(rng, shape).unwrap_or_else(|| lone_ends(rng, shape)),
         };
         let is_lone = ends.0 == ends.1;
