@@ -9,9 +9,11 @@ use std::process::Command;
 use std::{env, fs, process};
 
 pub fn run(report: &mut Report) {
-    for example in worked::examples().into_iter().chain(papers::examples()) {
-        report.add(&format!("example {}", example.name), shows(&example));
+    let examples: Vec<Example> = worked::examples().into_iter().chain(papers::examples()).collect();
+    for example in &examples {
+        report.add(&format!("example {}", example.name), shows(example));
     }
+    report.add("no other examples", are_all(&examples));
     for entry in table::entries() {
         report.add(&format!("table {}", entry.number), refuses(&entry));
     }
@@ -32,6 +34,14 @@ fn shows(example: &Example) -> Outcome {
     equal("the text", &example.text, &&program::print(&sheet)?[..])?;
     let case = Case::new(&example.claim, &example.proof);
     answers::check(&case, &mut Rng::new(0)).map(|_| ())
+}
+
+/// Every sheet among the files is one of the examples.
+fn are_all(examples: &[Example]) -> Outcome {
+    let files = fs::read_dir(root().join("examples")).map_err(|error| error.to_string())?;
+    let paths = files.filter_map(|file| file.ok()).map(|file| file.path());
+    let sheets = paths.filter(|path| path.extension().is_some_and(|end| end == "sheet"));
+    equal("the number of sheets", &examples.len(), &sheets.count())
 }
 
 /// The table's example is refused by its number at its index: by the library, and by the program

@@ -14,6 +14,11 @@ pub type Point = Vec<u8>;
 /// The greatest weight, coefficient and floor.
 pub const MOST: i32 = 1 << 30;
 
+/// Every exponent is even.
+fn is_even(point: &Point) -> bool {
+    point.iter().all(|exponent| exponent % 2 == 0)
+}
+
 /// A claim to be written as a sheet. Nothing in it has to be right.
 #[derive(Clone, Debug)]
 pub struct Claim {
@@ -79,7 +84,7 @@ impl<Weight: Copy> Row<Weight> {
 
     /// The point halfway between the ends, where it is whole.
     pub fn midpoint(&self) -> Option<Point> {
-        let half = |(a, b): (&u8, &u8)| a.abs_diff(*b).is_multiple_of(2).then_some((a + b) / 2);
+        let half = |(a, b): (&u8, &u8)| (a % 2 == b % 2).then_some(a.midpoint(*b));
         self.v.iter().zip(&self.w).map(half).collect()
     }
 

@@ -1,8 +1,7 @@
 //! The kinds of random cases.
 
 use super::offsets::{largest_terms, offsets, over_largest_term};
-use super::plan::{Plan, Shape};
-use super::{breaks, Rng};
+use super::{breaks, Plan, Rng, Shape};
 use crate::{Case, Claim, Proof};
 use std::fmt;
 

@@ -58,4 +58,11 @@ impl Rng {
     pub fn bytes(&mut self, count: usize) -> Vec<u8> {
         (0..count).map(|_| self.byte()).collect()
     }
+
+    /// Puts the entries into random order.
+    pub fn shuffle<T>(&mut self, entries: &mut [T]) {
+        for place in (1..entries.len()).rev() {
+            entries.swap(place, self.below(place + 1));
+        }
+    }
 }
