@@ -1,6 +1,6 @@
 //! The oracle against sheets made backwards, which say themselves what they must come to.
 
-use oracle::{check, evaluate, Refusal};
+use oracle::{check, evaluate, Integer, Refusal};
 use sheets::random::{Expected, Kind, Plan, Rng, Shape};
 use sheets::MOST;
 
@@ -49,4 +49,12 @@ fn plans_reach_the_limits() {
     assert_eq!(weights().max(), Some(MOST));
     assert_eq!(weights().min(), Some(-MOST));
     assert_eq!(rows().flat_map(|row| &row.w).max(), Some(&120));
+}
+
+#[test]
+fn values_reach_64_times_2_to_56() {
+    let mut rng = Rng::new(4);
+    let cases = (0..200).map(|_| Kind::Largest.case(&mut rng));
+    let values = cases.map(|case| evaluate(&case.claim, &case.offsets).expect("no term is over"));
+    assert_eq!(values.max(), Some(Integer::from(1i64 << 62)));
 }

@@ -107,16 +107,21 @@ fn any_shape(rng: &mut Rng) -> Shape {
 
 /// A case with a row that the number refuses, and often others that later numbers do.
 fn misjudged(rng: &mut Rng, number: u32) -> Case {
-    let mut faults = vec![number];
-    faults.extend((number..=19).filter(|_| rng.once_in(3)));
+    let mut faults = some_faults(rng, number);
+    faults.push(number);
     planned(rng, any_shape, &faults)
+}
+
+/// Numbers of faulty rows from the given one up to 19, each one time in four.
+fn some_faults(rng: &mut Rng, from: u32) -> Vec<u32> {
+    (from..=19).filter(|_| rng.once_in(4)).collect()
 }
 
 /// A case whose constant no row holds although the floor differs from it, or with a term more at
 /// a point that no row holds; often with a faulty row as well.
 fn without_slot(rng: &mut Rng) -> Case {
     loop {
-        let faults: Vec<u32> = (17..=19).filter(|_| rng.once_in(6)).collect();
+        let faults = some_faults(rng, 17);
         let Plan { mut claim, proof, .. } = Plan::random(rng, Shape::random, &faults);
         let held = |point: &[u8]| {
             proof.rows.iter().flat_map(|row| row.slots()).any(|(slot, _)| slot == point)
@@ -150,7 +155,7 @@ fn broken(rng: &mut Rng, number: u32) -> Case {
 /// A case that has something for every number to break.
 fn with_terms_and_rows(rng: &mut Rng) -> Case {
     loop {
-        let faults: Vec<u32> = (17..=19).filter(|_| rng.once_in(6)).collect();
+        let faults = some_faults(rng, 17);
         let case = planned(rng, any_shape, &faults);
         let rows = case.proof.len() - 8;
         if case.claim[1] >= 2 && rows > 0 {
@@ -176,21 +181,18 @@ fn damaged(rng: &mut Rng) -> Case {
 }
 
 fn damage(rng: &mut Rng, sheet: &mut Vec<u8>) {
-    let place = rng.below(sheet.len().max(1));
+    if sheet.is_empty() {
+        return sheet.push(rng.byte());
+    }
+    let place = rng.below(sheet.len());
+    let more = 1 + rng.pick(&[0, 3, 50, 9000]);
     match rng.below(8) {
         0 => sheet.truncate(place),
-        1 => {
-            let more = rng.pick(&[1, 4, 50, 9000]);
-            let more = 1 + rng.below(more);
-            sheet.extend(rng.bytes(more));
-        }
-        2 if !sheet.is_empty() => {
-            sheet.remove(place);
-        }
+        1 => sheet.extend(rng.bytes(more)),
+        2 => drop(sheet.remove(place)),
         3 => sheet.insert(place, rng.byte()),
-        4 if !sheet.is_empty() => sheet[place] = rng.byte(),
-        _ if !sheet.is_empty() => sheet[place] ^= 1 << rng.below(8),
-        _ => {}
+        4 => sheet[place] = rng.byte(),
+        _ => sheet[place] ^= 1 << rng.below(8),
     }
 }
 

@@ -18,20 +18,25 @@ pub fn offsets(rng: &mut Rng, count: usize) -> Vec<i32> {
     (0..count).map(|_| offset()).collect()
 }
 
-/// A claim and offsets at which every term is exactly 2^56 or −2^56: offsets and coefficients are
-/// powers of two.
+/// A claim and offsets at which every term is exactly 2^56 or −2^56, all of one sign once in
+/// three: offsets and coefficients are powers of two.
 pub fn largest_terms(rng: &mut Rng) -> (Claim, Vec<i32>) {
     let n = 1 + rng.below(8);
     let bits: Vec<u32> = (0..n).map(|_| 1 + rng.below(9) as u32).collect();
+    let alike = rng.once_in(3);
+    let power_of_two = |rng: &mut Rng, bits: u32| {
+        let sign = if alike { 1 } else { rng.signed(1) };
+        (sign << bits) as i32
+    };
     let mut terms: BTreeMap<Point, i32> = BTreeMap::new();
     for _ in 0..rng.pick(&[4, 30, 2000]) {
         let point: Point = (0..n).map(|_| rng.below(1 + 60 / n) as u8).collect();
         let monomial: u32 = point.iter().zip(&bits).map(|(&e, bits)| u32::from(e) * bits).sum();
         if (26..=56).contains(&monomial) && terms.len() < 64 {
-            terms.insert(point, rng.signed(1 << (56 - monomial)) as i32);
+            terms.insert(point, power_of_two(rng, 56 - monomial));
         }
     }
-    let offsets = bits.iter().map(|bits| rng.signed(1 << bits) as i32).collect();
+    let offsets = bits.iter().map(|&bits| power_of_two(rng, bits)).collect();
     (Claim { n: n as u8, floor: 0, terms: terms.into_iter().collect() }, offsets)
 }
 
