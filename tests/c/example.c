@@ -1,0 +1,37 @@
+/* Checks the square x^2 - 2x + 1 and its floor 0 through the library, then evaluates it at -3. */
+#include "burmelox.h"
+#include <inttypes.h>
+#include <stdio.h>
+
+static const uint8_t claim[] = {
+    1, 3, 0, 0, 0, 0, 0, 0,                             /* one variable, three terms, floor 0 */
+    0, 1, 2,                                            /* points */
+    1, 0, 0, 0, 254, 255, 255, 255, 1, 0, 0, 0,         /* coefficients 1, -2, 1 */
+};
+
+static const uint8_t proof[] = {
+    1, 0, 1, 0, 1, 0, 0, 0,                             /* one variable, one row, scale 1 */
+    0, 2,                                               /* the row's points */
+    1, 0, 0, 0, 1, 0, 0, 0, 254, 255, 255, 255,         /* its weights 1, 1, -2 */
+};
+
+int main(void) {
+    uint8_t output[sizeof proof];
+    const int32_t offsets[] = {-3};
+    int64_t value = 0;
+
+    uint64_t answer = burmelox_check(claim, sizeof claim, proof, sizeof proof, output, sizeof output);
+    if (answer >= 65536) {
+        printf("refused %u at %u\n", BURMELOX_NUMBER(answer), BURMELOX_INDEX(answer));
+        return 1;
+    }
+    printf("accepted rows %" PRIu64 "\n", answer);
+
+    answer = burmelox_evaluate(claim, sizeof claim, offsets, 1, &value);
+    if (answer != 0) {
+        printf("refused %u at %u\n", BURMELOX_NUMBER(answer), BURMELOX_INDEX(answer));
+        return 1;
+    }
+    printf("value %" PRId64 "\n", value);
+    return 0;
+}

@@ -1,0 +1,85 @@
+//! One case, answered by the oracle and by the library or the program.
+
+use crate::{program, Outcome};
+use oracle::{Integer, Refusal};
+use sheets::random::Rng;
+use sheets::Case;
+use std::fmt::{self, Display};
+
+/// Bytes before and after the output that must keep their values.
+const GUARD: usize = 16;
+
+/// The number that a check or an evaluation ended with, 0 where nothing was refused.
+type Number = u32;
+
+/// Compares a check by the library: its answer and every byte of the output, which is filled with
+/// random bytes before.
+pub fn check(case: &Case, rng: &mut Rng) -> Result<Number, String> {
+    let verdict = oracle::check(&case.claim, &case.proof, case.room);
+    let before = rng.bytes(GUARD + case.room + GUARD);
+    let mut written = before.clone();
+    let output = &mut written[GUARD..GUARD + case.room];
+    let answer = library::check(&case.claim, &case.proof, output);
+
+    let mut expected = before;
+    if let Ok(accepted) = &verdict {
+        expected[GUARD..][..accepted.bytes.len()].copy_from_slice(&accepted.bytes);
+    }
+    let verdict = verdict.map(|accepted| accepted.weights.len() as u64);
+    same("check", &verdict.unwrap_or_else(code), &answer, case)?;
+    same("output", &Hex(&expected), &Hex(&written), case)?;
+    Ok(number(verdict))
+}
+
+/// Compares an evaluation by the library: its answer, and the value, which is random before.
+pub fn evaluate(case: &Case, rng: &mut Rng) -> Result<Number, String> {
+    let exact = oracle::evaluate(&case.claim, &case.offsets);
+    let before = rng.bits() as i64;
+    let mut value = before;
+    let answer = library::evaluate(&case.claim, &case.offsets, &mut value);
+
+    let verdict = exact.as_ref().map(|_| 0).map_err(|refusal| *refusal);
+    let expected = exact.unwrap_or(Integer::from(before));
+    same("evaluation", &verdict.unwrap_or_else(code), &answer, case)?;
+    same("value", &expected, &Integer::from(value), case)?;
+    Ok(number(verdict))
+}
+
+/// Compares the text that the program prints.
+pub fn text(case: &Case) -> Outcome {
+    let input = case.input();
+    same("text", &oracle::text(&input), &program::print(&input)?, case)
+}
+
+fn same<T: PartialEq + Display>(what: &str, oracle: &T, other: &T, case: &Case) -> Outcome {
+    if oracle == other {
+        return Ok(());
+    }
+    Err(format!(
+        "{what} differs\noracle   {oracle}\nanswered {other}\nclaim    {}\nproof    {}\n\
+         output   of {} bytes\noffsets  {:?}",
+        Hex(&case.claim),
+        Hex(&case.proof),
+        case.room,
+        case.offsets
+    ))
+}
+
+/// A refusal as the library answers it.
+fn code(refusal: Refusal) -> u64 {
+    u64::from(refusal.number) << 16 | refusal.index as u64
+}
+
+fn number(verdict: Result<u64, Refusal>) -> Number {
+    verdict.err().map_or(0, |refusal| refusal.number)
+}
+
+/// Bytes that are shown in hex.
+#[derive(PartialEq)]
+struct Hex<'a>(&'a [u8]);
+
+impl Display for Hex<'_> {
+    fn fmt(&self, f: &mut fmt::Formatter) -> fmt::Result {
+        self.0.iter().try_for_each(|byte| write!(f, "{byte:02x}"))
+    }
+}

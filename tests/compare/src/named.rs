@@ -1,0 +1,116 @@
+//! Tests of single sheets: the examples, the table of refusals, the program's input, C.
+
+use crate::{answers, program, Outcome, Report};
+use sheets::random::Rng;
+use sheets::worked::{power_claim, square_claim, square_proof};
+use sheets::{papers, table, worked, Case, Example};
+use std::path::{Path, PathBuf};
+use std::process::Command;
+use std::{env, fs, process};
+
+pub fn run(report: &mut Report) {
+    let examples: Vec<Example> = worked::examples().into_iter().chain(papers::examples()).collect();
+    for example in &examples {
+        report.add(&format!("example {}", example.name), shows(example));
+    }
+    report.add("no other examples", are_all(&examples));
+    for entry in table::entries() {
+        report.add(&format!("table {}", entry.number), refuses(&entry));
+    }
+    report.add("evaluation J", reaches_2_to_56());
+    report.add("input in pieces", reads_pieces());
+    report.add("input past 8,192 bytes", leaves_the_rest());
+    report.add("example in C", runs_in_c());
+}
+
+/// The files of an example are what the builder makes, the program prints the text beside the
+/// sheet, and the library agrees.
+fn shows(example: &Example) -> Outcome {
+    let file = root().join("examples").join(example.name);
+    let sheet = read(&file.with_extension("sheet"))?;
+    let text = read(&file.with_extension("txt"))?;
+    equal("the sheet's file", &example.input(), &sheet)?;
+    equal("the text's file", &example.text.as_bytes(), &&text[..])?;
+    equal("the text", &example.text, &&program::print(&sheet)?[..])?;
+    let case = Case::new(&example.claim, &example.proof);
+    answers::check(&case, &mut Rng::new(0)).map(|_| ())
+}
+
+/// Every sheet among the files is one of the examples.
+fn are_all(examples: &[Example]) -> Outcome {
+    let files = fs::read_dir(root().join("examples")).map_err(|error| error.to_string())?;
+    let paths = files.filter_map(|file| file.ok()).map(|file| file.path());
+    let sheets = paths.filter(|path| path.extension().is_some_and(|end| end == "sheet"));
+    equal("the number of sheets", &examples.len(), &sheets.count())
+}
+
+/// The table's example is refused by its number at its index: by the library, and by the program
+/// where it can be shown to it.
+fn refuses(entry: &table::Entry) -> Outcome {
+    let case = &entry.case;
+    let answer = if entry.is_evaluation() {
+        library::evaluate(&case.claim, &case.offsets, &mut 0)
+    } else {
+        library::check(&case.claim, &case.proof, &mut vec![0; case.room])
+    };
+    equal("the answer", &(u64::from(entry.number) << 16 | entry.index as u64), &answer)?;
+    if entry.is_for_program() {
+        let text = format!("refused {} at {}\n", entry.number, entry.index);
+        equal("the text", &text, &program::print(&case.input())?)?;
+    }
+    Ok(())
+}
+
+fn reaches_2_to_56() -> Outcome {
+    let mut value = 0;
+    let answer = library::evaluate(&power_claim(56).bytes(), &[2], &mut value);
+    equal("the answer and the value", &(0, 1 << 56), &(answer, value))
+}
+
+fn reads_pieces() -> Outcome {
+    let input = Case::new(&square_claim(0, -2), &square_proof()).input();
+    let pieces = [&input[..3], &input[3..20], &input[20..40], &input[40..]];
+    equal("the text", &oracle::text(&input), &program::print_pieces(&pieces)?)
+}
+
+/// Bytes past the limit are neither waited for nor answered to, however many.
+fn leaves_the_rest() -> Outcome {
+    let mut input = Case::new(&square_claim(0, -2), &square_proof()).input();
+    for length in [8191, 8192, 8193, 100_000] {
+        input.resize(length, 0);
+        equal("the text", &"refused 10 at 0\n", &&program::print(&input)?[..])?;
+    }
+    Ok(())
+}
+
+/// The example in C compiles with the header, links the library and prints its two lines.
+fn runs_in_c() -> Outcome {
+    let binary = env::temp_dir().join(format!("burmelox-example-{}", process::id()));
+    let mut compiler = Command::new("cc");
+    compiler.args(["-Wall", "-Wextra", "-Werror", "-I"]).arg(root().join("include"));
+    compiler.arg(root().join("tests/c/example.c")).arg(library::ARCHIVE);
+    let compiled = compiler.arg("-o").arg(&binary).status();
+    let compiled = compiled.map_err(|error| format!("cc: {error}"))?;
+    equal("cc ends well", &true, &compiled.success())?;
+    let output = Command::new(&binary).output().map_err(|error| format!("running it: {error}"));
+    fs::remove_file(&binary).map_err(|error| format!("{}: {error}", binary.display()))?;
+    let text = String::from_utf8_lossy(&output?.stdout).into_owned();
+    equal("the text", &"accepted rows 1\nvalue 16\n", &&text[..])
+}
+
+fn equal<T: PartialEq + std::fmt::Debug>(what: &str, expected: &T, found: &T) -> Outcome {
+    if expected == found {
+        Ok(())
+    } else {
+        Err(format!("{what} differs\nexpected {expected:?}\nfound    {found:?}"))
+    }
+}
+
+fn read(path: &Path) -> Result<Vec<u8>, String> {
+    fs::read(path).map_err(|error| format!("{}: {error}", path.display()))
+}
+
+/// The project's root.
+fn root() -> PathBuf {
+    Path::new(env!("CARGO_MANIFEST_DIR")).join("../..")
+}

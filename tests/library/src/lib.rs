@@ -1,0 +1,48 @@
+//! The proved static library, as Rust calls it. `include/burmelox.h` says the same for C.
+
+/// The archive that is linked.
+pub const ARCHIVE: &str = env!("BURMELOX_ARCHIVE");
+
+extern "C" {
+    fn burmelox_check(
+        claim: *const u8,
+        claim_len: usize,
+        proof: *const u8,
+        proof_len: usize,
+        output: *mut u8,
+        output_len: usize,
+    ) -> u64;
+
+    fn burmelox_evaluate(
+        claim: *const u8,
+        claim_len: usize,
+        offsets: *const i32,
+        offsets_len: usize,
+        value: *mut i64,
+    ) -> u64;
+}
+
+/// Checks a proof of a claim. Answers the number of rows where it is accepted, and the first bytes
+/// of the output are then the exact proof; else number × 65,536 + index of the refusal.
+pub fn check(claim: &[u8], proof: &[u8], output: &mut [u8]) -> u64 {
+    // SAFETY: each pointer comes with the length of its slice.
+    unsafe {
+        burmelox_check(
+            claim.as_ptr(),
+            claim.len(),
+            proof.as_ptr(),
+            proof.len(),
+            output.as_mut_ptr(),
+            output.len(),
+        )
+    }
+}
+
+/// Evaluates a claim's polynomial at offsets. Answers 0 and stores the value, else
+/// number × 65,536 + index of the refusal.
+pub fn evaluate(claim: &[u8], offsets: &[i32], value: &mut i64) -> u64 {
+    // SAFETY: each pointer comes with the length of its slice, and `value` is one number.
+    unsafe {
+        burmelox_evaluate(claim.as_ptr(), claim.len(), offsets.as_ptr(), offsets.len(), value)
+    }
+}

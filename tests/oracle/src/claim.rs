@@ -1,0 +1,47 @@
+//! The claim sheet: refusals 1 to 7.
+
+use crate::verdict::{refuse_at, refuse_if, Refusal};
+use crate::{beyond, points, too_high, word, words, Point};
+
+/// A claim: the polynomial as its terms, and the floor under it.
+pub struct Claim {
+    pub variables: usize,
+    pub floor: i32,
+    pub terms: Vec<(Point, i32)>,
+}
+
+impl Claim {
+    /// The constant's point.
+    pub fn origin(&self) -> Point {
+        vec![0; self.variables]
+    }
+}
+
+/// The number of variables and of terms, refused by 1 and 2.
+pub fn header(bytes: &[u8]) -> Result<(usize, usize), Refusal> {
+    refuse_if(1, bytes.len() < 8)?;
+    let (n, t) = (usize::from(bytes[0]), usize::from(bytes[1]));
+    refuse_if(2, !(1..=8).contains(&n) || t > 64 || bytes[2..4] != [0, 0])?;
+    Ok((n, t))
+}
+
+/// The length of a claim of `n` variables and `t` terms.
+pub fn length(n: usize, t: usize) -> usize {
+    8 + t * (n + 4)
+}
+
+/// The claim in the sheet.
+pub fn read(bytes: &[u8]) -> Result<Claim, Refusal> {
+    let (n, t) = header(bytes)?;
+    refuse_if(3, bytes.len() != length(n, t))?;
+    let floor = word(&bytes[4..8]);
+    let (exponents, coefficients) = bytes[8..].split_at(t * n);
+    let (points, coefficients) = (points(exponents, n), words(coefficients));
+
+    refuse_if(4, beyond(floor))?;
+    refuse_at(5, coefficients.iter().position(|&c| c == 0 || beyond(c)))?;
+    refuse_at(6, points.iter().position(too_high))?;
+    let falling = points.windows(2).position(|two| two[0] >= two[1]);
+    refuse_at(7, falling.map(|index| index + 1))?;
+    Ok(Claim { variables: n, floor, terms: points.into_iter().zip(coefficients).collect() })
+}

@@ -1,0 +1,50 @@
+//! An independent checker of floors, written from document 01 alone, with big integers.
+//!
+//! Sheets are parsed into structures, targets and slots are kept in maps by point, and every
+//! number that is computed is an [`Integer`]. One module a section: `claim`, `proof`, `check`
+//! (targets, sharing, judging), `evaluate`, `text` (what the program prints).
+
+mod check;
+mod claim;
+mod evaluate;
+mod integer;
+mod proof;
+mod text;
+mod verdict;
+
+pub use check::check;
+pub use evaluate::evaluate;
+pub use integer::Integer;
+pub use text::text;
+pub use verdict::{Accepted, Refusal, Sheet, Verdict};
+
+/// A point: its exponents, one for each variable. Points are ordered by the first variable first.
+type Point = Vec<u8>;
+
+/// The greatest exponent.
+const MOST_EXPONENT: u8 = 120;
+
+/// A floor, a coefficient or a weight read from a sheet is beyond ±2^30.
+fn beyond(number: i32) -> bool {
+    number.unsigned_abs() > 1 << 30
+}
+
+/// The signed 32-bit number in four bytes.
+fn word(bytes: &[u8]) -> i32 {
+    i32::from_le_bytes(bytes.try_into().expect("a word has four bytes"))
+}
+
+/// The signed 32-bit numbers that stand one after another in `bytes`.
+fn words(bytes: &[u8]) -> Vec<i32> {
+    bytes.chunks_exact(4).map(word).collect()
+}
+
+/// The points of `n` variables that stand one after another in `bytes`.
+fn points(bytes: &[u8], n: usize) -> Vec<Point> {
+    bytes.chunks_exact(n).map(<[u8]>::to_vec).collect()
+}
+
+/// A point has an exponent that is too large.
+fn too_high(point: &Point) -> bool {
+    point.iter().any(|&exponent| exponent > MOST_EXPONENT)
+}

@@ -1,0 +1,69 @@
+//! The proof sheet: refusals 8 to 15, the output's length among them.
+
+use crate::verdict::{refuse_at, refuse_if, Refusal};
+use crate::{beyond, points, too_high, words, Point};
+
+/// A row: two points and the weights p, q, r proposed for it.
+pub struct Row {
+    v: Point,
+    w: Point,
+    pub weights: [i32; 3],
+}
+
+/// A proof: the scale and the rows.
+pub struct Proof {
+    pub scale: u32,
+    pub rows: Vec<Row>,
+}
+
+impl Row {
+    /// The point halfway between the two, where it is whole.
+    fn midpoint(&self) -> Option<Point> {
+        let half = |(a, b): (&u8, &u8)| ((a + b) % 2 == 0).then_some((a + b) / 2);
+        self.v.iter().zip(&self.w).map(half).collect()
+    }
+
+    fn is_lone(&self) -> bool {
+        self.v == self.w
+    }
+
+    /// The points of the row's slots, in the order of its weights: one for a lone row, else three.
+    pub fn slots(&self) -> Vec<Point> {
+        if self.is_lone() {
+            return vec![self.v.clone()];
+        }
+        let midpoint = self.midpoint().expect("13 refuses rows with no whole midpoint");
+        vec![self.v.clone(), self.w.clone(), midpoint]
+    }
+}
+
+/// The proof in the sheet, for a claim of `n` variables and an output of `room` bytes.
+pub fn read(bytes: &[u8], n: usize, room: usize) -> Result<Proof, Refusal> {
+    refuse_if(8, bytes.len() < 8)?;
+    let k = usize::from(u16::from_le_bytes([bytes[2], bytes[3]]));
+    let scale = u32::from_le_bytes([bytes[4], bytes[5], bytes[6], bytes[7]]);
+    let header_is_right =
+        usize::from(bytes[0]) == n && bytes[1] == 0 && k <= 256 && (1..=1 << 20).contains(&scale);
+    refuse_if(9, !header_is_right)?;
+    refuse_if(10, bytes.len() != 8 + k * (2 * n + 12))?;
+    refuse_if(11, room < bytes.len())?;
+
+    let rows = rows(&bytes[8..], n, k);
+    refuse_at(12, rows.iter().position(|row| too_high(&row.v) || too_high(&row.w)))?;
+    refuse_at(13, rows.iter().position(|row| row.midpoint().is_none()))?;
+    refuse_at(14, rows.iter().position(|row| row.is_lone() && row.weights[1..] != [0, 0]))?;
+    refuse_at(15, rows.iter().position(|row| row.weights.iter().any(|&weight| beyond(weight))))?;
+    Ok(Proof { scale, rows })
+}
+
+/// The rows as they stand in the sheet behind its header: all points first, then all weights.
+fn rows(body: &[u8], n: usize, k: usize) -> Vec<Row> {
+    let (ends, weights) = body.split_at(2 * n * k);
+    let (ends, weights) = (points(ends, n), words(weights));
+    let row = |(ends, weights): (&[Point], &[i32])| Row {
+        v: ends[0].clone(),
+        w: ends[1].clone(),
+        weights: [weights[0], weights[1], weights[2]],
+    };
+    ends.chunks_exact(2).zip(weights.chunks_exact(3)).map(row).collect()
+}

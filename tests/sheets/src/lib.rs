@@ -1,0 +1,140 @@
+//! Builder of claims and proofs in bytes, and the sheets that tests are made of.
+//!
+//! `worked` and `papers` hold sheets with the text the program prints for them, `table` the
+//! examples of the table of refusals, `random` the generators.
+
+pub mod papers;
+pub mod random;
+pub mod table;
+pub mod worked;
+
+/// A point: its exponents.
+pub type Point = Vec<u8>;
+
+/// The greatest weight, coefficient and floor.
+pub const MOST: i32 = 1 << 30;
+
+/// Every exponent is even.
+fn is_even(point: &Point) -> bool {
+    point.iter().all(|exponent| exponent % 2 == 0)
+}
+
+/// A claim to be written as a sheet. Nothing in it has to be right.
+#[derive(Clone, Debug)]
+pub struct Claim {
+    pub n: u8,
+    pub floor: i32,
+    pub terms: Vec<(Point, i32)>,
+}
+
+/// A row of a proof: two points and the weights p, q, r.
+#[derive(Clone, Debug)]
+pub struct Row<Weight = i32> {
+    pub v: Point,
+    pub w: Point,
+    pub weights: [Weight; 3],
+}
+
+/// A proof to be written as a sheet. Nothing in it has to be right.
+#[derive(Clone, Debug)]
+pub struct Proof {
+    pub n: u8,
+    pub scale: u32,
+    pub rows: Vec<Row>,
+}
+
+/// A claim and its proof with the text the program prints for them.
+pub struct Example {
+    pub name: &'static str,
+    pub claim: Claim,
+    pub proof: Proof,
+    pub text: &'static str,
+}
+
+/// What one test hands to the check (both sheets and an output of `room` bytes) and to an
+/// evaluation (the claim and the offsets).
+#[derive(Clone, Debug)]
+pub struct Case {
+    pub claim: Vec<u8>,
+    pub proof: Vec<u8>,
+    pub room: usize,
+    pub offsets: Vec<i32>,
+}
+
+impl Claim {
+    /// A claim whose points have `N` exponents.
+    pub fn new<const N: usize>(floor: i32, terms: &[([u8; N], i32)]) -> Claim {
+        let terms = terms.iter().map(|(point, c)| (point.to_vec(), *c)).collect();
+        Claim { n: N as u8, floor, terms }
+    }
+
+    pub fn bytes(&self) -> Vec<u8> {
+        let mut bytes = vec![self.n, self.terms.len() as u8, 0, 0];
+        bytes.extend(self.floor.to_le_bytes());
+        bytes.extend(self.terms.iter().flat_map(|(point, _)| point));
+        bytes.extend(self.terms.iter().flat_map(|(_, coefficient)| coefficient.to_le_bytes()));
+        bytes
+    }
+}
+
+impl<Weight: Copy> Row<Weight> {
+    pub fn is_lone(&self) -> bool {
+        self.v == self.w
+    }
+
+    /// The point halfway between the ends, where it is whole.
+    pub fn midpoint(&self) -> Option<Point> {
+        let half = |(a, b): (&u8, &u8)| (a % 2 == b % 2).then_some(a.midpoint(*b));
+        self.v.iter().zip(&self.w).map(half).collect()
+    }
+
+    /// The row's slots, each a point and a weight: p for a lone row, else p, q and r.
+    pub fn slots(&self) -> Vec<(Point, Weight)> {
+        let [p, q, r] = self.weights;
+        match self.midpoint() {
+            Some(u) if !self.is_lone() => vec![(self.v.clone(), p), (self.w.clone(), q), (u, r)],
+            _ => vec![(self.v.clone(), p)],
+        }
+    }
+}
+
+impl Proof {
+    /// A proof whose points have `N` exponents.
+    pub fn new<const N: usize>(scale: u32, rows: &[([u8; N], [u8; N], [i32; 3])]) -> Proof {
+        let row = |(v, w, weights): &([u8; N], [u8; N], [i32; 3])| Row {
+            v: v.to_vec(),
+            w: w.to_vec(),
+            weights: *weights,
+        };
+        Proof { n: N as u8, scale, rows: rows.iter().map(row).collect() }
+    }
+
+    pub fn bytes(&self) -> Vec<u8> {
+        let mut bytes = vec![self.n, 0];
+        bytes.extend((self.rows.len() as u16).to_le_bytes());
+        bytes.extend(self.scale.to_le_bytes());
+        bytes.extend(self.rows.iter().flat_map(|row| row.v.iter().chain(&row.w)));
+        bytes.extend(self.rows.iter().flat_map(|row| row.weights).flat_map(i32::to_le_bytes));
+        bytes
+    }
+}
+
+impl Example {
+    /// The program's input: the claim and directly after it the proof.
+    pub fn input(&self) -> Vec<u8> {
+        [self.claim.bytes(), self.proof.bytes()].concat()
+    }
+}
+
+impl Case {
+    /// A check with an output as long as the proof, and an evaluation at zeros.
+    pub fn new(claim: &Claim, proof: &Proof) -> Case {
+        let (claim, proof, offsets) = (claim.bytes(), proof.bytes(), vec![0; claim.n.into()]);
+        Case { room: proof.len(), claim, proof, offsets }
+    }
+
+    /// The program's input: the claim and directly after it the proof.
+    pub fn input(&self) -> Vec<u8> {
+        [&self.claim[..], &self.proof].concat()
+    }
+}

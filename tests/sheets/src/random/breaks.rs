@@ -1,0 +1,186 @@
+//! Faults put into well-formed sheets, one function for each number from 1 to 15 and for 20.
+
+use super::Rng;
+use crate::Case;
+use std::ops::{Range, RangeInclusive};
+
+/// Breaks the rule of the number in sheets that have at least two terms and a row. What later
+/// numbers look at need not be in order; what earlier ones look at stays as it is.
+pub fn put(rng: &mut Rng, number: u32, case: &mut Case) {
+    let Case { claim, proof, room, offsets } = case;
+    match number {
+        1 => claim.truncate(rng.below(8)),
+        2 => spoil_claim_header(rng, claim),
+        3 => change_length(rng, claim),
+        4 => put_word(claim, 4, beyond(rng)),
+        5 => spoil_coefficient(rng, claim),
+        6 => spoil_exponent(rng, ClaimPlaces::of(claim).points, claim),
+        7 => spoil_order(rng, claim),
+        8 => proof.truncate(rng.below(8)),
+        9 => spoil_proof_header(rng, proof),
+        10 => spoil_proof_length(rng, proof),
+        11 => *room = rng.below(proof.len()),
+        12 => spoil_exponent(rng, ProofPlaces::of(proof).ends, proof),
+        13 => spoil_midpoint(rng, proof),
+        14 => spoil_lone_row(rng, proof),
+        15 => spoil_weight(rng, proof),
+        20 => spoil_count(rng, offsets),
+        _ => panic!("{number} is no fault of single sheets"),
+    }
+}
+
+/// Where a claim's parts begin.
+struct ClaimPlaces {
+    n: usize,
+    t: usize,
+    points: Range<usize>,
+    coefficients: usize,
+}
+
+impl ClaimPlaces {
+    fn of(claim: &[u8]) -> ClaimPlaces {
+        let (n, t) = (usize::from(claim[0]), usize::from(claim[1]));
+        ClaimPlaces { n, t, points: 8..8 + n * t, coefficients: 8 + n * t }
+    }
+}
+
+/// Where a proof's parts begin.
+struct ProofPlaces {
+    n: usize,
+    k: usize,
+    ends: Range<usize>,
+    weights: usize,
+}
+
+impl ProofPlaces {
+    fn of(proof: &[u8]) -> ProofPlaces {
+        let n = usize::from(proof[0]);
+        let k = usize::from(u16::from_le_bytes([proof[2], proof[3]]));
+        ProofPlaces { n, k, ends: 8..8 + 2 * n * k, weights: 8 + 2 * n * k }
+    }
+
+    /// The points v and w of a row.
+    fn row<'a>(&self, proof: &'a mut [u8], row: usize) -> (&'a mut [u8], &'a mut [u8]) {
+        let start = self.ends.start + 2 * self.n * row;
+        proof[start..start + 2 * self.n].split_at_mut(self.n)
+    }
+}
+
+fn put_word(bytes: &mut [u8], place: usize, word: i32) {
+    bytes[place..place + 4].copy_from_slice(&word.to_le_bytes());
+}
+
+/// A number beyond ±2^30, just as often as far.
+fn beyond(rng: &mut Rng) -> i32 {
+    let least = (1 << 30) + 1;
+    let any = rng.within(i64::from(least)..=i32::MAX.into()) as i32;
+    rng.pick(&[least, -least, any, -any, i32::MAX, i32::MIN])
+}
+
+/// A number past the limit: the first of the range as often as any other.
+fn past(rng: &mut Rng, range: RangeInclusive<u16>) -> u16 {
+    let any = rng.within((*range.start()).into()..=(*range.end()).into()) as u16;
+    rng.pick(&[*range.start(), any])
+}
+
+fn past_byte(rng: &mut Rng, first: u8) -> u8 {
+    past(rng, first.into()..=255) as u8
+}
+
+fn spoil_claim_header(rng: &mut Rng, claim: &mut [u8]) {
+    match rng.below(5) {
+        0 => claim[0] = 0,
+        1 => claim[0] = past_byte(rng, 9),
+        2 => claim[1] = past_byte(rng, 65),
+        3 => claim[2] = past_byte(rng, 1),
+        _ => claim[3] = past_byte(rng, 1),
+    }
+}
+
+/// Makes a sheet longer, or shorter but no shorter than its header.
+fn change_length(rng: &mut Rng, sheet: &mut Vec<u8>) {
+    if sheet.len() > 8 && rng.once_in(2) {
+        sheet.truncate(8 + rng.below(sheet.len() - 8));
+    } else {
+        let more = 1 + rng.below(20);
+        sheet.extend(rng.bytes(more));
+    }
+}
+
+fn spoil_coefficient(rng: &mut Rng, claim: &mut [u8]) {
+    let ClaimPlaces { t, coefficients, .. } = ClaimPlaces::of(claim);
+    let wrong = if rng.once_in(2) { 0 } else { beyond(rng) };
+    put_word(claim, coefficients + 4 * rng.below(t), wrong);
+}
+
+fn spoil_exponent(rng: &mut Rng, points: Range<usize>, sheet: &mut [u8]) {
+    sheet[points.start + rng.below(points.len())] = past_byte(rng, 121);
+}
+
+/// Makes a point equal to the one before it, or lower in one exponent.
+fn spoil_order(rng: &mut Rng, claim: &mut [u8]) {
+    let ClaimPlaces { n, t, points, .. } = ClaimPlaces::of(claim);
+    let start = points.start + n * (1 + rng.below(t - 1));
+    claim.copy_within(start - n..start, start);
+    let exponent = &mut claim[start + rng.below(n)];
+    *exponent -= rng.below(usize::from(*exponent) + 1) as u8;
+}
+
+fn spoil_proof_header(rng: &mut Rng, proof: &mut [u8]) {
+    let rows = past(rng, 257..=65_535);
+    let scale = (1 << 20) + 1 + rng.below(1 << 20) as i32;
+    match rng.below(6) {
+        0 => proof[0] = proof[0] % 8 + 1,
+        1 => proof[0] = past_byte(rng, 9),
+        2 => proof[1] = past_byte(rng, 1),
+        3 => proof[2..4].copy_from_slice(&rows.to_le_bytes()),
+        4 => put_word(proof, 4, rng.pick(&[0, -1, i32::MIN])),
+        _ => put_word(proof, 4, rng.pick(&[scale, (1 << 20) + 1])),
+    }
+}
+
+/// Changes the length or the number of rows it is measured by.
+fn spoil_proof_length(rng: &mut Rng, proof: &mut Vec<u8>) {
+    if rng.once_in(2) {
+        change_length(rng, proof);
+    } else {
+        let k = ProofPlaces::of(proof).k;
+        let other = (k + 1 + rng.below(256)) % 257;
+        proof[2..4].copy_from_slice(&(other as u16).to_le_bytes());
+    }
+}
+
+/// Makes the sum of two exponents odd.
+fn spoil_midpoint(rng: &mut Rng, proof: &mut [u8]) {
+    let places = ProofPlaces::of(proof);
+    let (v, w) = places.row(proof, rng.below(places.k));
+    let variable = rng.below(places.n);
+    v[variable] = w[variable];
+    w[variable] = if w[variable] == 0 { 1 } else { w[variable] - 1 };
+}
+
+fn spoil_lone_row(rng: &mut Rng, proof: &mut [u8]) {
+    let places = ProofPlaces::of(proof);
+    let row = rng.below(places.k);
+    let (v, w) = places.row(proof, row);
+    w.copy_from_slice(v);
+    let place = places.weights + 12 * row + rng.pick(&[4, 8]);
+    put_word(proof, place, rng.pick(&[1, -1, 1 << 30, i32::MIN]));
+}
+
+/// Puts a weight beyond ±2^30; of a lone row that can only be p.
+fn spoil_weight(rng: &mut Rng, proof: &mut [u8]) {
+    let places = ProofPlaces::of(proof);
+    let row = rng.below(places.k);
+    let (v, w) = places.row(proof, row);
+    let weight = if v == w { 0 } else { rng.below(3) };
+    put_word(proof, places.weights + 12 * row + 4 * weight, beyond(rng));
+}
+
+fn spoil_count(rng: &mut Rng, offsets: &mut Vec<i32>) {
+    if rng.once_in(2) {
+        offsets.truncate(rng.below(offsets.len()));
+    } else {
+        offsets.push(0);
+    }
+}

@@ -1,0 +1,218 @@
+//! The kinds of random cases.
+
+use super::offsets::{largest_terms, offsets, over_largest_term};
+use super::{breaks, Plan, Rng, Shape};
+use crate::{Case, Claim, Proof};
+use std::fmt;
+
+/// A kind of random cases.
+#[derive(Clone, Copy, Debug, PartialEq, Eq)]
+pub enum Kind {
+    /// Accepted, mostly after a shift.
+    Accepted,
+    /// Accepted, at the limits of weights, scale, exponents, rows, terms and variables.
+    Extreme,
+    /// Terms of exactly ±2^56.
+    Largest,
+    /// Refused by the number, the check's or, for 20 and 21, the evaluation's.
+    Refused(u32),
+    /// Cut, lengthened, with bits or bytes changed.
+    Damaged,
+    /// Bytes of any value, behind headers that are often right.
+    Noise,
+}
+
+/// What a case must come to by the way it was made: a number of the table, 0 where it is accepted
+/// or a value is given.
+#[derive(Clone, Copy, Debug, PartialEq, Eq)]
+pub enum Expected {
+    Check(u32),
+    Evaluation(u32),
+    Any,
+}
+
+impl Kind {
+    /// Every kind.
+    pub fn all() -> Vec<Kind> {
+        use Kind::*;
+        let refused = (1..=21).map(Refused);
+        [Accepted, Extreme, Largest, Damaged, Noise].into_iter().chain(refused).collect()
+    }
+
+    pub fn expected(self) -> Expected {
+        match self {
+            Kind::Accepted | Kind::Extreme => Expected::Check(0),
+            Kind::Largest => Expected::Evaluation(0),
+            Kind::Refused(number @ (20 | 21)) => Expected::Evaluation(number),
+            Kind::Refused(number) => Expected::Check(number),
+            Kind::Damaged | Kind::Noise => Expected::Any,
+        }
+    }
+
+    /// A random case of the kind.
+    pub fn case(self, rng: &mut Rng) -> Case {
+        match self {
+            Kind::Accepted => planned(rng, Shape::random, &[]),
+            Kind::Extreme => planned(rng, Shape::extreme, &[]),
+            Kind::Largest => evaluated(largest_terms(rng)),
+            Kind::Refused(16) => without_slot(rng),
+            Kind::Refused(number @ 17..=19) => misjudged(rng, number),
+            Kind::Refused(21) => evaluated(over_largest_term(rng)),
+            Kind::Refused(number) => broken(rng, number),
+            Kind::Damaged => damaged(rng),
+            Kind::Noise => noise(rng),
+        }
+    }
+}
+
+impl fmt::Display for Kind {
+    fn fmt(&self, f: &mut fmt::Formatter) -> fmt::Result {
+        match self {
+            Kind::Accepted => write!(f, "accepted"),
+            Kind::Extreme => write!(f, "accepted at the limits"),
+            Kind::Largest => write!(f, "terms of 2^56"),
+            Kind::Refused(number) => write!(f, "refused {number}"),
+            Kind::Damaged => write!(f, "damaged"),
+            Kind::Noise => write!(f, "noise"),
+        }
+    }
+}
+
+/// A planned case, with an output as long as the proof or longer.
+fn planned(rng: &mut Rng, shape: fn(&mut Rng) -> Shape, faults: &[u32]) -> Case {
+    let plan = Plan::random(rng, shape, faults);
+    case_of(rng, &plan.claim, &plan.proof)
+}
+
+fn case_of(rng: &mut Rng, claim: &Claim, proof: &Proof) -> Case {
+    let case = Case::new(claim, proof);
+    let longer = if rng.once_in(2) { 0 } else { rng.below(40) };
+    Case { room: case.room + longer, offsets: offsets(rng, claim.n.into()), ..case }
+}
+
+/// A case for an evaluation, with a proof of no rows.
+fn evaluated((claim, offsets): (Claim, Vec<i32>)) -> Case {
+    let proof = Proof { n: claim.n, scale: 1, rows: vec![] };
+    Case { offsets, ..Case::new(&claim, &proof) }
+}
+
+/// Shapes at the limits once in eight.
+fn any_shape(rng: &mut Rng) -> Shape {
+    if rng.once_in(8) {
+        Shape::extreme(rng)
+    } else {
+        Shape::random(rng)
+    }
+}
+
+/// A case with a row that the number refuses, and often others that later numbers do.
+fn misjudged(rng: &mut Rng, number: u32) -> Case {
+    let mut faults = some_faults(rng, number);
+    faults.push(number);
+    planned(rng, any_shape, &faults)
+}
+
+/// Numbers of faulty rows from the given one up to 19, each one time in four.
+fn some_faults(rng: &mut Rng, from: u32) -> Vec<u32> {
+    (from..=19).filter(|_| rng.once_in(4)).collect()
+}
+
+/// A case whose constant no row holds although the floor differs from it, or with a term more at
+/// a point that no row holds; often with a faulty row as well.
+fn without_slot(rng: &mut Rng) -> Case {
+    loop {
+        let faults = some_faults(rng, 17);
+        let Plan { mut claim, proof, .. } = Plan::random(rng, Shape::random, &faults);
+        let held = |point: &[u8]| {
+            proof.rows.iter().flat_map(|row| row.slots()).any(|(slot, _)| slot == point)
+        };
+        let origin = vec![0; claim.n.into()];
+        let point: Vec<u8> = origin.iter().map(|_| rng.below(121) as u8).collect();
+        if !held(&origin) && rng.once_in(2) {
+            claim.floor += if claim.floor > 0 { -1 } else { 1 };
+            return case_of(rng, &claim, &proof);
+        }
+        if !held(&point) && point != origin && claim.terms.len() < 64 {
+            claim.terms.retain(|(other, _)| *other != point);
+            claim.terms.push((point, rng.pick(&[1, -1, 1 << 30])));
+            claim.terms.sort();
+            return case_of(rng, &claim, &proof);
+        }
+    }
+}
+
+/// A case broken by the number, and often by a later one as well.
+fn broken(rng: &mut Rng, number: u32) -> Case {
+    let mut case = with_terms_and_rows(rng);
+    let later = number + 1 + rng.below(8) as u32;
+    if later <= 15 && rng.once_in(2) {
+        breaks::put(rng, later, &mut case);
+    }
+    breaks::put(rng, number, &mut case);
+    case
+}
+
+/// A case that has something for every number to break.
+fn with_terms_and_rows(rng: &mut Rng) -> Case {
+    loop {
+        let faults = some_faults(rng, 17);
+        let case = planned(rng, any_shape, &faults);
+        let rows = case.proof.len() - 8;
+        if case.claim[1] >= 2 && rows > 0 {
+            return case;
+        }
+    }
+}
+
+/// A case of another kind, with one to three damages and an output of any length.
+fn damaged(rng: &mut Rng) -> Case {
+    let kind = rng.pick(&[Kind::Accepted, Kind::Accepted, Kind::Extreme, Kind::Largest]);
+    let mut case = kind.case(rng);
+    for _ in 0..1 + rng.below(3) {
+        let of_proof = rng.once_in(2);
+        damage(rng, if of_proof { &mut case.proof } else { &mut case.claim });
+    }
+    if rng.once_in(8) {
+        let count = rng.below(10);
+        case.offsets = offsets(rng, count);
+    }
+    case.room = if rng.once_in(8) { rng.below(9000) } else { case.proof.len() };
+    case
+}
+
+fn damage(rng: &mut Rng, sheet: &mut Vec<u8>) {
+    if sheet.is_empty() {
+        return sheet.push(rng.byte());
+    }
+    let place = rng.below(sheet.len());
+    let more = 1 + rng.pick(&[0, 3, 50, 9000]);
+    match rng.below(8) {
+        0 => sheet.truncate(place),
+        1 => sheet.extend(rng.bytes(more)),
+        2 => drop(sheet.remove(place)),
+        3 => sheet.insert(place, rng.byte()),
+        4 => sheet[place] = rng.byte(),
+        _ => sheet[place] ^= 1 << rng.below(8),
+    }
+}
+
+fn noise(rng: &mut Rng) -> Case {
+    let n = 1 + rng.below(3);
+    let (t, k) = (rng.below(3), rng.below(3));
+    let mut claim = vec![n as u8, t as u8, 0, 0, 0, 0, 0, 0];
+    let mut proof = vec![n as u8, 0, k as u8, 0, 1, 0, 0, 0];
+    let most = rng.pick(&[1, 2, 4, 255]);
+    let mut body = |length: usize| -> Vec<u8> {
+        (0..length).map(|_| if rng.once_in(3) { rng.below(most) as u8 } else { 0 }).collect()
+    };
+    claim.extend(body(t * (n + 4)));
+    proof.extend(body(k * (2 * n + 12)));
+    for sheet in [&mut claim, &mut proof] {
+        if rng.once_in(8) {
+            let length = rng.below(30);
+            *sheet = rng.bytes(length);
+        }
+    }
+    let offsets = offsets(rng, n);
+    Case { room: proof.len(), claim, proof, offsets }
+}

@@ -1,0 +1,18 @@
+//! Generators of random sheets.
+//!
+//! `plan` makes sheets backwards, from the weights they are to have after the shift, by a `shape`
+//! and `rows`; `breaks` puts the faults 1 to 15 and 20 into sheets; `offsets` has evaluations
+//! and 21; `kinds` lists what is generated.
+
+mod breaks;
+mod kinds;
+mod offsets;
+mod plan;
+mod rng;
+mod rows;
+mod shape;
+
+pub use kinds::{Expected, Kind};
+pub use plan::Plan;
+pub use rng::Rng;
+pub use shape::Shape;

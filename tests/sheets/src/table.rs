@@ -1,0 +1,87 @@
+//! The examples in document 01's table of refusals.
+
+use crate::worked::{power_claim, square_claim, square_proof};
+use crate::{Case, Claim, Proof, MOST};
+
+/// An example of the table: what is refused, and the number and index it is refused by.
+pub struct Entry {
+    pub number: u32,
+    pub index: usize,
+    pub case: Case,
+}
+
+impl Entry {
+    /// 20 and 21 refuse evaluations, all others checks.
+    pub fn is_evaluation(&self) -> bool {
+        self.number >= 20
+    }
+
+    /// The program can be shown every example but that of 3, where it takes the ninth byte for
+    /// the proof's, that of 11, as its output is always long enough, and the evaluations.
+    pub fn is_for_program(&self) -> bool {
+        !matches!(self.number, 3 | 11 | 20 | 21)
+    }
+}
+
+/// Square as a case.
+fn square() -> Case {
+    Case::new(&square_claim(0, -2), &square_proof())
+}
+
+/// Square with another claim.
+fn square_with_claim(claim: Claim) -> Case {
+    Case::new(&claim, &square_proof())
+}
+
+/// Square with another proof.
+fn square_with_proof(proof: Proof) -> Case {
+    Case::new(&square_claim(0, -2), &proof)
+}
+
+/// Square with other rows.
+fn square_with_row(v: u8, w: u8, weights: [i32; 3]) -> Case {
+    square_with_proof(Proof::new(1, &[([v], [w], weights)]))
+}
+
+/// One term with one lone row at its point.
+fn lone(point: u8, coefficient: i32, scale: u32) -> Case {
+    let claim = Claim::new(0, &[([point], coefficient)]);
+    Case::new(&claim, &Proof::new(scale, &[([point], [point], [0, 0, 0])]))
+}
+
+/// A sheet without terms or rows, and one byte after it.
+fn with_ninth_byte(mut bytes: Vec<u8>) -> Vec<u8> {
+    bytes.push(0);
+    bytes
+}
+
+/// The examples in the order of their numbers.
+pub fn entries() -> Vec<Entry> {
+    let no_terms = Claim::new::<1>(0, &[]);
+    let no_rows = Proof::new::<1>(1, &[]);
+    let cases = [
+        (0, Case { claim: vec![], proof: vec![], room: 0, offsets: vec![] }),
+        (0, square_with_claim(Claim::new::<0>(0, &[]))),
+        (0, Case { claim: with_ninth_byte(no_terms.bytes()), ..square() }),
+        (0, square_with_claim(square_claim(MOST + 1, -2))),
+        (1, square_with_claim(square_claim(0, 0))),
+        (2, square_with_claim(Claim::new(0, &[([0], 1), ([1], -2), ([121], 1)]))),
+        (1, square_with_claim(Claim::new(0, &[([2], 1), ([2], 1)]))),
+        (0, Case { proof: square_proof().bytes()[..7].to_vec(), ..square() }),
+        (0, square_with_proof(Proof { scale: 0, ..square_proof() })),
+        (0, Case { proof: with_ninth_byte(no_rows.bytes()), ..square() }),
+        (0, Case { room: 21, ..square() }),
+        (0, square_with_row(0, 121, [1, 1, -2])),
+        (0, square_with_row(0, 1, [1, 1, -2])),
+        (0, square_with_row(1, 1, [1, 1, 0])),
+        (0, square_with_row(0, 2, [1, 1, MOST + 1])),
+        (0, square_with_proof(no_rows)),
+        (0, lone(2, MOST, 2)),
+        (0, lone(1, 1, 1)),
+        (0, square_with_claim(square_claim(1, -2))),
+        (0, Case { offsets: vec![1, 1], ..square() }),
+        (0, Case { claim: power_claim(57).bytes(), offsets: vec![2], ..square() }),
+    ];
+    let numbered = (1..).zip(cases);
+    numbered.map(|(number, (index, case))| Entry { number, index, case }).collect()
+}

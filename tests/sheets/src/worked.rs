@@ -1,0 +1,81 @@
+//! The worked sheets A to J of document 01.
+
+use crate::{Claim, Example, Proof};
+
+/// The claim of Square, x² − 2x + 1, with a floor and a coefficient at point 1.
+pub fn square_claim(floor: i32, middle: i32) -> Claim {
+    Claim::new(floor, &[([0], 1), ([1], middle), ([2], 1)])
+}
+
+/// The proof of Square: S 1 and one row 0, 2 weighted 1, 1, −2.
+pub fn square_proof() -> Proof {
+    Proof::new(1, &[([0], [2], [1, 1, -2])])
+}
+
+/// Motzkin's polynomial.
+pub fn motzkin_claim() -> Claim {
+    Claim::new(0, &[([0, 0], 1), ([2, 2], -3), ([2, 4], 1), ([4, 2], 1)])
+}
+
+/// The proof of Motzkin's polynomial with a first cross weight.
+fn motzkin_proof(first_cross: i32) -> Proof {
+    Proof::new(
+        1,
+        &[
+            ([0, 0], [2, 4], [1, 1, first_cross]),
+            ([1, 2], [3, 2], [2, 2, -4]),
+            ([2, 2], [4, 2], [1, 1, -2]),
+        ],
+    )
+}
+
+/// J: 1 at point 56, whose value at offset 2 is 2^56.
+pub fn power_claim(exponent: u8) -> Claim {
+    Claim::new(0, &[([exponent], 1)])
+}
+
+const MOTZKIN_TEXT: &str = "accepted rows 3 scale 1 floor 0\n\
+    row 0 p 1 q 1 r -2\n\
+    row 1 p 2 q 2 r -4\n\
+    row 2 p 1 q 1 r -2\n";
+
+/// The worked sheets. J is about an evaluation; its proof, one lone row, lets the program accept
+/// it as well.
+pub fn examples() -> Vec<Example> {
+    let square = |name, floor, middle, text| Example {
+        name,
+        claim: square_claim(floor, middle),
+        proof: square_proof(),
+        text,
+    };
+    let empty = |name, floor, text| Example {
+        name,
+        claim: Claim::new::<1>(floor, &[]),
+        proof: Proof::new::<1>(1, &[]),
+        text,
+    };
+    let motzkin = |name, first_cross, text| Example {
+        name,
+        claim: motzkin_claim(),
+        proof: motzkin_proof(first_cross),
+        text,
+    };
+    vec![
+        square("A", 0, -2, "accepted rows 1 scale 1 floor 0\nrow 0 p 1 q 1 r -2\n"),
+        square("B", 0, 2, "accepted rows 1 scale 1 floor 0\nrow 0 p 1 q 1 r -2\n"),
+        square("C", -1, -2, "accepted rows 1 scale 1 floor -1\nrow 0 p 2 q 1 r -2\n"),
+        square("D", 1, -2, "refused 19 at 0\n"),
+        empty("E", 0, "accepted rows 0 scale 1 floor 0\n"),
+        empty("F", 1, "refused 16 at 0\n"),
+        empty("F-minus", -1, "refused 16 at 0\n"),
+        motzkin("G", -2, MOTZKIN_TEXT),
+        motzkin("H", -3, MOTZKIN_TEXT),
+        motzkin("I", -1, "refused 19 at 1\n"),
+        Example {
+            name: "J",
+            claim: power_claim(56),
+            proof: Proof::new(1, &[([56], [56], [1, 0, 0])]),
+            text: "accepted rows 1 scale 1 floor 0\nrow 0 p 1 q 0 r 0\n",
+        },
+    ]
+}
