@@ -6,16 +6,18 @@ use Prim.Native.Nat.{ℕ, _^_, _<_, _≤_}
 use lib.Dec.{eqb}
 use lib.IntN.{ℤ, natAbs, _*ℤ_}
 use lib.ListN.{length}
+use lib.Signed.{_≤ℤ_}
 use Rattle.monomials.specs.Lists.{table}
 use Rattle.monomials.specs.Powers.{monomialOf}
 use Rattle.monomials.specs.Sums.{valueAt}
 use Rattle.sheets.specs.Layout.{variables, termCount}
-use Rattle.sheets.specs.ClaimSheet.{termPoint, coefficientOf, termOf, termsOf}
+use Rattle.sheets.specs.ClaimSheet.{floorOf, termPoint, coefficientOf, termOf, termsOf}
 use Rattle.checks.specs.Answers.{Answer, accepted, says, refuseIf, refuseAt, blameless, andThen, Passes}
 use Rattle.checks.specs.Bounds.{beyond}
 use Rattle.checks.specs.ClaimChecks.{claimAnswer}
 use Rattle.checks.specs.Searches.{first}
 use Rattle.checks.specs.declared.answers.Verdict.the-variants as Verdicts
+use Rattle.judging.specs.Check.{checkAnswer}
 use Rattle.evaluation.specs.declared.evaluations.Evaluation.{Evaluation}
 use Rattle.evaluation.specs.declared.evaluations.Evaluation.the-variants.{Value, Refused}
 
@@ -69,7 +71,7 @@ evaluationAnswer c x =
 unfoldable pub evaluationOf : List ℕ → List ℤ → Told
 evaluationOf c x = toldBy (evaluationAnswer c x) (valueAt x (termsOf c))
 
--- ---- its promise
+-- ---- its promises
 
 -- "Offsets are n signed 32-bit numbers", for a claim that passes its checks, with "every term's exact absolute value .. at
 -- most 2^56"
@@ -80,5 +82,11 @@ pub record Evaluable (c : List ℕ) (x : List ℤ) : Type 0 where
 
 -- "The exact value of f is given if every term's exact absolute value is at most 2^56", and only then
 pub record Evaluates (c : List ℕ) (x : List ℤ) (r : Evaluation) : Type 0 where
-  pub given : Evaluable c x → r ≡ Value (valueAt x (termsOf c))
-  pub exact : (z : ℤ) → r ≡ Value z → Evaluable c x × (z ≡ valueAt x (termsOf c))
+  pub given : Evaluable c x → tells r ≡ value (valueAt x (termsOf c))
+  pub exact : (z : ℤ) → tells r ≡ value z → Evaluable c x × (z ≡ valueAt x (termsOf c))
+
+-- Demand 3: "At whatever offsets that claim is evaluated, every value reported is the polynomial's exact value there and at
+-- least the floor", where the claim is accepted with some proof and output
+pub record Floored (c : List ℕ) (x : List ℤ) (r : Evaluation) : Type 0 where
+  pub floored : (s out : List ℕ) (k : ℕ) → checkAnswer c s (length out) ≡ accepted k → (z : ℤ) → tells r ≡ value z
+      → (z ≡ valueAt x (termsOf c)) × (floorOf c ≤ℤ z)

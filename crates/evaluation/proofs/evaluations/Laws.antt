@@ -39,8 +39,9 @@ use Rattle.checks.proofs.answers.Laws.{passes-if, passes-at, passes-then, then-
 use Rattle.checks.proofs.bounds.Laws.{over-bound, within-bound, bound-within}
 use Rattle.checks.proofs.searches.Laws.{first-at, first-on, first-nothing, nothing-first}
 use Rattle.checks.proofs.WellFormed.{claim-facts, claim-room}
+use Rattle.judging.proofs.Promises.{floor-kept}
 use Rattle.evaluation.specs.Evaluations as Spec
-use Rattle.evaluation.specs.Evaluations.{refusal, tells, toldBy, termValue, greatestTerm, large, largeAnswer, sumTo, summed, evaluationAnswer, evaluationOf, Evaluable, Evaluates}
+use Rattle.evaluation.specs.Evaluations.{refusal, tells, toldBy, termValue, greatestTerm, large, largeAnswer, sumTo, summed, evaluationAnswer, evaluationOf, Evaluable, Evaluates, Floored}
 use Rattle.evaluation.specs.declared.evaluations.Evaluation.{Evaluation}
 use Rattle.evaluation.specs.declared.evaluations.Evaluation.the-variants.{Value, Refused}
 
@@ -65,7 +66,7 @@ value-told a y z h = go (blameless a) refl h
 
 -- ---- a value that is given, and when one is given
 
-pub value-given : (c : List ℕ) (x : List ℤ) (z : ℤ) → evaluationOf c x ≡ Spec.value z → z ≡ valueAt x (termsOf c)
+value-given : (c : List ℕ) (x : List ℤ) (z : ℤ) → evaluationOf c x ≡ Spec.value z → z ≡ valueAt x (termsOf c)
 unfolding evaluationOf
 value-given c x z h = value-told _ z _ h .1
 
@@ -96,22 +97,21 @@ passes c x e =
     rw (then-on (claimAnswer c) (refuseIf (not (eqb (length x) (variables c))) 20 large) (e .formed), if-on _ 20 large m)
     (large-passes c (variables c) (termCount c) x (e .small))
 
--- only a value tells one
-value-only : (r : Evaluation) (z : ℤ) → tells r ≡ Spec.value z → r ≡ Value z
-unfolding tells
-value-only (Value y) z h = ap Value (cc)
-value-only (Refused sheet) z h = let q : _≡_ {A = ℕ} 0 1 = cc in absurd (omega arith)
+module _ (c : List ℕ) (x : List ℤ) (r : Evaluation) (h : tells r ≡ evaluationOf c x) where
+  pub evaluates : Evaluates c x r
+  unfolding evaluationOf tells
+  evaluates = record {
+    given = λ e. h ∙ sym (told-value _ _ (passes c x e));
+    exact = λ z q. (let t = value-told _ z _ (sym h ∙ q) in (evaluable c x (t .0), t .1));
+  }
 
-tells-value : (r : Evaluation) (z : ℤ) → r ≡ Value z → tells r ≡ Spec.value z
-unfolding tells
-tells-value r z h = rw h
-
-pub evaluates : (c : List ℕ) (x : List ℤ) (r : Evaluation) → tells r ≡ evaluationOf c x → Evaluates c x r
-unfolding evaluationOf
-evaluates c x r h = record {
-  given = λ e. value-only r _ (h ∙ sym (told-value _ _ (passes c x e)) ∙ tells-value (Value _) _ refl);
-  exact = λ z q. (let t = value-told _ z _ (sym h ∙ tells-value r z q) in (evaluable c x (t .0), t .1));
-}
+  -- the joint to the check
+  pub floored : Floored c x r
+  floored = record {
+    floored = λ s out k e z q.
+      let given = value-given c x z (sym h ∙ q) in
+      (given, rw given (floor-kept c s (length out) (accepted-passes _ k e) x));
+  }
 
 -- ---- the sum of the first terms
 

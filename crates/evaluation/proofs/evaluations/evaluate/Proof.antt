@@ -1,4 +1,4 @@
-use Rattle.evaluation.proofs.evaluations.Laws.{evaluates, claim-refused, claim-long, offsets-refused, terms-room, all-summed}
+use Rattle.evaluation.proofs.evaluations.Laws.{evaluates, floored, claim-refused, claim-long, offsets-refused, terms-room, all-summed}
 use borrow.Author.Needs.{needs}
 use Rattle.evaluation.proofs.evaluations.evaluate.Statement.{statement}
 use Rattle.evaluation.proofs.evaluations.evaluate.Tie as tie
@@ -10,7 +10,7 @@ enum-known-sheet : tie.Need-enum-known-sheet
 enum-known-sheet c = search needs
 
 returns : tie.Need-returns
-returns c = search (claim-refused, evaluates)
+returns c = search (claim-refused, evaluates, floored)
 
 enum-told : tie.Need-enum-told
 enum-told c = search needs
@@ -19,7 +19,7 @@ variables-requires : tie.Need-variables-requires
 variables-requires c κs = search claim-long
 
 returns-2 : tie.Need-returns-2
-returns-2 c = search (offsets-refused, evaluates)
+returns-2 c = search (offsets-refused, evaluates, floored)
 
 term-count-requires : tie.Need-term-count-requires
 term-count-requires c κs = search claim-long
@@ -28,7 +28,7 @@ summed-requires : tie.Need-summed-requires
 summed-requires c κs = search terms-room
 
 returns-3 : tie.Need-returns-3
-returns-3 c = search (all-summed, evaluates)
+returns-3 c = search (all-summed, evaluates, floored)
 
 pub evaluate-spec : {M : Type 1} → statement M
 evaluate-spec =
