@@ -1,2 +1,3 @@
 pub mod Cases
 pub mod WellFormed
+pub mod Short

@@ -1,7 +1,7 @@
 -- Answers: verdicts in document 01's numbers, and checks in the order of their numbers.
 use mathlib.Core.Path.{_≡_}
 use mathlib.Core.Bool.{Bool, true, false, cond, _||_}
-use Prim.Native.Nat.{ℕ}
+use Prim.Native.Nat.{ℕ, _<_}
 use lib.Dec.{eqb, leb}
 use Rattle.checks.specs.declared.answers.Sheet.the-variants.{Claim, Proof, Output, Offsets}
 use Rattle.checks.specs.declared.answers.Verdict.{Verdict}
@@ -62,3 +62,8 @@ andThen answer later = cond (blameless answer) later answer
 -- every check is passed
 abbrev pub Passes : Answer → Type 0
 Passes answer = blameless answer ≡ true
+
+-- a number and a value of 16 bits, as every check has them
+pub record Short (answer : Answer) : Type 0 where
+  pub number-short : answer .number < 65536
+  pub value-short : answer .value < 65536

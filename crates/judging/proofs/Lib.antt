@@ -1,2 +1,3 @@
 pub mod Promises
 pub mod Cases
+pub mod Short

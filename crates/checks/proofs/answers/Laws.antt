@@ -121,6 +121,11 @@ pub accepted-value : (k : ℕ) → says (Accepted k) .value ≡ k
 unfolding says accepted
 accepted-value k = refl
 
+pub accepted-number : (v : Verdict) → Passes (says v) → says v .number ≡ 0
+unfolding says accepted
+accepted-number (Accepted k) h = refl
+accepted-number (Refused x) h = absurd (false≢true (sym (failed (Refused x) _ refl x refl) ∙ h))
+
 pub accepted-says : (k : ℕ) → says (Accepted k) ≡ accepted k
 unfolding says
 accepted-says k = refl

@@ -13,6 +13,7 @@ use mir.Val.{SFits, toZ, ofZ}
 use mir.Facts.{toZ-ofZ}
 use borrow.Author.Tests.{eq-eqb, ne-eqb, eqb-true, not-false}
 use Rattle.integers.proofs.Integers.{abs-add, fits-within}
+use Rattle.integers.proofs.words.Laws.{Bytes}
 use Rattle.monomials.specs.Lists.{table}
 use Rattle.monomials.specs.Points.{exponents, pointOf}
 use Rattle.monomials.specs.Powers.{monomialOf, Says, within}
@@ -27,7 +28,7 @@ use Rattle.monomials.proofs.powers.Laws.{within-says}
 use Rattle.sheets.specs.Layout.{variables, termCount, ClaimRoom}
 use Rattle.sheets.specs.ClaimSheet.{termPoint, coefficientOf, termOf, termsOf}
 use Rattle.sheets.proofs.claim_sheet.Laws.{terms-table, term-point, term-coefficient}
-use Rattle.checks.specs.Answers.{Answer, accepted, says, refuseIf, blameless, Passes}
+use Rattle.checks.specs.Answers.{Answer, accepted, says, refuseIf, blameless, Passes, Short}
 use Rattle.checks.specs.ClaimChecks.{claimAnswer}
 use Rattle.checks.specs.Searches.{first}
 use Rattle.checks.specs.declared.answers.Sheet.{Sheet}
@@ -40,6 +41,7 @@ use Rattle.checks.proofs.bounds.Laws.{over-bound, within-bound, bound-within}
 use Rattle.checks.proofs.searches.Laws.{first-at, first-on, first-nothing, nothing-first}
 use Rattle.checks.proofs.WellFormed.{claim-facts, claim-room}
 use Rattle.judging.proofs.Promises.{floor-kept}
+use Rattle.evaluation.proofs.Short.{evaluation-short}
 use Rattle.evaluation.specs.Evaluations as Spec
 use Rattle.evaluation.specs.Evaluations.{refusal, tells, toldBy, termValue, greatestTerm, large, largeAnswer, sumTo, summed, evaluationAnswer, evaluationOf, Evaluable, Evaluates, Floored}
 use Rattle.evaluation.specs.declared.evaluations.Evaluation.{Evaluation}
@@ -63,6 +65,31 @@ value-told a y z h = go (blameless a) refl h
     go : (b : Bool) → blameless a ≡ b → cond b (Spec.value z) (refusal a) ≡ Spec.value y → Passes a × (y ≡ z)
     go true e k = (e, cc)
     go false e k = let q : _≡_ {A = ℕ} 0 1 = cc in absurd (omega arith)
+
+-- a refusal is told as the checks answer it
+refusal-told : (a b : Answer) (z : ℤ) → toldBy a z ≡ refusal b → b ≡ a
+unfolding toldBy
+refusal-told a b z h = go (blameless a) h
+  where
+    go : (e : Bool) → cond e (Spec.value z) (refusal a) ≡ refusal b → b ≡ a
+    go true k = let q : _≡_ {A = ℕ} 0 1 = cc in absurd (omega arith)
+    go false k = cc
+
+-- ---- for the crates above: what a value and a refusal tell
+
+module _ (c : List ℕ) (x : List ℤ) (r : Evaluation) (e : tells r ≡ evaluationOf c x) where
+  pub tells-value : (z : ℤ) → r ≡ Value z → evaluationOf c x ≡ Spec.value z
+  unfolding tells
+  tells-value z h = rw (← e, h)
+
+  module _ (sheet : Sheet) (h : r ≡ Refused sheet) where
+    pub tells-refusal : evaluationOf c x ≡ refusal (says (Verdicts.Refused sheet))
+    unfolding tells
+    tells-refusal = rw (← e, h)
+
+    pub refused-short : Bytes c → Short (says (Verdicts.Refused sheet))
+    unfolding evaluationOf
+    refused-short b = rw (refusal-told _ _ _ tells-refusal) (evaluation-short c x b)
 
 -- ---- a value that is given, and when one is given
 
@@ -109,8 +136,8 @@ module _ (c : List ℕ) (x : List ℤ) (r : Evaluation) (h : tells r ≡ evaluat
   pub floored : Floored c x r
   floored = record {
     floored = λ s out k e z q.
-      let given = value-given c x z (sym h ∙ q) in
-      (given, rw given (floor-kept c s (length out) (accepted-passes _ k e) x));
+        let given = value-given c x z (sym h ∙ q) in
+        (given, rw given (floor-kept c s (length out) (accepted-passes _ k e) x));
   }
 
 -- ---- the sum of the first terms

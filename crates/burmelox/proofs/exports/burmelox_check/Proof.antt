@@ -1,0 +1,23 @@
+use Rattle.burmelox.proofs.exports.Laws.{checked-short, checked-code}
+use borrow.Author.Needs.{needs}
+use Rattle.burmelox.proofs.exports.burmelox_check.Statement.{statement}
+use Rattle.burmelox.proofs.exports.burmelox_check.Tie as tie
+use Rattle.burmelox.proofs.exports.burmelox_check.Reads as reads
+use Rattle.burmelox.proofs.exports.burmelox_check.Lts as lts
+use Rattle.burmelox.proofs.exports.code.Reads as code-reads
+use Rattle.judging.proofs.check.check.Reads as check-reads
+
+check-requires : tie.Need-check-requires
+check-requires c κs = search needs
+
+code-requires : tie.Need-code-requires
+code-requires c κs = search checked-short
+
+same-length : tie.Need-same-length
+same-length c = search needs
+
+returns : tie.Need-returns
+returns c = (search checked-code, search needs)
+
+pub burmelox-check-spec : {M : Type 1} → statement M
+burmelox-check-spec = tie.close (tie.spec check-requires code-requires same-length returns)

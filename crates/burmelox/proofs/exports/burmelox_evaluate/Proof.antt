@@ -1,0 +1,33 @@
+use mir.Facts.{toZ-ofZ}
+use Rattle.evaluation.proofs.evaluations.Laws.{refused-short}
+use Rattle.burmelox.proofs.exports.Laws.{refused-code, refused-value, given-code, given-value}
+use borrow.Author.Needs.{needs}
+use Rattle.burmelox.proofs.exports.burmelox_evaluate.Statement.{statement}
+use Rattle.burmelox.proofs.exports.burmelox_evaluate.Tie as tie
+use Rattle.burmelox.proofs.exports.burmelox_evaluate.Reads as reads
+use Rattle.burmelox.proofs.exports.burmelox_evaluate.Lts as lts
+use Rattle.burmelox.proofs.exports.code.Reads as code-reads
+use Rattle.evaluation.proofs.evaluations.evaluate.Reads as evaluate-reads
+
+evaluate-requires : tie.Need-evaluate-requires
+evaluate-requires c κs = search needs
+
+enum-known-sheet : tie.Need-enum-known-sheet
+enum-known-sheet c = search needs
+
+code-requires : tie.Need-code-requires
+code-requires c κs = search refused-short
+
+enum-known-v : tie.Need-enum-known-v
+enum-known-v c = search needs
+
+returns : tie.Need-returns
+returns c = (search refused-code, search refused-value)
+
+returns-2 : tie.Need-returns-2
+returns-2 c = (search given-code, search (given-value, toZ-ofZ))
+
+pub burmelox-evaluate-spec : {M : Type 1} → statement M
+burmelox-evaluate-spec =
+    tie.close
+    (tie.spec evaluate-requires enum-known-sheet code-requires enum-known-v returns returns-2)

@@ -1,0 +1,45 @@
+// The exported functions.
+use checks::answers::Verdict;
+use checks::answers::numbers_of;
+use evaluation::evaluations::Evaluation;
+use evaluation::evaluations::evaluate;
+use judging::check::check;
+ghost use mathlib.Core.Path.{_≡_};
+ghost use lib.ListN.{length};
+ghost use Rattle.checks.specs.Answers.{says, Short};
+ghost use Rattle.judging.specs.Check.{checkAnswer, outputOf};
+ghost use Rattle.evaluation.specs.Evaluations.{evaluationOf};
+ghost use Rattle.burmelox.specs.Exports.{codeOf, toldCode, toldValue};
+
+// k for an acceptance, number × 65,536 + index for a refusal.
+fn code(verdict: Verdict) -> u64
+    requires { ⌜ Short (says verdict) ⌝ }
+    ensures { λ r. ⌜ r ≡ codeOf (says verdict) ⌝ }
+{
+    let said = numbers_of(verdict);
+    said.number as u64 * 65536 + said.value as u64
+}
+
+// Checks a claim and its proof, and writes the exact proof into the output where they are accepted.
+#[no_mangle]
+pub extern "C" fn burmelox_check(claim: &[u8], proof: &[u8], output: &mut [u8]) -> u64
+    ensures code { λ r. ⌜ r ≡ codeOf (checkAnswer (now (claim .entry)) (now (proof .entry)) (length (now (output .entry)))) ⌝ }
+    ensures written { λ r. ⌜ now (output .exit) ≡ outputOf (now (claim .entry)) (now (proof .entry)) (now (output .entry)) ⌝ }
+{
+    code(check(claim, proof, output))
+}
+
+// Evaluates a claim's polynomial: 0 and the value, or the refusal's code and the value as it was.
+#[no_mangle]
+pub extern "C" fn burmelox_evaluate(claim: &[u8], offsets: &[i32], value: &mut i64) -> u64
+    ensures code { λ r. ⌜ r ≡ toldCode (evaluationOf (now (claim .entry)) (now (offsets .entry))) ⌝ }
+    ensures written { λ r. ⌜ now (value .exit) ≡ toldValue (evaluationOf (now (claim .entry)) (now (offsets .entry))) (now (value .entry)) ⌝ }
+{
+    match evaluate(claim, offsets) {
+        Evaluation::Refused(sheet) => code(Verdict::Refused(sheet)),
+        Evaluation::Value(v) => {
+            *value = v;
+            0
+        }
+    }
+}
