@@ -4,6 +4,8 @@
  * A refusal is one number: its number in the table of refusals times 65,536, plus the index of
  * the first offending term or row (0 where nothing is indexed). Sheets, outputs and offsets may
  * be of any length and content; a refusal writes nothing.
+ *
+ * No pointer is null, also where its length is 0, and what is written overlaps nothing else.
  */
 #ifndef BURMELOX_H
 #define BURMELOX_H

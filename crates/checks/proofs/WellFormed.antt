@@ -9,17 +9,14 @@ use lib.IntN.{pos, natAbs}
 use lib.ListN.{length}
 use borrow.Author.Tests.{ltb-false, leb-true, eqb-true, eqb-false, not-false, lt-ltb}
 use Rattle.integers.proofs.Integers.{abs-zero}
-use Rattle.monomials.specs.Lists.{All}
 use Rattle.monomials.specs.Points.{samePoint, risesTo, hasMidpoint, exponentsWithin}
-use Rattle.monomials.specs.Decomposition.{Placed}
-use Rattle.monomials.proofs.Lists.{all-table}
 use Rattle.monomials.proofs.points.Laws.{same-eq, rises-self, rises-trans}
 use Rattle.checks.specs.Answers.{Passes}
 use Rattle.checks.specs.Bounds.{greatestExponent, greatestWeight, greatestRows, greatestScale}
 use Rattle.sheets.specs.Layout.{variables, termCount, rowCount, proofLength, ClaimRoom, ProofRoom}
 use Rattle.sheets.specs.ClaimSheet.{floorOf, termPoint, coefficientOf}
 use Rattle.checks.specs.ClaimChecks as C
-use Rattle.sheets.specs.ProofSheet.{scaleOf, vOf, wOf, tripleOf, rowOf, rowsOf}
+use Rattle.sheets.specs.ProofSheet.{scaleOf, vOf, wOf, tripleOf}
 use Rattle.checks.specs.ProofChecks as P
 use Rattle.checks.specs.WellFormed.{sheetsAnswer, WellFormed, ClaimFacts, Within, ProofFacts}
 use Rattle.sheets.specs.declared.proof_sheet.Triple.{Triple}
@@ -28,7 +25,6 @@ use Rattle.checks.specs.declared.proof_checks.RowRule.the-variants as R
 use Rattle.checks.proofs.answers.Laws.{passes-if, passes-at, passes-then, then-passes}
 use Rattle.checks.proofs.bounds.Laws.{within-bound, bound-within}
 use Rattle.checks.proofs.searches.Laws.{first-nothing}
-use Rattle.sheets.proofs.proof_sheet.Laws.{row-placed, rows-table}
 use Rattle.checks.proofs.claim_checks.Laws.{header-counts}
 
 -- ---- tests that fail
@@ -230,9 +226,3 @@ points-differ c n t f i j l h =
         → risesTo (termPoint c n i) (termPoint c n j) ≡ true → b ≡ false
     go true e r = absurd (true≢false (sym r ∙ rw (same-eq _ _ e) (rises-self (termPoint c n j))))
     go false e r = refl
-
--- every row has its two points, a pair with a whole midpoint
-pub rows-placed : (s : List ℕ) (n : ℕ) → ProofFacts s n (rowCount s) → All (Placed n) (rowsOf s)
-rows-placed s n f =
-    rw (← (rows-table s n (rowCount s) (sym (f .same)) refl))
-    (all-table (rowOf s n (rowCount s)) (Placed n) (rowCount s) (λ i l. row-placed s n (rowCount s) i (f .whole i l)))

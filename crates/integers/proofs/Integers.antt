@@ -6,7 +6,7 @@
 --
 -- Each integer is a difference of naturals, its parts `up` and `dn`. A mark goes down to the unknowns, each becomes such a
 -- difference, and what is left is arithmetic of naturals.
-use mathlib.Core.Path.{_≡_, refl, sym, _∙_, ap, subst}
+use mathlib.Core.Path.{_≡_, refl, sym, ap, subst}
 use mathlib.Core.Logic.{_⊎_, inl, inr, ⊎-elim, _↔_}
 use mathlib.Core.Bool.{Bool, true, false, not, cond}
 use Prim.Native.Nat.{ℕ, zero, suc, _+_, _*_, _-_, _<_, _≤_, _^_, min}
@@ -17,7 +17,6 @@ use lib.IntN.{ℤ, pos, negsuc, negℤ, natAbs, subℕ, _+ℤ_, _*ℤ_, zero-*�
 use lib.Signed.{mag, ltZ, leZ, _≤ℤ_, _<ℤ_, ≤ℤ-refl, ltZ-no}
 use mir.Syntax.{Width, w64}
 use mir.Val.{SFits, hbits, toZ, ofZ}
-use mir.Facts.{toZ-ofZ}
 
 -- ---- differences of naturals
 
@@ -273,13 +272,6 @@ pub leZ-false : (x y : ℤ) → leZ x y ≡ false → y <ℤ x
 leZ-false x y e = ⊎-elim (λ h. absurd (subst T e (h .le))) (λ h. h) (≤ℤ-or-<ℤ x y)
 
 -- and the test from the fact
-pub le-leZ : {x y : ℤ} → x ≤ℤ y → leZ x y ≡ true
-le-leZ {x} {y} h = pick (leZ x y) (h .le)
-  where
-    pick : (b : Bool) → T b → b ≡ true
-    pick true t = refl
-    pick false t = absurd t
-
 pub le-ltZ : {x y : ℤ} → y ≤ℤ x → ltZ x y ≡ false
 le-ltZ {x} {y} h = pick (ltZ x y) (ltZ-true x y)
   where
@@ -344,9 +336,6 @@ pub *ℤ-swap : (a b c d : ℤ) → (a *ℤ b) *ℤ (c *ℤ d) ≡ (a *ℤ c) *�
 pub ≤ℤ-trans : {x y z : ℤ} → x ≤ℤ y → y ≤ℤ z → x ≤ℤ z
 ≤ℤ-trans h k = omega ints
 
-pub ≤ℤ-antisym : {x y : ℤ} → x ≤ℤ y → y ≤ℤ x → x ≡ y
-≤ℤ-antisym h k = omega ints
-
 pub +ℤ-mono : {x y u v : ℤ} → x ≤ℤ y → u ≤ℤ v → (x +ℤ u) ≤ℤ (y +ℤ v)
 +ℤ-mono h k = by-le (simp ring (omega ints))
 
@@ -403,10 +392,6 @@ fits-within z k h l = by-fits (simp ring (omega (ints, sizes z)))
 -- what the machine reads back of a signed number that it wrote
 abbrev pub back : ℤ → ℤ
 back z = toZ w64 (ofZ w64 z)
-
--- numbers with the same bits, as a test `x == y` tells of them, are the same
-pub bits-same : (w : Width) {x y : ℤ} → SFits w x → SFits w y → ofZ w x ≡ ofZ w y → x ≡ y
-bits-same w f g e = sym (toZ-ofZ f) ∙ ap (toZ w) e ∙ toZ-ofZ g
 
 -- ---- large identities
 

@@ -1,12 +1,11 @@
 -- The promises of the check, from what its answer is.
-use mathlib.Core.Path.{_≡_, refl, sym, _∙_, ap}
+use mathlib.Core.Path.{_≡_, sym, _∙_, ap}
 use mathlib.Core.Bool.{false}
-use mathlib.Core.List.{List, _++_}
+use mathlib.Core.List.{List}
 use mathlib.Core.Logic.{_↔_}
 use Prim.Native.Nat.{ℕ, _≤_, _<_}
-use native.Mathlib.Omega.{arith}
 use lib.IntN.{ℤ}
-use lib.ListN.{length, drop}
+use lib.ListN.{length}
 use lib.Signed.{_≤ℤ_}
 use Rattle.integers.proofs.words.Laws.{Bytes}
 use Rattle.monomials.specs.Points.{Exponents}
@@ -31,7 +30,8 @@ use Rattle.sharing.proofs.Rows.{rows-all, rows-each, rows-stay-placed, row-stay
 use Rattle.judging.specs.Unheld.{unheldAt, unheldAnswer}
 use Rattle.judging.specs.Exact.{weightsFor, exactProof, AllWithin}
 use Rattle.judging.specs.Check.{weighedAnswer, targetsOf, checkAnswer}
-use Rattle.judging.specs.Promises.{Decomposes}
+use Rattle.judging.specs.Promises.{Decomposes, Reads}
+use Rattle.judging.proofs.exact.Laws.{exact-rows}
 use Rattle.judging.proofs.input.Laws.{input-passes, input-formed, input-enough}
 use Rattle.judging.proofs.unheld.Laws.{unheld-passes, unheld-passed, met-adds, adds-met}
 use Rattle.judging.proofs.judgements.Laws.{judged-passed, judged-accepted}
@@ -134,3 +134,8 @@ module _ (c s : List ℕ) where
     pub exact-bytes : Bytes s → exactProof τ s ≡ s
     unfolding exactProof
     exact-bytes b = sheet-again s (variables s) (rowCount s) (own .proof .unused) (weightsFor τ s) b (λ i l. weights-stay i)
+
+-- demand 2, what is written
+pub exact-reads : Reads
+unfolding targetsOf
+exact-reads c s f w = exact-rows c s (floorOf c) (scaleOf s) (sheets-checked c s f) w

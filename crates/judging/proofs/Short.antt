@@ -2,7 +2,6 @@
 use mathlib.Core.List.{List}
 use Prim.Native.Nat.{ℕ, suc, _≤_}
 use native.Mathlib.Omega.{arith}
-use lib.ListN.{length}
 use Rattle.integers.proofs.words.Laws.{Bytes}
 use Rattle.sheets.specs.Layout.{variables, termCount, rowCount}
 use Rattle.checks.specs.Answers.{Short}

@@ -7,7 +7,6 @@ use lib.Signed.{ltZ}
 use Rattle.monomials.specs.Rows.{Row}
 use Rattle.monomials.specs.declared.rows.Weights.{Weights}
 use Rattle.monomials.specs.declared.rows.Weights.the-variants.{Pair, Lone}
-use Rattle.sheets.specs.ProofSheet.{tripleFor}
 use Rattle.sheets.specs.declared.proof_sheet.Triple.{Triple}
 use Rattle.checks.specs.Answers.{Answer, accepted, refuseAt}
 use Rattle.checks.specs.Searches.{first}

@@ -18,7 +18,7 @@ use Rattle.checks.specs.Bounds.{greatestWeight}
 use Rattle.checks.specs.WellFormed.{WellFormed}
 use Rattle.checks.specs.declared.answers.Verdict.{Verdict}
 use Rattle.sharing.specs.Shifts.{shiftedRows}
-use Rattle.judging.specs.Exact.{AllWithin}
+use Rattle.judging.specs.Exact.{exactProof, AllWithin}
 use Rattle.judging.specs.Check.{targetsOf}
 
 -- "every row holds and the weights add up to the target at every point", of rows beside a claim and a proof's scale
@@ -31,6 +31,12 @@ pub record Decomposes (c s : List ℕ) (rows : List Row) : Type 0 where
 pub record Decides (c s out : List ℕ) (v : Verdict) : Type 0 where
   pub decides : WellFormed c s → length s ≤ length out
       → (says v ≡ accepted (rowCount s)) ↔ (AllWithin greatestWeight (targetsOf c s) s × Decomposes c s (shiftedRows (targetsOf c s) s))
+
+-- Demand 2: "what is written is that shifted proof": where the shifted weights stay within ±2^30, the rows of the exact
+-- proof are the shifted rows
+abbrev pub Reads : Type 0
+Reads = (c s : List ℕ) → WellFormed c s → AllWithin greatestWeight (targetsOf c s) s
+    → rowsOf (exactProof (targetsOf c s) s) ≡ shiftedRows (targetsOf c s) s
 
 -- Demand 3: "If a claim and proof are accepted .. then the polynomial is at least the floor at all whole offsets, of
 -- either sign and however large"

@@ -11,7 +11,7 @@ ghost use Rattle.checks.specs.Bounds.{greatestWeight};
 ghost use Rattle.sheets.specs.Layout.{variables, rowCount};
 ghost use Rattle.sheets.specs.ProofSheet.{withRows};
 ghost use Rattle.sharing.specs.Targets.{targetOf};
-ghost use Rattle.sharing.specs.Shifts.{shiftedRow, CheckedSheets};
+ghost use Rattle.sharing.specs.Shifts.{CheckedSheets};
 ghost use Rattle.judging.specs.Exact.{AllWithin, weightsFor, exactProof};
 
 // The shifted weights of every row, in bytes that have room for the proof.

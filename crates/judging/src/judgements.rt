@@ -13,8 +13,6 @@ use sheets::proof_sheet::row_count;
 use sheets::proof_sheet::triple_for;
 ghost use mathlib.Core.Path.{_≡_};
 ghost use Prim.Native.Nat.{_≤_, _<_};
-ghost use lib.IntN.{pos, natAbs, _*ℤ_};
-ghost use lib.Signed.{ltZ};
 ghost use Rattle.checks.specs.Answers.{says};
 ghost use Rattle.checks.specs.Bounds.{greatestWeight};
 ghost use Rattle.checks.specs.WellFormed.{Within};

@@ -14,7 +14,7 @@ ghost use Prim.Native.Nat.{suc, _≤_};
 ghost use lib.Dec.{eqb};
 ghost use lib.IntN.{natAbs};
 ghost use Rattle.monomials.specs.Points.{exponents, pointOf};
-ghost use Rattle.sheets.specs.Layout.{variables, termCount, rowCount};
+ghost use Rattle.sheets.specs.Layout.{variables, termCount};
 ghost use Rattle.checks.specs.Searches.{first};
 ghost use Rattle.checks.specs.Bounds.{greatestWeight, greatestScale};
 ghost use Rattle.checks.specs.WellFormed.{ClaimFacts};

@@ -1,6 +1,6 @@
 -- Laws of shifted rows, for the crates above: their slots are the shifted slots, so that the weights add up to the target
 -- at every held point and to 0 at any other; rows keep their points; and a proof whose weights add up stays as it is.
-use mathlib.Core.Path.{_≡_, refl, _∙_, ap}
+use mathlib.Core.Path.{_≡_, refl, _∙_, ap, ap₂}
 use mathlib.Core.Bool.{Bool, true, false}
 use mathlib.Core.List.{List, []}
 use Prim.Native.Nat.{ℕ, zero, suc, _<_}
@@ -68,11 +68,11 @@ whole-stays τ L before v w (Lone p) h = tt
 
 -- a row keeps its points, and a lone row stays lone
 module _ (τ : Exponents → ℤ) (s : List ℕ) (i : ℕ) where
-  pub keeps-v : shiftedRow τ s i .v ≡ vOf s (variables s) i
+  keeps-v : shiftedRow τ s i .v ≡ vOf s (variables s) i
   unfolding shiftedRow shiftRow
   keeps-v = row-v s (variables s) (rowCount s) i
 
-  pub keeps-w : shiftedRow τ s i .w ≡ wOf s (variables s) i
+  keeps-w : shiftedRow τ s i .w ≡ wOf s (variables s) i
   unfolding shiftedRow shiftRow
   keeps-w = row-w s (variables s) (rowCount s) i
 
@@ -94,6 +94,18 @@ module _ (τ : Exponents → ℤ) (s : List ℕ) (i : ℕ) where
         w-length = h .w-length;
         whole = whole-stays τ (slots (rowsOf s)) (slotsBefore s i) (a .v) (a .w) (a .weights) (h .whole);
       }
+
+  with-points : shiftedRow τ s i
+      ≡ record { v = vOf s (variables s) i; w = wOf s (variables s) i; weights = shiftedRow τ s i .weights }
+  with-points =
+      ap₂ (λ (v w : Exponents). record { v = v; w = w; weights = shiftedRow τ s i .weights }) keeps-v keeps-w
+
+-- every row, with its points as the sheet has them
+pub rows-are : (τ : Exponents → ℤ) (s : List ℕ) → shiftedRows τ s
+    ≡ table (λ i. record { v = vOf s (variables s) i; w = wOf s (variables s) i; weights = shiftedRow τ s i .weights })
+    (rowCount s)
+unfolding shiftedRows
+rows-are τ s = table-same (shiftedRow τ s) _ (rowCount s) (λ i l. with-points τ s i)
 
 -- what holds of each row
 module _ (τ : Exponents → ℤ) (s : List ℕ) (P : Row → Type 0) where

@@ -1,12 +1,12 @@
 -- Laws of the exported functions: the ways through them.
-use mathlib.Core.Path.{_≡_, refl, _∙_, ap}
+use mathlib.Core.Path.{_≡_, refl, _∙_}
 use mathlib.Core.Bool.{Bool, true, false, cond}
 use mathlib.Core.List.{List}
 use Prim.Native.Nat.{ℕ, _+_, _*_}
 use native.Mathlib.Omega.{arith}
 use lib.IntN.{ℤ}
 use Rattle.integers.proofs.words.Laws.{Bytes}
-use Rattle.checks.specs.Answers.{Answer, says, blameless, Short}
+use Rattle.checks.specs.Answers.{says, blameless, Short}
 use Rattle.checks.specs.declared.answers.Sheet.{Sheet}
 use Rattle.checks.specs.declared.answers.Verdict.{Verdict}
 use Rattle.checks.specs.declared.answers.Verdict.the-variants as Verdicts

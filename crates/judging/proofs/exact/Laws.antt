@@ -1,26 +1,27 @@
--- Laws of the exact proof: the ways through writing it, and a proof whose weights add up is written as it stands.
-use mathlib.Core.Path.{_≡_, refl, sym, _∙_, ap}
+-- Laws of the exact proof: the ways through writing it, and its rows are the shifted rows.
+use mathlib.Core.Path.{_≡_, refl, sym, _∙_}
 use mathlib.Core.List.{List, _++_}
-use Prim.Native.Nat.{ℕ, _+_, _*_, _^_, _≤_, _<_}
+use Prim.Native.Nat.{ℕ, _+_, _*_, _≤_, _<_}
 use native.Mathlib.Omega.{arith}
 use lib.Dec.{lit<}
 use lib.IntN.{ℤ}
 use lib.ListN.{length, take, drop, length-append}
 use lib.Seq.{take-length}
-use mir.Syntax.{w32}
-use mir.Val.{SFits}
 use Rattle.integers.proofs.Integers.{fits-within}
+use Rattle.monomials.specs.Points.{Exponents}
 use Rattle.monomials.specs.declared.rows.Weights.{Weights}
 use Rattle.sheets.specs.Layout.{variables, rowCount, ProofRoom}
-use Rattle.sheets.specs.ProofSheet.{tripleFor, byValue, Narrow, withWeights, withRows}
+use Rattle.sheets.specs.ProofSheet.{rowsOf, tripleFor, byValue, Narrow, withWeights, withRows}
 use Rattle.sheets.specs.declared.proof_sheet.Row.{Row}
 use Rattle.sheets.specs.declared.proof_sheet.Triple.{Triple}
 use Rattle.sheets.proofs.proof_sheet.Laws.{value-weights}
-use Rattle.sheets.proofs.proof_sheet.Writing.{all-none, all-more, all-length, all-append}
+use Rattle.sheets.proofs.proof_sheet.Writing.{all-none, all-more, all-length, all-append, sheet-read}
 use Rattle.checks.specs.Bounds.{greatestWeight}
 use Rattle.checks.specs.WellFormed.{Within}
+use Rattle.checks.proofs.WellFormed.{proof-room}
 use Rattle.sharing.specs.Targets.{targetOf}
-use Rattle.sharing.specs.Shifts.{shiftedRow, CheckedSheets}
+use Rattle.sharing.specs.Shifts.{shiftedRow, shiftedRows, CheckedSheets}
+use Rattle.sharing.proofs.Rows.{keeps-kind, rows-are}
 use Rattle.judging.specs.Exact.{weightsFor, exactProof, AllWithin}
 
 within-narrow : (x : Triple) → Within greatestWeight x → Narrow x
@@ -91,3 +92,15 @@ module _ (c s out o : List ℕ) (b : ℤ) (S : ℕ) (e : o ≡ take (length s) s
       eo ∙ rw (copied, eb)
       (all-append (weightsFor (targetOf c b S) s) s (variables s) (rowCount s) (drop (length s) out) (rowCount s) (omega arith)
       (omega (arith, given .proof .sized)))
+
+-- ---- the exact proof's rows are the shifted rows
+
+pub exact-rows : (c s : List ℕ) (b : ℤ) (S : ℕ) → CheckedSheets c s b S → AllWithin greatestWeight (targetOf c b S) s
+    → rowsOf (exactProof (targetOf c b S) s) ≡ shiftedRows (targetOf c b S) s
+unfolding exactProof weightsFor
+exact-rows c s b S given w =
+    let τ : Exponents → ℤ = targetOf c b S in
+    let room = proof-room s (variables s) (rowCount s) (rw (given .same) (given .claim .few)) (given .proof) in
+    sheet-read s (variables s) (rowCount s) (weightsFor τ s) room (λ i l. within-narrow _ (w .within i l))
+    (λ i l. keeps-kind τ s i) refl refl
+    ∙ sym (rows-are τ s)

@@ -5,15 +5,14 @@ use Prim.Native.Nat.{ℕ, _+_, _<_, _≤_}
 use native.Mathlib.Nat.{mul-le-mul, mul-le-mul-right}
 use native.Mathlib.Omega.{arith}
 use lib.IntN.{ℤ}
-use lib.ListN.{length, getD}
+use lib.ListN.{length}
 use mir.Syntax.{w32}
 use mir.Val.{SFits}
 use Rattle.integers.specs.Words.{i32At}
 use Rattle.integers.proofs.words.Laws.{Bytes, i32-fits}
 use Rattle.monomials.specs.Decomposition.{Sized}
-use Rattle.monomials.proofs.Lists.{table-length, table-get, all-table}
+use Rattle.monomials.proofs.Lists.{all-table}
 use Rattle.monomials.specs.Lists.{table}
-use Rattle.monomials.specs.Points.{Exponents}
 use Rattle.monomials.proofs.points.Laws.{bytes-length}
 use Rattle.sheets.specs.Layout.{variables, termCount, place, pointAt, ClaimRoom}
 use Rattle.sheets.specs.ClaimSheet.{floorOf, termPoint, coefficientOf, termOf, termsOf}
@@ -62,15 +61,6 @@ term-coefficient c n t i = refl
 pub point-length : (c : List ℕ) (n i : ℕ) → length (termPoint c n i) ≡ n
 unfolding termPoint
 point-length c n i = bytes-length c (pointAt n i) n
-
-pub terms-length : (c : List ℕ) → length (termsOf c) ≡ termCount c
-unfolding termsOf
-terms-length c = table-length (termOf c (variables c) (termCount c)) (termCount c)
-
-pub terms-get : (c : List ℕ) (d : Exponents × ℤ) (i : ℕ) → i < termCount c
-    → getD (termsOf c) i d ≡ (termPoint c (variables c) i, coefficientOf c (variables c) (termCount c) i)
-unfolding termsOf termOf
-terms-get c d i l = table-get (termOf c (variables c) (termCount c)) d (termCount c) i l
 
 -- every term of a claim has as many exponents as the claim has variables
 pub terms-sized : (c : List ℕ) → Sized (variables c) (termsOf c)

@@ -6,10 +6,9 @@ use Prim.Native.Nat.{ℕ, _+_, _*_, _<_, _≤_}
 use native.Mathlib.Nat.{mul-le-mul, mul-le-mul-right}
 use native.Mathlib.Omega.{arith}
 use lib.IntN.{ℤ, pos}
-use lib.ListN.{length, getD}
+use lib.ListN.{length}
 use Rattle.integers.specs.Words.{i32At, withI32}
 use Rattle.integers.proofs.words.Laws.{Bytes, u32-bound, i32-fits}
-use Rattle.monomials.proofs.Lists.{table-length, table-get}
 use Rattle.monomials.proofs.points.Laws.{bytes-length, exponents-of}
 use Rattle.monomials.specs.Lists.{table}
 use Rattle.monomials.specs.Rows as Formal
@@ -204,12 +203,3 @@ by-value a v w x ev ew ex = rw (ev, ew, ex)
 pub rows-table : (s : List ℕ) (n k : ℕ) → n ≡ variables s → k ≡ rowCount s → table (rowOf s n k) k ≡ rowsOf s
 unfolding rowsOf
 rows-table s n k en ek = rw (en, ek)
-
-pub rows-length : (s : List ℕ) → length (rowsOf s) ≡ rowCount s
-unfolding rowsOf
-rows-length s = table-length (rowOf s (variables s) (rowCount s)) (rowCount s)
-
-pub rows-get : (s : List ℕ) (d : Formal.Row) (i : ℕ) → i < rowCount s
-    → getD (rowsOf s) i d ≡ rowOf s (variables s) (rowCount s) i
-unfolding rowsOf
-rows-get s d i l = table-get (rowOf s (variables s) (rowCount s)) d (rowCount s) i l

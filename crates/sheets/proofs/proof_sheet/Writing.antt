@@ -117,12 +117,6 @@ module _ (weights : ℕ → Weights) (s : List ℕ) (n k : ℕ) where
   all-before (suc i) j h = triple-before (so i) (tripleAt n k i) (next i) j (omega arith) ∙ all-before i j h
 
   -- and so does what comes after the proof
-  pub all-after : (i j : ℕ) → i ≤ k → proofLength n k ≤ j → getD (so i) j 0 ≡ getD s j 0
-  unfolding withRows withWeights
-  all-after zero j l h = refl
-  all-after (suc i) j l h =
-      triple-after (so i) (tripleAt n k i) (next i) j (omega (arith, mul-le-mul-right 12 l)) ∙ all-after i j (omega arith) h
-
   pub all-append : (l : List ℕ) (i : ℕ) → i ≤ k → proofLength n k ≤ length s
       → withRows weights (s ++ l) n k i ≡ so i ++ l
   unfolding withRows withWeights

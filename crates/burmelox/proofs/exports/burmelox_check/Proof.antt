@@ -2,10 +2,6 @@ use Rattle.burmelox.proofs.exports.Laws.{checked-short, checked-code}
 use borrow.Author.Needs.{needs}
 use Rattle.burmelox.proofs.exports.burmelox_check.Statement.{statement}
 use Rattle.burmelox.proofs.exports.burmelox_check.Tie as tie
-use Rattle.burmelox.proofs.exports.burmelox_check.Reads as reads
-use Rattle.burmelox.proofs.exports.burmelox_check.Lts as lts
-use Rattle.burmelox.proofs.exports.code.Reads as code-reads
-use Rattle.judging.proofs.check.check.Reads as check-reads
 
 check-requires : tie.Need-check-requires
 check-requires c κs = search needs

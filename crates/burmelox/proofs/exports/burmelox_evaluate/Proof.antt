@@ -4,10 +4,6 @@ use Rattle.burmelox.proofs.exports.Laws.{refused-code, refused-value, g
 use borrow.Author.Needs.{needs}
 use Rattle.burmelox.proofs.exports.burmelox_evaluate.Statement.{statement}
 use Rattle.burmelox.proofs.exports.burmelox_evaluate.Tie as tie
-use Rattle.burmelox.proofs.exports.burmelox_evaluate.Reads as reads
-use Rattle.burmelox.proofs.exports.burmelox_evaluate.Lts as lts
-use Rattle.burmelox.proofs.exports.code.Reads as code-reads
-use Rattle.evaluation.proofs.evaluations.evaluate.Reads as evaluate-reads
 
 evaluate-requires : tie.Need-evaluate-requires
 evaluate-requires c κs = search needs

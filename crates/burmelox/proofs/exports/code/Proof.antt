@@ -2,9 +2,6 @@ use Rattle.burmelox.proofs.exports.Laws.{code-is}
 use borrow.Author.Needs.{needs}
 use Rattle.burmelox.proofs.exports.code.Statement.{statement}
 use Rattle.burmelox.proofs.exports.code.Tie as tie
-use Rattle.burmelox.proofs.exports.code.Reads as reads
-use Rattle.burmelox.proofs.exports.code.Lts as lts
-use Rattle.checks.proofs.answers.numbers_of.Reads as numbers-of-reads
 
 numbers-of-requires : tie.Need-numbers-of-requires
 numbers-of-requires c κs = search needs

@@ -2,8 +2,6 @@ use Rattle.checks.specs.Answers.{accepted, says}
 use borrow.Author.Needs.{needs}
 use Rattle.checks.proofs.answers.numbers_of.Statement.{statement}
 use Rattle.checks.proofs.answers.numbers_of.Tie as tie
-use Rattle.checks.proofs.answers.numbers_of.Reads as reads
-use Rattle.checks.proofs.answers.numbers_of.Lts as lts
 
 enum-known-verdict : tie.Need-enum-known-verdict
 enum-known-verdict c = search needs

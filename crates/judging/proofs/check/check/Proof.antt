@@ -3,12 +3,6 @@ use Rattle.judging.proofs.check.Laws.{check-decides, check-floors, refu
 use borrow.Author.Needs.{needs}
 use Rattle.judging.proofs.check.check.Statement.{statement}
 use Rattle.judging.proofs.check.check.Tie as tie
-use Rattle.judging.proofs.check.check.Reads as reads
-use Rattle.judging.proofs.check.check.Lts as lts
-use Rattle.judging.proofs.check.decide.Reads as decide-reads
-use Rattle.judging.proofs.exact.write_exact.Reads as write-exact-reads
-use Rattle.sheets.proofs.claim_sheet.floor.Reads as floor-reads
-use Rattle.sheets.proofs.proof_sheet.scale.Reads as scale-reads
 
 decide-requires : tie.Need-decide-requires
 decide-requires c κs = search needs

@@ -3,12 +3,6 @@ use mir.Facts.{toZ-ofZ}
 use Rattle.judging.proofs.check.Laws.{decided-input, claim-long, proof-long, own-here, decided-weighed}
 use Rattle.judging.proofs.check.decide.Statement.{statement}
 use Rattle.judging.proofs.check.decide.Tie as tie
-use Rattle.judging.proofs.check.decide.Reads as reads
-use Rattle.judging.proofs.check.decide.Lts as lts
-use Rattle.judging.proofs.check.weigh.Reads as weigh-reads
-use Rattle.judging.proofs.input.check_input.Reads as check-input-reads
-use Rattle.sheets.proofs.claim_sheet.floor.Reads as floor-reads
-use Rattle.sheets.proofs.proof_sheet.scale.Reads as scale-reads
 
 check-input-requires : tie.Need-check-input-requires
 check-input-requires c κs = search needs

@@ -3,10 +3,6 @@ use mir.Facts.{toZ-ofZ}
 use Rattle.judging.proofs.check.Laws.{weighed-unheld, weighed-judged}
 use Rattle.judging.proofs.check.weigh.Statement.{statement}
 use Rattle.judging.proofs.check.weigh.Tie as tie
-use Rattle.judging.proofs.check.weigh.Reads as reads
-use Rattle.judging.proofs.check.weigh.Lts as lts
-use Rattle.judging.proofs.judgements.check_judged.Reads as check-judged-reads
-use Rattle.judging.proofs.unheld.first_unheld.Reads as first-unheld-reads
 
 first-unheld-requires : tie.Need-first-unheld-requires
 first-unheld-requires c κs = search (needs, toZ-ofZ)

@@ -3,10 +3,6 @@ use Rattle.judging.proofs.exact.Laws.{copied-room, exact-written}
 use borrow.Author.Needs.{needs}
 use Rattle.judging.proofs.exact.write_exact.Statement.{statement}
 use Rattle.judging.proofs.exact.write_exact.Tie as tie
-use Rattle.judging.proofs.exact.write_exact.Reads as reads
-use Rattle.judging.proofs.exact.write_exact.Lts as lts
-use Rattle.bytes.proofs.copy.Reads as copy-reads
-use Rattle.judging.proofs.exact.write_rows.Reads as write-rows-reads
 
 copy-requires : tie.Need-copy-requires
 copy-requires c κs = search needs

@@ -10,12 +10,6 @@ use Rattle.judging.specs.Exact.{weightsFor}
 use Rattle.judging.proofs.exact.Laws.{room-kept, length-kept, weights-narrow, row-written, rows-written, rows-none}
 use Rattle.judging.proofs.exact.write_rows.Statement.{statement}
 use Rattle.judging.proofs.exact.write_rows.Tie as tie
-use Rattle.judging.proofs.exact.write_rows.Reads as reads
-use Rattle.judging.proofs.exact.write_rows.Lts as lts
-use Rattle.sharing.proofs.shifts.shifted_row.Reads as shifted-row-reads
-use Rattle.sheets.proofs.layout.variables.Reads as variables-reads
-use Rattle.sheets.proofs.proof_sheet.row_count.Reads as row-count-reads
-use Rattle.sheets.proofs.proof_sheet.write_weights.Reads as write-weights-reads
 
 abbrev Inv-loop : tie.InvT-loop
 Inv-loop claim proof floor scale out₀ n k i₀ out i = (i ≤ k) × (out ≡ withRows (weightsFor (targetOf claim (toZ w64 floor) scale) proof) out₀ n k i)

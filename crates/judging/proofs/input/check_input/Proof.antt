@@ -2,11 +2,6 @@ use Rattle.judging.proofs.input.Laws.{input-claim, claim-long, claim-fe
 use borrow.Author.Needs.{needs}
 use Rattle.judging.proofs.input.check_input.Statement.{statement}
 use Rattle.judging.proofs.input.check_input.Tie as tie
-use Rattle.judging.proofs.input.check_input.Reads as reads
-use Rattle.judging.proofs.input.check_input.Lts as lts
-use Rattle.checks.proofs.claim_checks.check_claim.Reads as check-claim-reads
-use Rattle.judging.proofs.input.check_proof.Reads as check-proof-reads
-use Rattle.sheets.proofs.layout.variables.Reads as variables-reads
 
 check-claim-requires : tie.Need-check-claim-requires
 check-claim-requires c κs = search needs

@@ -2,12 +2,6 @@ use Rattle.judging.proofs.input.Laws.{proof-header, proof-long, rows-ro
 use borrow.Author.Needs.{needs}
 use Rattle.judging.proofs.input.check_proof.Statement.{statement}
 use Rattle.judging.proofs.input.check_proof.Tie as tie
-use Rattle.judging.proofs.input.check_proof.Reads as reads
-use Rattle.judging.proofs.input.check_proof.Lts as lts
-use Rattle.checks.proofs.proof_checks.check_header.Reads as check-header-reads
-use Rattle.checks.proofs.proof_checks.check_rows.Reads as check-rows-reads
-use Rattle.judging.proofs.input.check_room.Reads as check-room-reads
-use Rattle.sheets.proofs.proof_sheet.row_count.Reads as row-count-reads
 
 check-header-requires : tie.Need-check-header-requires
 check-header-requires c κs = search needs

@@ -1,9 +1,6 @@
-use borrow.Author.Needs.{needs}
 use Rattle.judging.proofs.input.Laws.{room-short, room-enough}
 use Rattle.judging.proofs.input.check_room.Statement.{statement}
 use Rattle.judging.proofs.input.check_room.Tie as tie
-use Rattle.judging.proofs.input.check_room.Reads as reads
-use Rattle.judging.proofs.input.check_room.Lts as lts
 
 returns : tie.Need-returns
 returns c = search room-short

@@ -3,11 +3,6 @@ use Rattle.judging.proofs.judgements.Laws.{judged-is}
 use borrow.Author.Needs.{needs}
 use Rattle.judging.proofs.judgements.check_judged.Statement.{statement}
 use Rattle.judging.proofs.judgements.check_judged.Tie as tie
-use Rattle.judging.proofs.judgements.check_judged.Reads as reads
-use Rattle.judging.proofs.judgements.check_judged.Lts as lts
-use Rattle.judging.proofs.judgements.chosen.Reads as chosen-reads
-use Rattle.judging.proofs.judgements.judge_all.Reads as judge-all-reads
-use Rattle.sheets.proofs.proof_sheet.row_count.Reads as row-count-reads
 
 row-count-requires : tie.Need-row-count-requires
 row-count-requires c κs = search needs

@@ -2,8 +2,6 @@ use Rattle.judging.proofs.judgements.Laws.{chosen-beyond, chosen-negati
 use borrow.Author.Needs.{needs}
 use Rattle.judging.proofs.judgements.chosen.Statement.{statement}
 use Rattle.judging.proofs.judgements.chosen.Tie as tie
-use Rattle.judging.proofs.judgements.chosen.Reads as reads
-use Rattle.judging.proofs.judgements.chosen.Lts as lts
 
 enum-known-beyond : tie.Need-enum-known-beyond
 enum-known-beyond c = search needs

@@ -1,9 +1,6 @@
-use borrow.Author.Needs.{needs}
 use Rattle.judging.proofs.judgements.Laws.{pq-fits, four-fits, rr-fits, large-is}
 use Rattle.judging.proofs.judgements.is_large.Statement.{statement}
 use Rattle.judging.proofs.judgements.is_large.Tie as tie
-use Rattle.judging.proofs.judgements.is_large.Reads as reads
-use Rattle.judging.proofs.judgements.is_large.Lts as lts
 
 mul-result : tie.Need-mul-result
 mul-result c = search pq-fits

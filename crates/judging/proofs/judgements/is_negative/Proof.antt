@@ -1,10 +1,7 @@
-use borrow.Author.Needs.{needs}
 use mir.Facts.{toZ-ofZ}
 use Rattle.judging.proofs.judgements.Laws.{negative-is}
 use Rattle.judging.proofs.judgements.is_negative.Statement.{statement}
 use Rattle.judging.proofs.judgements.is_negative.Tie as tie
-use Rattle.judging.proofs.judgements.is_negative.Reads as reads
-use Rattle.judging.proofs.judgements.is_negative.Lts as lts
 
 returns : tie.Need-returns
 returns c = search (negative-is, toZ-ofZ)

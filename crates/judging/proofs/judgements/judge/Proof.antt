@@ -3,11 +3,6 @@ use Rattle.judging.proofs.judgements.Laws.{judged-lone, judged-pair}
 use borrow.Author.Needs.{needs}
 use Rattle.judging.proofs.judgements.judge.Statement.{statement}
 use Rattle.judging.proofs.judgements.judge.Tie as tie
-use Rattle.judging.proofs.judgements.judge.Reads as reads
-use Rattle.judging.proofs.judgements.judge.Lts as lts
-use Rattle.judging.proofs.judgements.judge_lone.Reads as judge-lone-reads
-use Rattle.judging.proofs.judgements.judge_pair.Reads as judge-pair-reads
-use Rattle.sheets.proofs.proof_sheet.triple_for.Reads as triple-for-reads
 
 enum-known-weights : tie.Need-enum-known-weights
 enum-known-weights c = search needs

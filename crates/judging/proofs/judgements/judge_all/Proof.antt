@@ -11,10 +11,6 @@ use Rattle.judging.specs.Judgements.{firstsTo}
 use Rattle.judging.proofs.judgements.Laws.{firsts-none, firsts-on, firsts-end}
 use Rattle.judging.proofs.judgements.judge_all.Statement.{statement}
 use Rattle.judging.proofs.judgements.judge_all.Tie as tie
-use Rattle.judging.proofs.judgements.judge_all.Reads as reads
-use Rattle.judging.proofs.judgements.judge_all.Lts as lts
-use Rattle.judging.proofs.judgements.judged_number.Reads as judged-number-reads
-use Rattle.judging.proofs.judgements.note.Reads as note-reads
 
 abbrev Inv-loop : tie.InvT-loop
 Inv-loop claim proof floor scale k f₀ i₀ f i = (i ≤ k) × (f ≡ firstsTo greatestWeight (shiftedRow (targetOf claim (toZ w64 floor) scale) proof) i)

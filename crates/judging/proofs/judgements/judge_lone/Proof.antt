@@ -3,10 +3,6 @@ use Rattle.judging.proofs.judgements.Laws.{lone-beyond, lone-negative, 
 use borrow.Author.Needs.{needs}
 use Rattle.judging.proofs.judgements.judge_lone.Statement.{statement}
 use Rattle.judging.proofs.judgements.judge_lone.Tie as tie
-use Rattle.judging.proofs.judgements.judge_lone.Reads as reads
-use Rattle.judging.proofs.judgements.judge_lone.Lts as lts
-use Rattle.checks.proofs.bounds.is_beyond.Reads as is-beyond-reads
-use Rattle.judging.proofs.judgements.is_negative.Reads as is-negative-reads
 
 is-beyond-requires : tie.Need-is-beyond-requires
 is-beyond-requires c κs = search needs

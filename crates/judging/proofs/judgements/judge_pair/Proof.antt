@@ -3,11 +3,6 @@ use Rattle.judging.proofs.judgements.Laws.{pair-beyond, pair-within, pa
 use borrow.Author.Needs.{needs}
 use Rattle.judging.proofs.judgements.judge_pair.Statement.{statement}
 use Rattle.judging.proofs.judgements.judge_pair.Tie as tie
-use Rattle.judging.proofs.judgements.judge_pair.Reads as reads
-use Rattle.judging.proofs.judgements.judge_pair.Lts as lts
-use Rattle.checks.proofs.proof_checks.any_beyond.Reads as any-beyond-reads
-use Rattle.judging.proofs.judgements.is_large.Reads as is-large-reads
-use Rattle.judging.proofs.judgements.is_negative.Reads as is-negative-reads
 
 any-beyond-requires : tie.Need-any-beyond-requires
 any-beyond-requires c κs = search needs

@@ -3,11 +3,6 @@ use Rattle.judging.proofs.judgements.Laws.{judged-number}
 use borrow.Author.Needs.{needs}
 use Rattle.judging.proofs.judgements.judged_number.Statement.{statement}
 use Rattle.judging.proofs.judgements.judged_number.Tie as tie
-use Rattle.judging.proofs.judgements.judged_number.Reads as reads
-use Rattle.judging.proofs.judgements.judged_number.Lts as lts
-use Rattle.judging.proofs.judgements.judge.Reads as judge-reads
-use Rattle.judging.proofs.judgements.number_of.Reads as number-of-reads
-use Rattle.sharing.proofs.shifts.shifted_row.Reads as shifted-row-reads
 
 shifted-row-requires : tie.Need-shifted-row-requires
 shifted-row-requires c κs = search needs

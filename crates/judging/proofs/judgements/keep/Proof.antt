@@ -2,8 +2,6 @@ use Rattle.judging.proofs.judgements.Laws.{keep-found, keep-hit, keep-n
 use borrow.Author.Needs.{needs}
 use Rattle.judging.proofs.judgements.keep.Statement.{statement}
 use Rattle.judging.proofs.judgements.keep.Tie as tie
-use Rattle.judging.proofs.judgements.keep.Reads as reads
-use Rattle.judging.proofs.judgements.keep.Lts as lts
 
 enum-told : tie.Need-enum-told
 enum-told c = search needs

@@ -2,9 +2,6 @@ use Rattle.judging.proofs.judgements.Laws.{noted-is}
 use borrow.Author.Needs.{needs}
 use Rattle.judging.proofs.judgements.note.Statement.{statement}
 use Rattle.judging.proofs.judgements.note.Tie as tie
-use Rattle.judging.proofs.judgements.note.Reads as reads
-use Rattle.judging.proofs.judgements.note.Lts as lts
-use Rattle.judging.proofs.judgements.keep.Reads as keep-reads
 
 keep-requires : tie.Need-keep-requires
 keep-requires c κs = search needs

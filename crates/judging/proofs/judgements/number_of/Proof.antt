@@ -2,8 +2,6 @@ use Rattle.judging.specs.Judgements.{numberOf}
 use borrow.Author.Needs.{needs}
 use Rattle.judging.proofs.judgements.number_of.Statement.{statement}
 use Rattle.judging.proofs.judgements.number_of.Tie as tie
-use Rattle.judging.proofs.judgements.number_of.Reads as reads
-use Rattle.judging.proofs.judgements.number_of.Lts as lts
 
 enum-told : tie.Need-enum-told
 enum-told c = search needs

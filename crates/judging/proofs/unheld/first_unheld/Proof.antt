@@ -19,15 +19,6 @@ use Rattle.judging.specs.Unheld.{pointFor, unheld}
 use Rattle.judging.proofs.unheld.Laws.{claim-here, proof-here, point-here, target-none, target-some, key-here, key-low, row-found, none-found, all-met}
 use Rattle.judging.proofs.unheld.first_unheld.Statement.{statement}
 use Rattle.judging.proofs.unheld.first_unheld.Tie as tie
-use Rattle.judging.proofs.unheld.first_unheld.Reads as reads
-use Rattle.judging.proofs.unheld.first_unheld.Lts as lts
-use Rattle.judging.proofs.unheld.no_target.Reads as no-target-reads
-use Rattle.judging.proofs.unheld.point_for.Reads as point-for-reads
-use Rattle.monomials.proofs.keys.key_of.Reads as key-of-reads
-use Rattle.sharing.proofs.slots.holds_key.Reads as holds-key-reads
-use Rattle.sheets.proofs.claim_sheet.term_count.Reads as term-count-reads
-use Rattle.sheets.proofs.layout.variables.Reads as variables-reads
-use Rattle.sheets.proofs.proof_sheet.row_count.Reads as row-count-reads
 
 abbrev Inv-loop : tie.InvT-loop
 Inv-loop claim proof floor scale n t k i₀ key j₀ i j = (i ≡ i₀) × (i ≤ t) × (j ≤ k) × (key ≡ keyOf (pointFor claim n t i)) × (eqb (natAbs (targetOf claim (toZ w64 floor) scale (pointFor claim n t i))) 0 ≡ false) × (first (holdsKey proof n key) j ≡ Nothing) × (first (unheld (targetOf claim (toZ w64 floor) scale) claim proof) i ≡ Nothing)

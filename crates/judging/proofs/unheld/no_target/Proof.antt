@@ -3,10 +3,6 @@ use Rattle.judging.proofs.unheld.Laws.{no-target}
 use borrow.Author.Needs.{needs}
 use Rattle.judging.proofs.unheld.no_target.Statement.{statement}
 use Rattle.judging.proofs.unheld.no_target.Tie as tie
-use Rattle.judging.proofs.unheld.no_target.Reads as reads
-use Rattle.judging.proofs.unheld.no_target.Lts as lts
-use Rattle.integers.proofs.magnitudes.magnitude.Reads as magnitude-reads
-use Rattle.sharing.proofs.targets.target_at.Reads as target-at-reads
 
 target-at-requires : tie.Need-target-at-requires
 target-at-requires c κs = search needs

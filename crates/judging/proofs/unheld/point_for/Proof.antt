@@ -3,9 +3,6 @@ use Rattle.checks.proofs.WellFormed.{claim-room}
 use borrow.Author.Needs.{needs}
 use Rattle.judging.proofs.unheld.point_for.Statement.{statement}
 use Rattle.judging.proofs.unheld.point_for.Tie as tie
-use Rattle.judging.proofs.unheld.point_for.Reads as reads
-use Rattle.judging.proofs.unheld.point_for.Lts as lts
-use Rattle.sheets.proofs.claim_sheet.term_point.Reads as term-point-reads
 
 term-point-requires : tie.Need-term-point-requires
 term-point-requires c κs = search (needs, claim-room)

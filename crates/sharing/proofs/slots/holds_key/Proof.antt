@@ -3,10 +3,6 @@ use Rattle.sharing.proofs.slots.Laws.{key-first, key-second, key-middle
 use borrow.Author.Needs.{needs}
 use Rattle.sharing.proofs.slots.holds_key.Statement.{statement}
 use Rattle.sharing.proofs.slots.holds_key.Tie as tie
-use Rattle.sharing.proofs.slots.holds_key.Reads as reads
-use Rattle.sharing.proofs.slots.holds_key.Lts as lts
-use Rattle.sheets.proofs.proof_sheet.v_key.Reads as v-key-reads
-use Rattle.sheets.proofs.proof_sheet.w_key.Reads as w-key-reads
 
 v-key-requires : tie.Need-v-key-requires
 v-key-requires c κs = search (needs, proof-room)
