@@ -7,6 +7,10 @@ use lib.ListN.{length, take, drop}
 use Rattle.sheets.specs.Layout.{variables, termCount, claimLength}
 use Rattle.checks.specs.ClaimChecks.{headerRight}
 
+-- "A program reads at most 8,192 bytes of standard input"
+abbrev pub greatestInput : ℕ
+greatestInput = 8192
+
 -- "as long as its header says"
 unfoldable pub saidLength : List ℕ → ℕ
 saidLength input = claimLength (variables input) (termCount input)

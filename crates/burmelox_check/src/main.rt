@@ -4,12 +4,12 @@ mod printing;
 
 use libc::STDIN_FILENO;
 use libc::STDOUT_FILENO;
-use printing::LARGEST_INPUT;
+use printing::GREATEST_INPUT;
 use printing::print_input;
 use report::reports::LONGEST;
 
 fn main() {
-    let mut input = [0u8; LARGEST_INPUT];
+    let mut input = [0u8; GREATEST_INPUT];
     let read = io::read_full(STDIN_FILENO, &mut input);
     let mut text = [0u8; LONGEST];
     let end = print_input(&input[..read], &mut text);

@@ -6,14 +6,16 @@ use report::reports::report_text;
 ghost use Prim.Native.Nat.{_≤_};
 ghost use lib.ListN.{length};
 ghost use Rattle.report.specs.Text.{Written};
-ghost use Rattle.burmelox_check.specs.Printing.{sheetsText, programText};
+ghost use Rattle.burmelox_check.specs.Input.{greatestInput};
+ghost use Rattle.burmelox_check.specs.Printing.{sheetsText, programText, PrintsLines};
 
-// The bytes of standard input that are read.
-pub(crate) const LARGEST_INPUT: usize = 8192;
+// How many bytes of standard input are read at most.
+pub(crate) const GREATEST_INPUT: usize = 8192;
 
 // The text for a claim and its proof, with an output for the exact proof; the answer is where the text ends.
 fn print_sheets(claim: &[u8], proof: &[u8], output: &mut [u8], text: &mut [u8; LONGEST]) -> usize
-    ensures { λ r. ⌜ Written (now (text .entry)) 0 (sheetsText (now (claim .entry)) (now (proof .entry)) (now (output .entry))) (now (text .exit)) r ⌝ }
+    ensures { λ r. ⌜ Written (now (text .entry)) 0
+        (sheetsText (now (claim .entry)) (now (proof .entry)) (now (output .entry))) (now (text .exit)) r ⌝ }
 {
     let verdict = check(claim, proof, output);
     report_text(claim, output, verdict, text)
@@ -21,11 +23,12 @@ fn print_sheets(claim: &[u8], proof: &[u8], output: &mut [u8], text: &mut [u8; L
 
 // The text for an input, with an output as long as its proof; the answer is where the text ends.
 pub(crate) fn print_input(input: &[u8], text: &mut [u8; LONGEST]) -> usize
-    requires { ⌜ length (now input) ≤ 8192 ⌝ }
-    ensures { λ r. ⌜ Written (now (text .entry)) 0 (programText (now (input .entry))) (now (text .exit)) r ⌝ }
+    requires { ⌜ length (now input) ≤ greatestInput ⌝ }
+    ensures text { λ r. ⌜ Written (now (text .entry)) 0 (programText (now (input .entry))) (now (text .exit)) r ⌝ }
+    ensures lines { λ r. ⌜ PrintsLines (now (input .entry)) ⌝ }
 {
     let end = claim_end(input);
     let rest = input.len() - end;
-    let mut output = [0u8; LARGEST_INPUT];
+    let mut output = [0u8; GREATEST_INPUT];
     print_sheets(&input[..end], &input[end..], &mut output[..rest], text)
 }

@@ -21,14 +21,17 @@ module _ (input : List ℕ) where
 
     module _ (h : wrong ≡ false) (end n t : ℕ) (ee : end ≡ place 8 t (n + 4)) (et : t ≡ termCount input)
         (en : n ≡ variables input) where
+      right : headerRight input ≡ true
+      right = not-false (headerRight input) (sym e ∙ h)
+
       is-said : saidLength input ≡ end
       unfolding saidLength
       is-said = sym (ee ∙ rw (et, en))
 
       pub end-cut : length input < end → length input ≡ claimEnd input
       unfolding claimEnd splits
-      end-cut l = rw (le-leb 8 (length input) long, not-false (headerRight input) (sym e ∙ h), is-said, lt-leb end (length input) l)
+      end-cut l = rw (le-leb 8 (length input) long, right, is-said, lt-leb end (length input) l)
 
       pub end-said : end ≤ length input → end ≡ claimEnd input
       unfolding claimEnd splits
-      end-said l = rw (le-leb 8 (length input) long, not-false (headerRight input) (sym e ∙ h), is-said, le-leb end (length input) l)
+      end-said l = rw (le-leb 8 (length input) long, right, is-said, le-leb end (length input) l)

@@ -2,11 +2,6 @@ use Rattle.burmelox_check.proofs.printing.Laws.{text-counts}
 use borrow.Author.Needs.{needs}
 use Rattle.burmelox_check.proofs.main.Statement.{statement}
 use Rattle.burmelox_check.proofs.main.Tie as tie
-use Rattle.burmelox_check.proofs.main.Reads as reads
-use Rattle.burmelox_check.proofs.main.Lts as lts
-use Rattle.burmelox_check.proofs.printing.print_input.Reads as print-input-reads
-use Rattle.io.proofs.read_full.Reads as read-full-reads
-use Rattle.io.proofs.write_all.Reads as write-all-reads
 
 slice-aggregate-read-full : tie.Need-slice-aggregate-read-full
 slice-aggregate-read-full c = search needs

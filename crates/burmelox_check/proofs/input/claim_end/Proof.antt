@@ -2,12 +2,6 @@ use Rattle.burmelox_check.proofs.input.Laws.{end-short, end-wrong, end-
 use borrow.Author.Needs.{needs}
 use Rattle.burmelox_check.proofs.input.claim_end.Statement.{statement}
 use Rattle.burmelox_check.proofs.input.claim_end.Tie as tie
-use Rattle.burmelox_check.proofs.input.claim_end.Reads as reads
-use Rattle.burmelox_check.proofs.input.claim_end.Lts as lts
-use Rattle.checks.proofs.claim_checks.header_wrong.Reads as header-wrong-reads
-use Rattle.sheets.proofs.claim_sheet.term_count.Reads as term-count-reads
-use Rattle.sheets.proofs.layout.place_of.Reads as place-of-reads
-use Rattle.sheets.proofs.layout.variables.Reads as variables-reads
 
 returns : tie.Need-returns
 returns c = (search end-short, search needs)

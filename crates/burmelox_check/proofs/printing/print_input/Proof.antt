@@ -1,11 +1,7 @@
-use Rattle.burmelox_check.proofs.printing.Laws.{part-counts, rest-counts, input-written}
+use Rattle.burmelox_check.proofs.printing.Laws.{part-counts, rest-counts, input-written, prints-lines}
 use borrow.Author.Needs.{needs}
 use Rattle.burmelox_check.proofs.printing.print_input.Statement.{statement}
 use Rattle.burmelox_check.proofs.printing.print_input.Tie as tie
-use Rattle.burmelox_check.proofs.printing.print_input.Reads as reads
-use Rattle.burmelox_check.proofs.printing.print_input.Lts as lts
-use Rattle.burmelox_check.proofs.input.claim_end.Reads as claim-end-reads
-use Rattle.burmelox_check.proofs.printing.print_sheets.Reads as print-sheets-reads
 
 claim-end-requires : tie.Need-claim-end-requires
 claim-end-requires c κs = search needs
@@ -35,7 +31,7 @@ print-sheets-requires : tie.Need-print-sheets-requires
 print-sheets-requires c κs = search needs
 
 returns : tie.Need-returns
-returns c = search input-written
+returns c = (search input-written, prints-lines _)
 
 pub print-input-spec : {M : Type 1} → statement M
 print-input-spec =

@@ -2,10 +2,6 @@ use Rattle.burmelox_check.proofs.printing.Laws.{sheets-written}
 use borrow.Author.Needs.{needs}
 use Rattle.burmelox_check.proofs.printing.print_sheets.Statement.{statement}
 use Rattle.burmelox_check.proofs.printing.print_sheets.Tie as tie
-use Rattle.burmelox_check.proofs.printing.print_sheets.Reads as reads
-use Rattle.burmelox_check.proofs.printing.print_sheets.Lts as lts
-use Rattle.judging.proofs.check.check.Reads as check-reads
-use Rattle.report.proofs.reports.report_text.Reads as report-text-reads
 
 check-requires : tie.Need-check-requires
 check-requires c κs = search needs
