@@ -35,7 +35,7 @@ pub enum TermRule {
 }
 
 // 2: whether n, t or bytes 2 and 3 are wrong.
-fn header_wrong(claim: &[u8]) -> bool
+pub fn header_wrong(claim: &[u8]) -> bool
     requires { ⌜ 8 ≤ length (now claim) ⌝ }
     ensures { λ r. ⌜ r ≡ not (headerRight (now (claim .entry))) ⌝ }
 {

@@ -1,11 +1,12 @@
 -- The promises of the check, from what its answer is.
 use mathlib.Core.Path.{_≡_, sym, _∙_, ap}
 use mathlib.Core.Bool.{false}
-use mathlib.Core.List.{List}
+use mathlib.Core.List.{List, append-nil}
 use mathlib.Core.Logic.{_↔_}
 use Prim.Native.Nat.{ℕ, _≤_, _<_}
 use lib.IntN.{ℤ}
 use lib.ListN.{length}
+use lib.Seq.{drop-length}
 use lib.Signed.{_≤ℤ_}
 use Rattle.integers.proofs.words.Laws.{Bytes}
 use Rattle.monomials.specs.Points.{Exponents}
@@ -29,7 +30,7 @@ use Rattle.sharing.proofs.shifts.Laws.{sheets-checked}
 use Rattle.sharing.proofs.Rows.{rows-all, rows-each, rows-stay-placed, row-stays, rows-stay}
 use Rattle.judging.specs.Unheld.{unheldAt, unheldAnswer}
 use Rattle.judging.specs.Exact.{weightsFor, exactProof, AllWithin}
-use Rattle.judging.specs.Check.{weighedAnswer, targetsOf, checkAnswer}
+use Rattle.judging.specs.Check.{weighedAnswer, targetsOf, checkAnswer, outputOf}
 use Rattle.judging.specs.Promises.{Decomposes, Reads}
 use Rattle.judging.proofs.exact.Laws.{exact-rows}
 use Rattle.judging.proofs.input.Laws.{input-passes, input-formed, input-enough}
@@ -104,6 +105,18 @@ module _ (c s : List ℕ) where
       then-on _ _ (input-passes c s room f l) ∙ then-on _ _ (unheld-none d)
       ∙ judged-accepted greatestWeight (shiftedRow τ s) (rowCount s)
       (λ i m. (w .within i m, rows-each τ s (λ a. Holds (a .weights)) (d .hold) i m))
+
+  -- an acceptance carries k
+  pub accepted-rows : (room : ℕ) → Passes (checkAnswer c s room) → checkAnswer c s room ≡ accepted (rowCount s)
+  accepted-rows room h =
+      accepts room (accepted-formed room h) (accepted-enough room h) (accepted-within room h)
+      (accepted-decomposes room h)
+
+  -- an output as long as the proof is the exact proof
+  pub accepted-exact : (out : List ℕ) → length out ≡ length s → Passes (checkAnswer c s (length out))
+      → outputOf c s out ≡ exactProof τ s
+  unfolding outputOf
+  accepted-exact out e h = rw (h, ← e, drop-length out) (append-nil (exactProof τ s))
 
   -- demand 2, the decision
   pub decision : (room : ℕ) → WellFormed c s → length s ≤ room

@@ -7,7 +7,7 @@ use Rattle.checks.specs.Answers.{blames, accepted, refused, blameless}
 use Rattle.checks.specs.Cases.{joined, word, words, claimOf, proofOf, squareWith, square, squareProof}
 use Rattle.report.specs.Text.{digits, natural, integer, counted, numbered}
 use Rattle.report.specs.Lines.{scaleText, acceptedLine, laterText, weightsText, rowLine, refusedLine}
-use Rattle.report.specs.Reports.{ended, rowText, rowsText, firstText, acceptedText, refusedText, carries, reportText}
+use Rattle.report.specs.Reports.{ended, linesOf, rowText, rowsText, firstText, acceptedText, refusedText, carries, reportText}
 use Rattle.report.specs.Cases.{cases, Worked}
 
 pub worked : Worked
@@ -15,5 +15,5 @@ unfolding
     u32At i32At floorOf scaleOf wordsAt tripleOf blames accepted refused blameless
     joined word words claimOf proofOf squareWith square squareProof digits natural integer counted numbered
     scaleText acceptedLine laterText weightsText rowLine refusedLine
-    ended rowText rowsText firstText acceptedText refusedText carries reportText cases
+    ended linesOf rowText rowsText firstText acceptedText refusedText carries reportText cases
 worked = refl

@@ -7,6 +7,7 @@ use lib.ListN.{length}
 use Rattle.sheets.specs.Layout.{variables, proofLength}
 use Rattle.sheets.specs.ClaimSheet.{floorOf}
 use Rattle.sheets.specs.ProofSheet.{scaleOf, tripleOf}
+use Rattle.sheets.specs.declared.proof_sheet.Triple.{Triple}
 use Rattle.checks.specs.Answers.{Answer, blameless}
 use Rattle.checks.specs.Bounds.{greatestRows}
 use Rattle.report.specs.Text.{ascii}
@@ -16,13 +17,17 @@ use Rattle.report.specs.Lines.{acceptedLine, rowLine, refusedLine}
 unfoldable pub ended : List ℕ → List ℕ
 ended line = line ++ ascii "\n"
 
+-- the lines of the first i rows, by their weights
+unfoldable pub linesOf : (ℕ → Triple) → ℕ → List ℕ
+linesOf x zero = []
+linesOf x (suc i) = linesOf x i ++ ended (rowLine i (x i))
+
 -- row i of a proof of n variables and k rows, and the first i rows
 unfoldable pub rowText : List ℕ → ℕ → ℕ → ℕ → List ℕ
 rowText s n k i = ended (rowLine i (tripleOf s n k i))
 
 unfoldable pub rowsText : List ℕ → ℕ → ℕ → ℕ → List ℕ
-rowsText s n k zero = []
-rowsText s n k (suc i) = rowsText s n k i ++ rowText s n k i
+rowsText s n k i = linesOf (tripleOf s n k) i
 
 -- an acceptance of k rows: the first line, and all lines
 unfoldable pub firstText : List ℕ → List ℕ → ℕ → List ℕ

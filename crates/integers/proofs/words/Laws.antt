@@ -67,11 +67,15 @@ whole : (u : ℕ) → u < 4294967296 → u % 256 + u / 256 % 256 * 256 + u / 655
 whole u h = omega arith
 
 -- the same bytes are the same word
-same-word : (s t : List ℕ) (p : ℕ) → ((k : ℕ) → k < 4 → getD s (p + k) 0 ≡ getD t (p + k) 0) → i32At s p ≡ i32At t p
-unfolding i32At u32At
-same-word s t p e =
+pub same-bits : (s t : List ℕ) (p : ℕ) → ((k : ℕ) → k < 4 → getD s (p + k) 0 ≡ getD t (p + k) 0) → u32At s p ≡ u32At t p
+unfolding u32At
+same-bits s t p e =
     let e0 : getD s p 0 ≡ getD t p 0 = rw add-zero at (e 0 (omega arith)) in
     rw (e0, e 1 (omega arith), e 2 (omega arith), e 3 (omega arith))
+
+same-word : (s t : List ℕ) (p : ℕ) → ((k : ℕ) → k < 4 → getD s (p + k) 0 ≡ getD t (p + k) 0) → i32At s p ≡ i32At t p
+unfolding i32At
+same-word s t p e = ap (toZ w32) (same-bits s t p e)
 
 module _ (s : List ℕ) (at : ℕ) (v : ℤ) where
   pub written-length : length (withI32 s at v) ≡ length s

@@ -10,12 +10,12 @@ use lib.Seq.{take-length}
 use Rattle.integers.proofs.Integers.{fits-within}
 use Rattle.monomials.specs.Points.{Exponents}
 use Rattle.monomials.specs.declared.rows.Weights.{Weights}
-use Rattle.sheets.specs.Layout.{variables, rowCount, ProofRoom}
-use Rattle.sheets.specs.ProofSheet.{rowsOf, tripleFor, byValue, Narrow, withWeights, withRows}
+use Rattle.sheets.specs.Layout.{variables, rowCount, proofLength, ProofRoom}
+use Rattle.sheets.specs.ProofSheet.{scaleOf, tripleOf, rowsOf, tripleFor, byValue, Narrow, withWeights, withRows}
 use Rattle.sheets.specs.declared.proof_sheet.Row.{Row}
 use Rattle.sheets.specs.declared.proof_sheet.Triple.{Triple}
 use Rattle.sheets.proofs.proof_sheet.Laws.{value-weights}
-use Rattle.sheets.proofs.proof_sheet.Writing.{all-none, all-more, all-length, all-append, sheet-read}
+use Rattle.sheets.proofs.proof_sheet.Writing.{all-none, all-more, all-length, all-before, all-scale, all-append, all-read, sheet-read}
 use Rattle.checks.specs.Bounds.{greatestWeight}
 use Rattle.checks.specs.WellFormed.{Within}
 use Rattle.checks.proofs.WellFormed.{proof-room}
@@ -104,3 +104,25 @@ exact-rows c s b S given w =
     sheet-read s (variables s) (rowCount s) (weightsFor τ s) room (λ i l. within-narrow _ (w .within i l))
     (λ i l. keeps-kind τ s i) refl refl
     ∙ sym (rows-are τ s)
+
+-- ---- the exact proof read: the proof's length, variables and scale, and the shifted weights of every row
+
+module _ (τ : Exponents → ℤ) (s : List ℕ) where
+  pub exact-length : length (exactProof τ s) ≡ length s
+  unfolding exactProof
+  exact-length = all-length (weightsFor τ s) s (variables s) (rowCount s) (rowCount s)
+
+  pub exact-variables : variables (exactProof τ s) ≡ variables s
+  unfolding exactProof
+  exact-variables = all-before (weightsFor τ s) s (variables s) (rowCount s) (rowCount s) 0 (omega arith)
+
+  pub exact-scale : scaleOf (exactProof τ s) ≡ scaleOf s
+  unfolding exactProof
+  exact-scale = all-scale (weightsFor τ s) s (variables s) (rowCount s) (rowCount s)
+
+  pub exact-weights : proofLength (variables s) (rowCount s) ≤ length s → AllWithin greatestWeight τ s
+      → (i : ℕ) → i < rowCount s → tripleOf (exactProof τ s) (variables s) (rowCount s) i ≡ tripleFor (weightsFor τ s i)
+  unfolding exactProof
+  exact-weights r w i l =
+      all-read (weightsFor τ s) s (variables s) (rowCount s) (rowCount s) i l (omega arith) r
+      (λ j m. within-narrow _ (w .within j m))

@@ -1,7 +1,7 @@
 -- Laws of reports: how long they are, what they are for a verdict, and the ways through the code.
-use mathlib.Core.Path.{_≡_, refl, sym, _∙_}
+use mathlib.Core.Path.{_≡_, refl, sym, _∙_, ap}
 use mathlib.Core.Bool.{Bool, true, false, _&&_, and-eq-true-iff}
-use mathlib.Core.List.{List, [], _∷_}
+use mathlib.Core.List.{List, [], _∷_, _++_}
 use Prim.Native.Nat.{ℕ, zero, suc, _+_, _-_, _*_, _^_, _<_, _≤_}
 use native.Mathlib.Numerals.{add-one}
 use native.Mathlib.Omega.{arith}
@@ -17,16 +17,16 @@ use Rattle.sheets.specs.Layout.{variables, place, ProofRoom}
 use Rattle.sheets.specs.ClaimSheet.{floorOf}
 use Rattle.sheets.specs.ProofSheet.{scaleOf, tripleOf}
 use Rattle.sheets.specs.declared.proof_sheet.Triple.{Triple}
-use Rattle.checks.specs.Answers.{says}
+use Rattle.checks.specs.Answers.{Answer, says, accepted, blameless}
 use Rattle.checks.specs.declared.answers.Sheet.{Sheet}
 use Rattle.checks.specs.declared.answers.Verdict.{Verdict}
 use Rattle.checks.specs.declared.answers.Verdict.the-variants.{Accepted, Refused}
 use Rattle.sheets.proofs.claim_sheet.Laws.{floor-fits}
 use Rattle.sheets.proofs.proof_sheet.Laws.{scale-bound, triple-narrow}
-use Rattle.checks.proofs.answers.Laws.{failed, passed, accepted-value}
+use Rattle.checks.proofs.answers.Laws.{failed, passed, accepted-value, accepted-says, accepted-passes}
 use Rattle.report.specs.Text.{ascii, natural, integer, counted, numbered, Room, Written}
 use Rattle.report.specs.Lines.{scaleText, acceptedLine, laterText, weightsText, rowLine, refusedLine}
-use Rattle.report.specs.Reports.{ended, rowText, rowsText, firstText, acceptedText, refusedText, carries, reportText}
+use Rattle.report.specs.Reports.{ended, linesOf, rowText, rowsText, firstText, acceptedText, refusedText, carries, reportText}
 use Rattle.report.proofs.text.Laws.{natural-short, integer-short, room-first, room-then, written-then}
 
 -- ---- how long they are: numbers of 32 bits and at most 256 rows
@@ -64,11 +64,19 @@ row-short s n k i b h =
       word-short (ascii " r ") (x .r) (f .r-fits),
     ))
 
+-- the first rows, one after another
+rows-zero : (s : List ℕ) (n k : ℕ) → rowsText s n k 0 ≡ []
+unfolding rowsText linesOf
+rows-zero s n k = refl
+
+rows-next : (s : List ℕ) (n k i : ℕ) → rowsText s n k (suc i) ≡ rowsText s n k i ++ rowText s n k i
+unfolding rowsText linesOf rowText
+rows-next s n k i = refl
+
 rows-short : (s : List ℕ) (n k i : ℕ) → Bytes s → i ≤ 256 → length (rowsText s n k i) ≤ i * 50
-unfolding rowsText
-rows-short s n k zero b h = omega arith
+rows-short s n k zero b h = rw (rows-zero s n k) (omega arith)
 rows-short s n k (suc i) b h =
-    rw (length-append (rowsText s n k i) (rowText s n k i))
+    rw (rows-next s n k i, length-append (rowsText s n k i) (rowText s n k i))
     (omega (arith, rows-short s n k i b (omega arith), row-short s n k i b h))
 
 refused-short : (number index : ℕ) → number < 10 ^ 10 → index < 10 ^ 20 → length (refusedText number index) ≤ 43
@@ -96,27 +104,26 @@ module _ (s l : List ℕ) (n k i at : ℕ) (x : Triple) (e : x ≡ tripleOf s n 
 
 module _ (s l : List ℕ) (n k at : ℕ) where
   pub rows-none : Room l at (rowsText s n k k) → Written l at (rowsText s n k 0) l at
-  unfolding rowsText
-  rows-none r = record { bytes = refl; ends = omega arith; kept = refl; inside = omega (arith, r .room) }
+  rows-none r =
+      rw (rows-zero s n k) (record { bytes = refl; ends = omega arith; kept = refl; inside = omega (arith, r .room) })
 
   rows-grow : (i d : ℕ) → length (rowsText s n k i) ≤ length (rowsText s n k (i + d))
-  unfolding rowsText
   rows-grow i zero = let e : i + 0 ≡ i = omega arith in rw e (omega arith)
   rows-grow i (suc d) =
       let e : i + suc d ≡ suc (i + d) = omega arith in
-      rw (e, length-append (rowsText s n k (i + d)) (rowText s n k (i + d))) (omega (arith, rows-grow i d))
+      rw (e, rows-next s n k (i + d), length-append (rowsText s n k (i + d)) (rowText s n k (i + d)))
+      (omega (arith, rows-grow i d))
 
   module _ (i mid : ℕ) (m : List ℕ) (w : Written l at (rowsText s n k i) m mid) where
     pub next-room : Room l at (rowsText s n k k) → i < k → Room m mid (rowText s n k i)
-    unfolding rowsText
     next-room r h =
         let e : suc i + (k - suc i) ≡ k = omega arith in
-        let g : length (rowsText s n k (suc i)) ≤ length (rowsText s n k k) = rw e at (rows-grow (suc i) (k - suc i)) in
+        let g : length (rowsText s n k i ++ rowText s n k i) ≤ length (rowsText s n k k) =
+        rw (e, rows-next s n k i) at (rows-grow (suc i) (k - suc i)) in
         room-then (rowsText s n k i) (rowText s n k i) (record { room = omega (arith, r .room) }) w
 
     pub rows-more : (o : List ℕ) (end : ℕ) → Written m mid (rowText s n k i) o end → Written l at (rowsText s n k (i + 1)) o end
-    unfolding rowsText
-    rows-more o end u = rw add-one (written-then (rowsText s n k i) (rowText s n k i) w u)
+    rows-more o end u = rw (add-one, rows-next s n k i) (written-then (rowsText s n k i) (rowText s n k i) w u)
 
     pub rows-all : k ≤ i → i ≤ k → Written l at (rowsText s n k k) m mid
     rows-all h g = let e : i ≡ k = omega arith in rw e at w
@@ -187,7 +194,7 @@ enough c s k h =
     }
 
 -- and that is enough
-pub carries-enough : (c s : List ℕ) (k : ℕ) → 8 ≤ length c → ProofRoom s (variables s) k → carries c s k ≡ true
+carries-enough : (c s : List ℕ) (k : ℕ) → 8 ≤ length c → ProofRoom s (variables s) k → carries c s k ≡ true
 unfolding carries
 carries-enough c s k h r =
     rw (le-leb 8 (length c) h, le-leb 8 (length s) (omega (arith, r .long)), le-leb _ _ (r .few), le-leb _ _ (r .rows), le-leb _ _ (r .long))
@@ -252,3 +259,24 @@ pub refused-room : (l : List ℕ) (number index : ℕ) → Fits w32 number → F
     → Room l 0 (refusedText number index)
 refused-room l number index f g e =
     record { room = omega (arith, refused-short number index (omega (arith, f .fits)) (omega (arith, g .fits))) }
+
+-- ---- what a report says, whatever sheet the weights stand in
+
+lines-same : (x y : ℕ → Triple) (i : ℕ) → ((j : ℕ) → j < i → x j ≡ y j) → linesOf x i ≡ linesOf y i
+unfolding linesOf
+lines-same x y zero h = refl
+lines-same x y (suc i) h = rw (lines-same x y i (λ j l. h j (omega arith)), h i (omega arith))
+
+module _ (c s : List ℕ) where
+  pub refused-lines : (a : Answer) → blameless a ≡ false → reportText c s a ≡ refusedText (a .number) (a .value)
+  unfolding reportText
+  refused-lines a h = rw h
+
+  pub accepted-lines : (k S : ℕ) (x : ℕ → Triple) → 8 ≤ length c → ProofRoom s (variables s) k → scaleOf s ≡ S
+      → ((i : ℕ) → i < k → tripleOf s (variables s) k i ≡ x i)
+      → reportText c s (accepted k) ≡ ended (acceptedLine k S (floorOf c)) ++ linesOf x k
+  unfolding reportText acceptedText firstText rowsText
+  accepted-lines k S x h room es ex =
+      let ev : accepted k .value ≡ k = rw (accepted-says k) at (accepted-value k) in
+      rw (accepted-passes (accepted k) k refl, ev, carries-enough c s k h room, es)
+      (ap (λ (l : List ℕ). ended (acceptedLine k S (floorOf c)) ++ l) (lines-same (tripleOf s (variables s) k) x k ex))

@@ -11,7 +11,7 @@ use native.Mathlib.Omega.{arith}
 use lib.IntN.{ℤ, pos}
 use lib.ListN.{length, getD}
 use Rattle.integers.specs.Words.{i32At, withI32}
-use Rattle.integers.proofs.words.Laws.{Bytes, written-length, written-before, written-after, written-append, read-before, read-written, written-read}
+use Rattle.integers.proofs.words.Laws.{Bytes, same-bits, written-length, written-before, written-after, written-append, read-before, read-written, written-read}
 use Rattle.monomials.specs.Points.{bytesAt, samePoint}
 use Rattle.monomials.specs.Lists.{table}
 use Rattle.monomials.specs.Rows.{Row}
@@ -20,7 +20,7 @@ use Rattle.monomials.proofs.points.Laws.{bytes-same}
 use Rattle.monomials.specs.declared.rows.Weights.{Weights}
 use Rattle.monomials.specs.declared.rows.Weights.the-variants.{Pair, Lone}
 use Rattle.sheets.specs.Layout.{variables, rowCount, place, vAt, wAt, tripleAt, proofLength, ProofRoom}
-use Rattle.sheets.specs.ProofSheet.{vOf, wOf, wordsAt, tripleOf, weightsOf, rowOf, rowsOf, tripleFor, Suits, Narrow, withTriple, withWeights, withRows}
+use Rattle.sheets.specs.ProofSheet.{scaleOf, vOf, wOf, wordsAt, tripleOf, weightsOf, rowOf, rowsOf, tripleFor, Suits, Narrow, withTriple, withWeights, withRows}
 use Rattle.sheets.specs.declared.proof_sheet.Triple.{Triple}
 
 -- ---- one triple
@@ -115,6 +115,10 @@ module _ (weights : ℕ → Weights) (s : List ℕ) (n k : ℕ) where
   unfolding withRows withWeights
   all-before zero j h = refl
   all-before (suc i) j h = triple-before (so i) (tripleAt n k i) (next i) j (omega arith) ∙ all-before i j h
+
+  pub all-scale : (i : ℕ) → scaleOf (so i) ≡ scaleOf s
+  unfolding scaleOf
+  all-scale i = same-bits (so i) s 4 (λ j l. all-before i (4 + j) (omega arith))
 
   -- and so does what comes after the proof
   pub all-append : (l : List ℕ) (i : ℕ) → i ≤ k → proofLength n k ≤ length s

@@ -1,0 +1,49 @@
+-- The cases, computed.
+use mathlib.Core.Path.{refl}
+use Rattle.integers.specs.Words.{u32At, i32At, withBits, withI32}
+use Rattle.integers.specs.Division.{floorDiv, floorMod, share}
+use Rattle.monomials.specs.Lists.{table}
+use Rattle.monomials.specs.Points.{bytesAt, every, everyPair, samePoint, risesTo, midpointOf, evenSum, hasMidpoint, exponentsWithin, keepsSign}
+use Rattle.monomials.specs.Sums.{coefficient}
+use Rattle.monomials.specs.Rows.{slotsAt, slots}
+use Rattle.monomials.specs.Targets.{lowered, worst, target}
+use Rattle.sheets.specs.ClaimSheet.{floorOf, termPoint, coefficientOf, termOf, termsOf}
+use Rattle.sheets.specs.ProofSheet.{scaleOf, vOf, wOf, wordsAt, tripleOf, weightsOf, rowOf, rowsOf, tripleFor, withTriple, withWeights, withRows}
+use Rattle.checks.specs.Answers.{accepted, refused, blames, refuseIf, refuseAt, blameless, andThen}
+use Rattle.checks.specs.Searches.{first}
+use Rattle.checks.specs.Bounds.{beyond}
+use Rattle.checks.specs.ClaimChecks as C
+use Rattle.checks.specs.ProofChecks as P
+use Rattle.checks.specs.Cases.{joined, word, words, claimOf, proofOf, squareWith, square, squareProof}
+use Rattle.sharing.specs.Sharing.{count, errorAt, shiftedWeight}
+use Rattle.sharing.specs.Targets.{targetOf}
+use Rattle.sharing.specs.Slots.{slotsTo}
+use Rattle.sharing.specs.Shifts.{shiftedWeights, shiftRow, slotsBefore, shiftedRow}
+use Rattle.judging.specs.Input.{roomAnswer, proofAnswer, inputAnswer}
+use Rattle.judging.specs.Unheld.{pointFor, unheldAt, unheld, unheldAnswer}
+use Rattle.judging.specs.Judgements.{negative, large, judgePair, judgeLone, judgementOf, numberOf, judgedNumber, judgedAs, firstsTo, judgedAnswer}
+use Rattle.judging.specs.Exact.{weightsFor, exactProof}
+use Rattle.judging.specs.Check.{weighedAnswer, targetsOf, checkAnswer, outputOf}
+use Rattle.judging.specs.Cases.{motzkin, motzkinProof}
+use Rattle.report.specs.Text.{digits, natural, integer, counted, numbered}
+use Rattle.report.specs.Lines.{scaleText, acceptedLine, laterText, weightsText, rowLine, refusedLine}
+use Rattle.report.specs.Reports.{ended, linesOf, rowsText, firstText, acceptedText, refusedText, carries, reportText}
+use Rattle.burmelox_check.specs.Input.{saidLength, splits, claimEnd, claimPart, proofPart}
+use Rattle.burmelox_check.specs.Printing.{sheetsText, programText}
+use Rattle.burmelox_check.specs.Cases.{cases, Worked}
+
+pub worked : Worked
+unfolding
+    u32At i32At withBits withI32 floorDiv floorMod share table bytesAt every everyPair samePoint risesTo midpointOf
+    evenSum hasMidpoint exponentsWithin keepsSign coefficient slotsAt slots lowered worst target floorOf termPoint
+    coefficientOf termOf termsOf scaleOf vOf wOf wordsAt tripleOf weightsOf rowOf rowsOf tripleFor withTriple
+    withWeights withRows accepted refused blames refuseIf refuseAt blameless andThen first beyond C.headerRight
+    C.breaks C.termsAnswer C.claimAnswer P.headerRight P.headerAnswer P.carries P.anyBeyond P.breaks P.rowsAnswer
+    joined word words claimOf proofOf squareWith square squareProof count errorAt shiftedWeight targetOf slotsTo
+    shiftedWeights shiftRow slotsBefore shiftedRow roomAnswer proofAnswer inputAnswer pointFor unheldAt
+    unheld unheldAnswer negative large judgePair judgeLone judgementOf numberOf judgedNumber judgedAs firstsTo
+    judgedAnswer weightsFor exactProof weighedAnswer targetsOf checkAnswer outputOf motzkin motzkinProof
+    digits natural integer counted numbered scaleText acceptedLine laterText weightsText rowLine refusedLine
+    ended linesOf rowsText firstText acceptedText refusedText carries reportText
+    saidLength splits claimEnd claimPart proofPart sheetsText programText cases
+worked = refl

@@ -1,0 +1,43 @@
+-- What the program prints.
+use mathlib.Core.Path.{_≡_}
+use mathlib.Core.Bool.{false}
+use mathlib.Core.List.{List, _++_}
+use Prim.Native.Nat.{ℕ}
+use lib.ListN.{length, replicate}
+use Rattle.sheets.specs.Layout.{rowCount}
+use Rattle.sheets.specs.ClaimSheet.{floorOf}
+use Rattle.sheets.specs.ProofSheet.{scaleOf, tripleFor}
+use Rattle.checks.specs.Answers.{blameless, Passes}
+use Rattle.judging.specs.Exact.{weightsFor}
+use Rattle.judging.specs.Check.{targetsOf, checkAnswer, outputOf}
+use Rattle.report.specs.Lines.{acceptedLine}
+use Rattle.report.specs.Reports.{ended, linesOf, refusedText, reportText}
+use Rattle.burmelox_check.specs.Input.{claimPart, proofPart}
+
+-- the report of the check of a claim and its proof, with what it leaves in the output
+unfoldable pub sheetsText : List ℕ → List ℕ → List ℕ → List ℕ
+sheetsText c s out = reportText c (outputOf c s out) (checkAnswer c s (length out))
+
+abbrev pub zeros : ℕ → List ℕ
+zeros k = replicate k 0
+
+-- "with an output as long as the proof"
+unfoldable pub programText : List ℕ → List ℕ
+programText input = sheetsText (claimPart input) (proofPart input) (zeros (length (proofPart input)))
+
+-- ---- the same in document 01's words, for every claim and proof
+
+-- "Fields are k, S, b, then row index and shifted weights."
+unfoldable pub acceptedLines : List ℕ → List ℕ → List ℕ
+acceptedLines c s =
+    ended (acceptedLine (rowCount s) (scaleOf s) (floorOf c))
+    ++ linesOf (λ i. tripleFor (weightsFor (targetsOf c s) s i)) (rowCount s)
+
+-- an acceptance has these lines, and "A refusal prints `refused 19 at 0`: number, index"
+pub record IsPrinted (c s text : List ℕ) : Type 0 where
+  pub acceptance : Passes (checkAnswer c s (length s)) → text ≡ acceptedLines c s
+  pub refusal : blameless (checkAnswer c s (length s)) ≡ false
+      → text ≡ refusedText (checkAnswer c s (length s) .number) (checkAnswer c s (length s) .value)
+
+abbrev pub PrintsLines : List ℕ → Type 0
+PrintsLines input = IsPrinted (claimPart input) (proofPart input) (programText input)

@@ -1,0 +1,34 @@
+// What the program prints for its input.
+use crate::input::claim_end;
+use judging::check::check;
+use report::reports::LONGEST;
+use report::reports::report_text;
+ghost use Prim.Native.Nat.{_≤_};
+ghost use lib.ListN.{length};
+ghost use Rattle.report.specs.Text.{Written};
+ghost use Rattle.burmelox_check.specs.Input.{greatestInput};
+ghost use Rattle.burmelox_check.specs.Printing.{sheetsText, programText, PrintsLines};
+
+// How many bytes of standard input are read at most.
+pub(crate) const GREATEST_INPUT: usize = 8192;
+
+// The text for a claim and its proof, with an output for the exact proof; the answer is where the text ends.
+fn print_sheets(claim: &[u8], proof: &[u8], output: &mut [u8], text: &mut [u8; LONGEST]) -> usize
+    ensures { λ r. ⌜ Written (now (text .entry)) 0
+        (sheetsText (now (claim .entry)) (now (proof .entry)) (now (output .entry))) (now (text .exit)) r ⌝ }
+{
+    let verdict = check(claim, proof, output);
+    report_text(claim, output, verdict, text)
+}
+
+// The text for an input, with an output as long as its proof; the answer is where the text ends.
+pub(crate) fn print_input(input: &[u8], text: &mut [u8; LONGEST]) -> usize
+    requires { ⌜ length (now input) ≤ greatestInput ⌝ }
+    ensures text { λ r. ⌜ Written (now (text .entry)) 0 (programText (now (input .entry))) (now (text .exit)) r ⌝ }
+    ensures lines { λ r. ⌜ PrintsLines (now (input .entry)) ⌝ }
+{
+    let end = claim_end(input);
+    let rest = input.len() - end;
+    let mut output = [0u8; GREATEST_INPUT];
+    print_sheets(&input[..end], &input[end..], &mut output[..rest], text)
+}
