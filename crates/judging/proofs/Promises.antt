@@ -120,9 +120,13 @@ module _ (c s : List ℕ) where
 
   -- demand 2, the decision
   pub decision : (room : ℕ) → WellFormed c s → length s ≤ room
-      → (checkAnswer c s room ≡ accepted (rowCount s)) ↔ (AllWithin greatestWeight τ s × Decomposes c s (shiftedRows τ s))
+      → (checkAnswer c s room ≡ accepted (rowCount s))
+      ↔ (AllWithin greatestWeight τ s × Decomposes c s (shiftedRows τ s))
   decision room f l =
-      (λ e. let h = accepted-passes _ _ e in (accepted-within room h, accepted-decomposes room h), λ p. accepts room f l (p .0) (p .1))
+      (
+        λ e. let h = accepted-passes _ _ e in (accepted-within room h, accepted-decomposes room h),
+        λ p. accepts room f l (p .0) (p .1),
+      )
 
   -- demand 3, exact proofs
   module _ (f : WellFormed c s) (d : Decomposes c s (rowsOf s)) where
@@ -140,13 +144,15 @@ module _ (c s : List ℕ) where
     exact-accepted room l =
         accepts room f l
         (record {
-          within = λ i m. rw (weights-stay i, row-again s (variables s) (rowCount s) (own .proof .unused) i m) (own .proof .weights-within i m);
+          within =
+              λ i m. rw (weights-stay i, row-again s (variables s) (rowCount s) (own .proof .unused) i m) (own .proof .weights-within i m);
         })
         (rw (rows-stay τ s exact) d)
 
     pub exact-bytes : Bytes s → exactProof τ s ≡ s
     unfolding exactProof
-    exact-bytes b = sheet-again s (variables s) (rowCount s) (own .proof .unused) (weightsFor τ s) b (λ i l. weights-stay i)
+    exact-bytes b =
+        sheet-again s (variables s) (rowCount s) (own .proof .unused) (weightsFor τ s) b (λ i l. weights-stay i)
 
 -- demand 2, what is written
 pub exact-reads : Reads

@@ -30,7 +30,8 @@ pub record Decomposes (c s : List ℕ) (rows : List Row) : Type 0 where
 -- published sharing rule, stay within ±2^30 and form, row by row, a decomposition"
 pub record Decides (c s out : List ℕ) (v : Verdict) : Type 0 where
   pub decides : WellFormed c s → length s ≤ length out
-      → (says v ≡ accepted (rowCount s)) ↔ (AllWithin greatestWeight (targetsOf c s) s × Decomposes c s (shiftedRows (targetsOf c s) s))
+      → (says v ≡ accepted (rowCount s))
+      ↔ (AllWithin greatestWeight (targetsOf c s) s × Decomposes c s (shiftedRows (targetsOf c s) s))
 
 -- Demand 2: "what is written is that shifted proof": where the shifted weights stay within ±2^30, the rows of the exact
 -- proof are the shifted rows

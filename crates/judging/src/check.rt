@@ -17,7 +17,7 @@ ghost use Rattle.judging.specs.Check.{weighedAnswer, checkAnswer, output
 ghost use Rattle.judging.specs.Promises.{Decides, Floors, Keeps};
 
 // The checks 16 to 19, for a floor and a scale.
-pub fn weigh(claim: &[u8], proof: &[u8], floor: i64, scale: u64) -> Verdict
+fn weigh(claim: &[u8], proof: &[u8], floor: i64, scale: u64) -> Verdict
     requires { ⌜ CheckedSheets (now claim) (now proof) floor scale ⌝ }
     ensures { λ r. ⌜ says r ≡ weighedAnswer (targetOf (now (claim .entry)) floor scale) (now (claim .entry)) (now (proof .entry)) ⌝ }
 {
@@ -38,7 +38,8 @@ fn decide(claim: &[u8], proof: &[u8], room: usize) -> Verdict
     weigh(claim, proof, floor(claim), scale(proof))
 }
 
-// Checks a claim and its proof. Where it is accepted the output's first bytes become the exact proof, and the later ones keep
+// Checks a claim and its proof. Where it is accepted the output's first bytes become the exact proof, and the later
+// ones keep
 // their values; a refusal writes nothing.
 pub fn check(claim: &[u8], proof: &[u8], output: &mut [u8]) -> Verdict
     ensures verdict { λ r. ⌜ says r ≡ checkAnswer (now (claim .entry)) (now (proof .entry)) (length (now (output .entry))) ⌝ }

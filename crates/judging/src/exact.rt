@@ -31,7 +31,7 @@ fn write_rows(claim: &[u8], proof: &[u8], floor: i64, scale: u64, out: &mut [u8]
 }
 
 // The exact proof in the output's first bytes; the later ones keep their values.
-pub fn write_exact(claim: &[u8], proof: &[u8], floor: i64, scale: u64, out: &mut [u8])
+pub(crate) fn write_exact(claim: &[u8], proof: &[u8], floor: i64, scale: u64, out: &mut [u8])
     requires { ⌜ (CheckedSheets (now claim) (now proof) floor scale) × (AllWithin greatestWeight (targetOf (now claim) floor scale) (now proof)) × (length (now proof) ≤ length (now out)) ⌝ }
     ensures { λ _. ⌜ now (out .exit) ≡ exactProof (targetOf (now (claim .entry)) floor scale) (now (proof .entry)) ++ drop (length (now (proof .entry))) (now (out .entry)) ⌝ }
 {

@@ -184,7 +184,7 @@ fn chosen(f: Firsts, k: usize) -> Verdict
 }
 
 // The checks 17 to 19.
-pub fn check_judged(claim: &[u8], proof: &[u8], floor: i64, scale: u64) -> Verdict
+pub(crate) fn check_judged(claim: &[u8], proof: &[u8], floor: i64, scale: u64) -> Verdict
     requires { ⌜ CheckedSheets (now claim) (now proof) floor scale ⌝ }
     ensures { λ r. ⌜ says r ≡ judgedAnswer (firstsTo greatestWeight (shiftedRow (targetOf (now (claim .entry)) floor scale) (now (proof .entry))) (rowCount (now (proof .entry)))) (rowCount (now (proof .entry))) ⌝ }
 {

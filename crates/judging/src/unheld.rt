@@ -43,7 +43,7 @@ fn no_target(claim: &[u8], floor: i64, scale: u64, p: Point) -> bool
 }
 
 // The first term whose target is not zero and that no row holds, then the constant.
-pub fn first_unheld(claim: &[u8], proof: &[u8], floor: i64, scale: u64) -> Found
+pub(crate) fn first_unheld(claim: &[u8], proof: &[u8], floor: i64, scale: u64) -> Found
     requires { ⌜ CheckedSheets (now claim) (now proof) floor scale ⌝ }
     ensures { λ r. ⌜ r ≡ first (unheld (targetOf (now (claim .entry)) floor scale) (now (claim .entry)) (now (proof .entry))) (suc (termCount (now (claim .entry)))) ⌝ }
 {

@@ -30,7 +30,8 @@ cases =
       proof = proofOf 1 (pos (2 ^ 20)) 2 ((2 ∷ []) ∷ (2 ∷ []) ∷ (0 ∷ []) ∷ (2 ∷ []) ∷ [])
           (pos 10 ∷ pos 0 ∷ pos 0 ∷ pos (2 ^ 30) ∷ pos 99 ∷ negsuc (2 ^ 30 - 1) ∷ []);
       answer = accepted 2;
-      text = "accepted rows 2 scale 1048576 floor -1073741824\nrow 0 p 10 q 0 r 0\nrow 1 p 1073741824 q 99 r -1073741824\n";
+      text =
+          "accepted rows 2 scale 1048576 floor -1073741824\nrow 0 p 10 q 0 r 0\nrow 1 p 1073741824 q 99 r -1073741824\n";
     }
     ∷ record { claim = claimOf 1 (pos 0) [] []; proof = proofOf 1 (pos 1) 0 [] []; answer = accepted 0; text = "accepted rows 0 scale 1 floor 0\n" }
     ∷ record { claim = square; proof = squareProof; answer = refused 19 0; text = "refused 19 at 0\n" }
@@ -41,4 +42,5 @@ cases =
 
 -- the definitions give every report
 abbrev pub Worked : Type 0
-Worked = map (λ (c : Case). reportText (c .claim) (c .proof) (c .answer)) cases ≡ map (λ (c : Case). ascii (c .text)) cases
+Worked =
+    map (λ (c : Case). reportText (c .claim) (c .proof) (c .answer)) cases ≡ map (λ (c : Case). ascii (c .text)) cases

@@ -15,7 +15,8 @@ abbrev pub ascii : String → List ℕ
 ascii []ˢ = []
 ascii (c ∷ˢ s) = code c ∷ ascii s
 
--- the last decimal digits of a number, at most so many, the most significant first and no zero before it; 48 is the code of 0
+-- the last decimal digits of a number, at most so many, the most significant first and no zero before it; 48 is the
+-- code of 0
 unfoldable pub digits : ℕ → ℕ → List ℕ
 digits zero n = []
 digits (suc most) n = elim (ltb n 10) [ true ↦ [] | false ↦ digits most (n / 10) ] ++ ((48 + n % 10) ∷ [])

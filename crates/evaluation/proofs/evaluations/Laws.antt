@@ -171,7 +171,8 @@ module _ (c : List ℕ) (n t : ℕ) (x : List ℤ) where
   small-start = rw (sum-none c n t x) (omega arith)
 
   module _ (i : ℕ) (r : Bounded) (er : r ≡ within (termValue c n t x i)) where
-    pub large-here : i < t → first (large c n t x) i ≡ Nothing → r ≡ TooLarge → tells (Refused (Claim 21 i)) ≡ summed c n t x
+    pub large-here : i < t → first (large c n t x) i ≡ Nothing → r ≡ TooLarge
+        → tells (Refused (Claim 21 i)) ≡ summed c n t x
     unfolding summed largeAnswer large
     large-here l none h =
         let k : Says TooLarge (termValue c n t x i) = subst (λ b. Says b (termValue c n t x i)) (sym er ∙ h) (within-says _) in
@@ -193,7 +194,8 @@ module _ (c : List ℕ) (n t : ℕ) (x : List ℤ) where
             rw (add-one, sum-more c n t x i)
             (omega (arith, here .1, abs-add (sumTo c n t x i) (termValue c n t x i)))
 
-        module _ (l : i < t) (room : ClaimRoom c n t) (sum : ℕ) (es : sum ≡ ofZ w64 (sumTo c n t x i)) (v′ : ℤ) (back : v′ ≡ v) where
+        module _ (l : i < t) (room : ClaimRoom c n t) (sum : ℕ) (es : sum ≡ ofZ w64 (sumTo c n t x i)) (v′ : ℤ)
+            (back : v′ ≡ v) where
           added : toZ w64 sum +ℤ v′ ≡ sumTo c n t x (i + 1)
           added =
               let f : SFits w64 (sumTo c n t x i) = fits-within _ (i * 2 ^ 56) small (omega (arith, room .terms)) in

@@ -45,7 +45,8 @@ module _ (c s : List ℕ) (b b′ : ℤ) (S : ℕ) (f : Found)
       then-refused _ _ (refused-at _ f _ 16 _ found-is i h (late-says 16 i (omega arith) (omega arith))) (Proof 16 i) refl _
 
   pub weighed-judged : (v : Verdict) (b″ : ℤ) → f ≡ Nothing
-      → says v ≡ judgedAnswer (firstsTo greatestWeight (shiftedRow (targetOf c b″ S) s) (rowCount s)) (rowCount s) → b″ ≡ b
+      → says v ≡ judgedAnswer (firstsTo greatestWeight (shiftedRow (targetOf c b″ S) s) (rowCount s)) (rowCount s)
+      → b″ ≡ b
       → says v ≡ weighedAnswer (targetOf c b S) c s
   unfolding weighedAnswer unheldAnswer
   weighed-judged v b″ h ev eb″ =

@@ -50,7 +50,8 @@ module _ (c s : List ℕ) (b : ℤ) (S : ℕ) (given : CheckedSheets c s b S) (n
     pub length-kept : length out ≡ length out₀
     length-kept = rw e (all-length (weightsFor (targetOf c b′ S) s) out₀ n k i)
 
-    module _ (row : Row) (a : Weights) (b″ : ℤ) (er : row ≡ byValue (shiftedRow (targetOf c b″ S) s i)) (ea : a ≡ row .weights)
+    module _ (row : Row) (a : Weights) (b″ : ℤ) (er : row ≡ byValue (shiftedRow (targetOf c b″ S) s i))
+        (ea : a ≡ row .weights)
         (eb″ : b″ ≡ b) where
       weights-are : a ≡ weightsFor (targetOf c b′ S) s i
       unfolding weightsFor

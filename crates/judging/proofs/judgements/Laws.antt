@@ -1,4 +1,5 @@
--- Laws of judgements: the ways through them, and that rows pass 17 to 19 exactly where they are within the limit and hold.
+-- Laws of judgements: the ways through them, and that rows pass 17 to 19 exactly where they are within the limit and
+-- hold.
 use mathlib.Core.Path.{_≡_, refl, sym, _∙_, ap}
 use mathlib.Core.Bool.{Bool, true, false, cond, _||_}
 use mathlib.Core.List.{List}
@@ -92,7 +93,11 @@ module _ (limit : ℕ) (x : Triple) (b : Bool) (e : b ≡ anyBeyond limit x) whe
     pub pair-within : limit ≤ greatestWeight → Within greatestWeight x
     pair-within l =
         let f = none-beyond limit x (sym e ∙ h) in
-        record { p-within = omega (arith, f .p-within); q-within = omega (arith, f .q-within); r-within = omega (arith, f .r-within) }
+        record {
+          p-within = omega (arith, f .p-within);
+          q-within = omega (arith, f .q-within);
+          r-within = omega (arith, f .r-within);
+        }
 
     module _ (p : ℤ) (a : Bool) (ep : p ≡ x .p) (ea : a ≡ negative p) where
       p-tested : negative (x .p) ≡ a
@@ -137,7 +142,8 @@ module _ (limit : ℕ) (p p′ : ℤ) (b : Bool) (e : b ≡ beyond limit p′) (
 
 -- ---- judge: a are the row's weights
 
-pub judged-lone : (limit : ℕ) (a : Weights) (row : Value.Row) (x : Triple) (p y : ℤ) (o : Judgement) → o ≡ judgeLone limit y
+pub judged-lone : (limit : ℕ) (a : Weights) (row : Value.Row) (x : Triple) (p y : ℤ) (o : Judgement)
+    → o ≡ judgeLone limit y
     → x ≡ tripleFor a → a ≡ Lone p → a ≡ row .weights → y ≡ x .p → o ≡ judgementOf limit (row .weights)
 unfolding judgementOf
 judged-lone limit a row x p y o eo ex ea er ey =
@@ -145,7 +151,8 @@ judged-lone limit a row x p y o eo ex ea er ey =
     eo ∙ rw (ey, ← e, ← er, ea)
 
 pub judged-pair : (limit : ℕ) (a : Weights) (row : Value.Row) (p p′ q q′ r r′ : ℤ) (o : Judgement)
-    → o ≡ judgePair limit (record { p = p′; q = q′; r = r′ }) → a ≡ Pair p q r → a ≡ row .weights → p′ ≡ p → q′ ≡ q → r′ ≡ r
+    → o ≡ judgePair limit (record { p = p′; q = q′; r = r′ }) → a ≡ Pair p q r → a ≡ row .weights → p′ ≡ p → q′ ≡ q
+    → r′ ≡ r
     → o ≡ judgementOf limit (row .weights)
 unfolding judgementOf
 judged-pair limit a row p p′ q q′ r r′ o eo ea er ep eq er′ = eo ∙ rw (ep, eq, er′, ← er, ea)
@@ -165,7 +172,8 @@ module _ (f : Found) (hit : Bool) (i : ℕ) where
   unfolding kept
   keep-none h k = rw (h, k)
 
-pub noted-is : (f : Firsts) (number i : ℕ) (x y z a b d : Found) → a ≡ kept x (eqb number 17) i → b ≡ kept y (eqb number 18) i
+pub noted-is : (f : Firsts) (number i : ℕ) (x y z a b d : Found) → a ≡ kept x (eqb number 17) i
+    → b ≡ kept y (eqb number 18) i
     → d ≡ kept z (eqb number 19) i → x ≡ f .beyond → y ≡ f .negative → z ≡ f .large
     → record { beyond = a; negative = b; large = d } ≡ noted f number i
 unfolding noted
@@ -178,7 +186,8 @@ module _ (limit : ℕ) (row : ℕ → Row) where
   unfolding firstsTo
   firsts-none = rw (first-none, first-none, first-none)
 
-  kept-on : (number i : ℕ) → kept (first (judgedAs number limit row) i) (eqb (judgedNumber limit row i) number) i ≡ first (judgedAs number limit row) (i + 1)
+  kept-on : (number i : ℕ)
+      → kept (first (judgedAs number limit row) i) (eqb (judgedNumber limit row i) number) i ≡ first (judgedAs number limit row) (i + 1)
   unfolding kept judgedAs
   kept-on number i = go (first (judgedAs number limit row) i) (judgedAs number limit row i) refl refl
     where
@@ -215,7 +224,8 @@ module _ (f : Firsts) (k : ℕ) (a : Found) (ea : a ≡ f .beyond) where
 
       pub chosen-accepted : d ≡ Nothing → says (Accepted k) ≡ judgedAnswer f k
       unfolding judgedAnswer
-      chosen-accepted l = passed-at _ a _ 17 _ ea h (passed-at _ b _ 18 _ eb g (passed-at _ d _ 19 _ ed l (accepted-says k)))
+      chosen-accepted l =
+          passed-at _ a _ 17 _ ea h (passed-at _ b _ 18 _ eb g (passed-at _ d _ 19 _ ed l (accepted-says k)))
 
 -- ---- judged_number: row i of the shifted proof
 
@@ -243,9 +253,12 @@ not-negative : (x : ℤ) → pos 0 ≤ℤ x → negative x ≡ false
 unfolding negative
 not-negative x h = le-ltZ h
 
-pair-judged : (limit : ℕ) (x : Triple) → judgePair limit x ≡ Holds → Within limit x × Formal.Holds (Pair (x .p) (x .q) (x .r))
+pair-judged : (limit : ℕ) (x : Triple) → judgePair limit x ≡ Holds
+    → Within limit x × Formal.Holds (Pair (x .p) (x .q) (x .r))
 unfolding judgePair negative large
-pair-judged limit x h = go (anyBeyond limit x) (ltZ (x .p) (pos 0)) (ltZ (x .q) (pos 0)) (ltZ (x .p *ℤ x .q *ℤ pos 4) (x .r *ℤ x .r)) refl refl refl refl h
+pair-judged limit x h =
+    go (anyBeyond limit x) (ltZ (x .p) (pos 0)) (ltZ (x .q) (pos 0)) (ltZ (x .p *ℤ x .q *ℤ pos 4) (x .r *ℤ x .r))
+    refl refl refl refl h
   where
     go : (a b d e : Bool) → anyBeyond limit x ≡ a → ltZ (x .p) (pos 0) ≡ b → ltZ (x .q) (pos 0) ≡ d
         → ltZ (x .p *ℤ x .q *ℤ pos 4) (x .r *ℤ x .r) ≡ e
@@ -258,11 +271,13 @@ pair-judged limit x h = go (anyBeyond limit x) (ltZ (x .p) (pos 0)) (ltZ (x .q) 
     go false false false false ea eb ed ee k =
         (none-beyond limit x ea, (ltZ-false _ _ eb, ltZ-false _ _ ed, ltZ-false _ _ ee))
 
-lone-judged : (limit : ℕ) (p : ℤ) → judgeLone limit p ≡ Holds → Within limit (record { p = p; q = pos 0; r = pos 0 }) × (pos 0 ≤ℤ p)
+lone-judged : (limit : ℕ) (p : ℤ) → judgeLone limit p ≡ Holds
+    → Within limit (record { p = p; q = pos 0; r = pos 0 }) × (pos 0 ≤ℤ p)
 unfolding judgeLone negative
 lone-judged limit p h = go (beyond limit p) (ltZ p (pos 0)) refl refl h
   where
-    go : (a b : Bool) → beyond limit p ≡ a → ltZ p (pos 0) ≡ b → _≡_ {A = Judgement} (cond a Beyond (cond b Negative Holds)) Holds
+    go : (a b : Bool) → beyond limit p ≡ a → ltZ p (pos 0) ≡ b
+        → _≡_ {A = Judgement} (cond a Beyond (cond b Negative Holds)) Holds
         → Within limit (record { p = p; q = pos 0; r = pos 0 }) × (pos 0 ≤ℤ p)
     go true b ea eb k = let z : _≡_ {A = ℕ} 0 1 = cc in absurd (omega arith)
     go false true ea eb k = let z : _≡_ {A = ℕ} 0 1 = cc in absurd (omega arith)
@@ -285,7 +300,8 @@ holds-judged limit (Lone p) w h =
 
 -- ---- and all are exactly where 17 to 19 are passed
 
-numbered : (j : Judgement) → eqb (numberOf j) 17 ≡ false → eqb (numberOf j) 18 ≡ false → eqb (numberOf j) 19 ≡ false → j ≡ Holds
+numbered : (j : Judgement) → eqb (numberOf j) 17 ≡ false → eqb (numberOf j) 18 ≡ false → eqb (numberOf j) 19 ≡ false
+    → j ≡ Holds
 unfolding numberOf
 numbered Holds a b d = refl
 numbered Beyond a b d = absurd (eqb-false 17 17 a refl)
@@ -319,4 +335,5 @@ module _ (limit : ℕ) (row : ℕ → Row) (k : ℕ) where
       ∙ accepted-says k
     where
       none : (number : ℕ) → eqb 0 number ≡ false → Nothing ≡ first (judgedAs number limit row) k
-      none number z = nothing-first _ k (λ i l. let w = h i l in not-judged number i z (holds-judged limit (row i .weights) (w .0) (w .1)))
+      none number z =
+          nothing-first _ k (λ i l. let w = h i l in not-judged number i z (holds-judged limit (row i .weights) (w .0) (w .1)))

@@ -72,7 +72,8 @@ module _ (c : List ℕ) (n t i : ℕ) where
 
 -- ---- no_target: x is the target
 
-pub no-target : (c : List ℕ) (b b′ : ℤ) (S m : ℕ) (p : Point) (x x′ : ℤ) → x ≡ targetOf c b′ S (exponents p) → m ≡ natAbs x′
+pub no-target : (c : List ℕ) (b b′ : ℤ) (S m : ℕ) (p : Point) (x x′ : ℤ) → x ≡ targetOf c b′ S (exponents p)
+    → m ≡ natAbs x′
     → x′ ≡ x → b′ ≡ b → eqb m 0 ≡ eqb (natAbs (targetOf c b S (exponents p))) 0
 no-target c b b′ S m p x x′ ex em e eb = rw (em, e, ex, eb)
 
@@ -185,10 +186,8 @@ module _ (c s : List ℕ) (b : ℤ) (S : ℕ) where
   pub unheld-passes : ((α : Exponents) → length α ≡ variables c → unheldAt τ s α ≡ false) → Passes (unheldAnswer τ c s)
   unfolding unheldAnswer unheld
   unheld-passes h =
-      passed (Accepted 0) _ (passed-at _ Nothing _ 16 _ (nothing-first _ (suc (termCount c)) (λ i l. h _ (length-for i))) refl (accepted-says 0)) 0 refl
-    where
-      length-for : (i : ℕ) → length (pointFor c (variables c) (termCount c) i) ≡ variables c
-      length-for i = point-sized c (variables c) (termCount c) i
+      let none = nothing-first _ (suc (termCount c)) (λ i l. h _ (point-sized c (variables c) (termCount c) i)) in
+      passed (Accepted 0) _ (passed-at _ Nothing _ 16 _ none refl (accepted-says 0)) 0 refl
 
   module _ (h : Passes (unheldAnswer τ c s)) where
     listed : (i : ℕ) → i < suc (termCount c) → unheldAt τ s (pointFor c (variables c) (termCount c) i) ≡ false
@@ -228,7 +227,8 @@ module _ (τ : Exponents → ℤ) (s : List ℕ) (α : Exponents) where
   unfolding unheldAt
   met-adds h = go (decLt 0 (count α (slots (rowsOf s)))) (eqb (natAbs (τ α)) 0) refl
     where
-      go : Dec (0 < count α (slots (rowsOf s))) → (b : Bool) → eqb (natAbs (τ α)) 0 ≡ b → coefficient α (slots (shiftedRows τ s)) ≡ τ α
+      go : Dec (0 < count α (slots (rowsOf s))) → (b : Bool) → eqb (natAbs (τ α)) 0 ≡ b
+          → coefficient α (slots (shiftedRows τ s)) ≡ τ α
       go (yes l) b e = held-adds τ s α l
       go (no l) true e = unheld-adds τ s α (omega arith) ∙ sym (abs-zero (τ α) (eqb-true _ 0 e))
       go (no l) false e = absurd (true≢false (rw (e, eq-eqb (count α (slots (rowsOf s))) 0 (omega arith)) at h))

@@ -122,7 +122,8 @@ module _ (s l : List ℕ) (n k at : ℕ) where
         rw (e, rows-next s n k i) at (rows-grow (suc i) (k - suc i)) in
         room-then (rowsText s n k i) (rowText s n k i) (record { room = omega (arith, r .room) }) w
 
-    pub rows-more : (o : List ℕ) (end : ℕ) → Written m mid (rowText s n k i) o end → Written l at (rowsText s n k (i + 1)) o end
+    pub rows-more : (o : List ℕ) (end : ℕ) → Written m mid (rowText s n k i) o end
+        → Written l at (rowsText s n k (i + 1)) o end
     rows-more o end u = rw (add-one, rows-next s n k i) (written-then (rowsText s n k i) (rowText s n k i) w u)
 
     pub rows-all : k ≤ i → i ≤ k → Written l at (rowsText s n k k) m mid
@@ -210,12 +211,14 @@ module _ (c s : List ℕ) (k : ℕ) (h : carries c s k ≡ true) where
   room-carried n e = rw e (enough c s k h .rows)
 
 -- accepted_text
-module _ (c s l m : List ℕ) (k at mid : ℕ) (w : Written l at (firstText c s k) m mid) (n : ℕ) (e : n ≡ variables s) where
+module _ (c s l m : List ℕ) (k at mid : ℕ) (w : Written l at (firstText c s k) m mid) (n : ℕ)
+    (e : n ≡ variables s) where
   pub rows-after : Room l at (acceptedText c s k) → Room m mid (rowsText s n k k)
   unfolding acceptedText
   rows-after r = rw e (room-then (firstText c s k) (rowsText s (variables s) k k) r w)
 
-  pub accepted-written : (o : List ℕ) (end : ℕ) → Written m mid (rowsText s n k k) o end → Written l at (acceptedText c s k) o end
+  pub accepted-written : (o : List ℕ) (end : ℕ) → Written m mid (rowsText s n k k) o end
+      → Written l at (acceptedText c s k) o end
   unfolding acceptedText
   accepted-written o end u = written-then (firstText c s k) (rowsText s (variables s) k k) w (rw e at u)
 

@@ -121,7 +121,8 @@ module _ (l : List ℕ) (n at : ℕ) where
       pub after-room : Room l at (natural n) → Room m mid ((48 + n % 10) ∷ [])
       after-room r = room-then _ _ (both r) w
 
-      pub digits-written : (o : List ℕ) (end : ℕ) → Written m mid ((48 + n % 10) ∷ []) o end → Written l at (natural n) o end
+      pub digits-written : (o : List ℕ) (end : ℕ) → Written m mid ((48 + n % 10) ∷ []) o end
+          → Written l at (natural n) o end
       digits-written o end u = rw (natural-before n h) (written-then _ _ w u)
 
 -- integer: m is the absolute value, z′ what the machine reads back of z
@@ -173,12 +174,14 @@ unfolding numbered
 numbered-written label l m o at mid end z z′ w u back = written-then label (integer z) w (rw back at u)
 
 -- a label and a number as the machine reads it back, and the text after it
-module _ {l m : List ℕ} {at mid : ℕ} (label : List ℕ) (z z′ : ℤ) (w : Written l at (numbered label z′) m mid) (e : z′ ≡ z) where
+module _ {l m : List ℕ} {at mid : ℕ} (label : List ℕ) (z z′ : ℤ) (w : Written l at (numbered label z′) m mid)
+    (e : z′ ≡ z) where
   pub numbered-back : Written l at (numbered label z) m mid
   numbered-back = rw e at w
 
   pub numbered-room : (b : List ℕ) → Room l at (numbered label z ++ b) → Room m mid b
   numbered-room b r = room-then (numbered label z) b r numbered-back
 
-  pub numbered-then : {o : List ℕ} {end : ℕ} (b : List ℕ) → Written m mid b o end → Written l at (numbered label z ++ b) o end
+  pub numbered-then : {o : List ℕ} {end : ℕ} (b : List ℕ) → Written m mid b o end
+      → Written l at (numbered label z ++ b) o end
   numbered-then b u = written-then (numbered label z) b numbered-back u

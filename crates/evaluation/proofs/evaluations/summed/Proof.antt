@@ -14,7 +14,8 @@ use Rattle.evaluation.proofs.evaluations.summed.Statement.{statement}
 use Rattle.evaluation.proofs.evaluations.summed.Tie as tie
 
 abbrev Inv-loop : tie.InvT-loop
-Inv-loop claim n t offsets sum₀ i₀ sum i = (i ≤ t) × (first (large claim n t offsets) i ≡ Nothing) × (natAbs (sumTo claim n t offsets i) ≤ i * 2 ^ 56) × (sum ≡ ofZ w64 (sumTo claim n t offsets i))
+Inv-loop claim n t offsets sum₀ i₀ sum i =
+    (i ≤ t) × (first (large claim n t offsets) i ≡ Nothing) × (natAbs (sumTo claim n t offsets i) ≤ i * 2 ^ 56) × (sum ≡ ofZ w64 (sumTo claim n t offsets i))
 
 abbrev μ-loop : tie.MeasureT-loop
 μ-loop claim n t offsets sum₀ i₀ sum i = t - i

@@ -29,7 +29,8 @@ same-length : tie.Need-same-length
 same-length c = search needs
 
 returns-2 : tie.Need-returns-2
-returns-2 c = (search needs, (search (accepted-output, toZ-ofZ), (search check-decides, (search check-floors, search (accepted-keeps, toZ-ofZ)))))
+returns-2 c =
+    (search needs, (search (accepted-output, toZ-ofZ), (search check-decides, (search check-floors, search (accepted-keeps, toZ-ofZ)))))
 
 pub check-spec : {M : Type 1} → statement M
 check-spec =

@@ -12,7 +12,8 @@ use Rattle.judging.proofs.exact.write_rows.Statement.{statement}
 use Rattle.judging.proofs.exact.write_rows.Tie as tie
 
 abbrev Inv-loop : tie.InvT-loop
-Inv-loop claim proof floor scale out₀ n k i₀ out i = (i ≤ k) × (out ≡ withRows (weightsFor (targetOf claim (toZ w64 floor) scale) proof) out₀ n k i)
+Inv-loop claim proof floor scale out₀ n k i₀ out i =
+    (i ≤ k) × (out ≡ withRows (weightsFor (targetOf claim (toZ w64 floor) scale) proof) out₀ n k i)
 
 abbrev μ-loop : tie.MeasureT-loop
 μ-loop claim proof floor scale out₀ n k i₀ out i = k - i

@@ -13,7 +13,8 @@ use Rattle.judging.proofs.judgements.judge_all.Statement.{statement}
 use Rattle.judging.proofs.judgements.judge_all.Tie as tie
 
 abbrev Inv-loop : tie.InvT-loop
-Inv-loop claim proof floor scale k f₀ i₀ f i = (i ≤ k) × (f ≡ firstsTo greatestWeight (shiftedRow (targetOf claim (toZ w64 floor) scale) proof) i)
+Inv-loop claim proof floor scale k f₀ i₀ f i =
+    (i ≤ k) × (f ≡ firstsTo greatestWeight (shiftedRow (targetOf claim (toZ w64 floor) scale) proof) i)
 
 abbrev μ-loop : tie.MeasureT-loop
 μ-loop claim proof floor scale k f₀ i₀ f i = k - i

@@ -21,13 +21,15 @@ use Rattle.judging.proofs.unheld.first_unheld.Statement.{statement}
 use Rattle.judging.proofs.unheld.first_unheld.Tie as tie
 
 abbrev Inv-loop : tie.InvT-loop
-Inv-loop claim proof floor scale n t k i₀ key j₀ i j = (i ≡ i₀) × (i ≤ t) × (j ≤ k) × (key ≡ keyOf (pointFor claim n t i)) × (eqb (natAbs (targetOf claim (toZ w64 floor) scale (pointFor claim n t i))) 0 ≡ false) × (first (holdsKey proof n key) j ≡ Nothing) × (first (unheld (targetOf claim (toZ w64 floor) scale) claim proof) i ≡ Nothing)
+Inv-loop claim proof floor scale n t k i₀ key j₀ i j =
+    (i ≡ i₀) × (i ≤ t) × (j ≤ k) × (key ≡ keyOf (pointFor claim n t i)) × (eqb (natAbs (targetOf claim (toZ w64 floor) scale (pointFor claim n t i))) 0 ≡ false) × (first (holdsKey proof n key) j ≡ Nothing) × (first (unheld (targetOf claim (toZ w64 floor) scale) claim proof) i ≡ Nothing)
 
 abbrev μ-loop : tie.MeasureT-loop
 μ-loop claim proof floor scale n t k i₀ key j₀ i j = k - j
 
 abbrev Inv-terms : tie.InvT-terms
-Inv-terms claim proof floor scale n t k i₀ i = (i ≤ suc t) × (first (unheld (targetOf claim (toZ w64 floor) scale) claim proof) i ≡ Nothing)
+Inv-terms claim proof floor scale n t k i₀ i =
+    (i ≤ suc t) × (first (unheld (targetOf claim (toZ w64 floor) scale) claim proof) i ≡ Nothing)
 
 abbrev μ-terms : tie.MeasureT-terms
 μ-terms claim proof floor scale n t k i₀ i = suc t - i
@@ -63,7 +65,8 @@ key-of-requires : tie.Need-key-of-requires Inv-loop μ-loop Inv-terms μ-terms
 key-of-requires c κs = search needs
 
 loop-holds : tie.Need-loop-holds Inv-loop μ-loop Inv-terms μ-terms
-loop-holds c = (search needs, search needs, search needs, search key-here, search (target-some, toZ-ofZ), search first-none, search needs)
+loop-holds c =
+    (search needs, search needs, search needs, search key-here, search (target-some, toZ-ofZ), search first-none, search needs)
 
 holds-key-requires : tie.Need-holds-key-requires Inv-loop μ-loop Inv-terms μ-terms
 holds-key-requires c κs = (search proof-here, search needs, search key-low)
