@@ -122,11 +122,10 @@ module _ (c s : List ℕ) where
   pub decision : (room : ℕ) → WellFormed c s → length s ≤ room
       → (checkAnswer c s room ≡ accepted (rowCount s))
       ↔ (AllWithin greatestWeight τ s × Decomposes c s (shiftedRows τ s))
-  decision room f l =
-      (
-        λ e. let h = accepted-passes _ _ e in (accepted-within room h, accepted-decomposes room h),
-        λ p. accepts room f l (p .0) (p .1),
-      )
+  decision room f l = (
+    λ e. let h = accepted-passes _ _ e in (accepted-within room h, accepted-decomposes room h),
+    λ p. accepts room f l (p .0) (p .1),
+  )
 
   -- demand 3, exact proofs
   module _ (f : WellFormed c s) (d : Decomposes c s (rowsOf s)) where
