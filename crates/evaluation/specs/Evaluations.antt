@@ -73,9 +73,8 @@ evaluationOf c x = toldBy (evaluationAnswer c x) (valueAt x (termsOf c))
 
 -- ---- its promises
 
--- "Offsets are n signed 32-bit numbers", for a claim that passes its checks, with "every term's exact absolute value
--- .. at
--- most 2^56"
+-- "Offsets are n signed 32-bit numbers", for a claim that passes its checks, with "every term's exact absolute value ..
+-- at most 2^56"
 pub record Evaluable (c : List ℕ) (x : List ℤ) : Type 0 where
   pub formed : Passes (claimAnswer c)
   pub counted : length x ≡ variables c
@@ -87,8 +86,7 @@ pub record Evaluates (c : List ℕ) (x : List ℤ) (r : Evaluation) : Type 0 whe
   pub exact : (z : ℤ) → tells r ≡ value z → Evaluable c x × (z ≡ valueAt x (termsOf c))
 
 -- Demand 3: "At whatever offsets that claim is evaluated, every value reported is the polynomial's exact value there
--- and at
--- least the floor", where the claim is accepted with some proof and output
+-- and at least the floor", where the claim is accepted with some proof and output
 pub record Floored (c : List ℕ) (x : List ℤ) (r : Evaluation) : Type 0 where
   pub floored : (s out : List ℕ) (k : ℕ) → checkAnswer c s (length out) ≡ accepted k → (z : ℤ) → tells r ≡ value z
       → (z ≡ valueAt x (termsOf c)) × (floorOf c ≤ℤ z)

@@ -143,8 +143,9 @@ module _ (c s : List ℕ) where
     exact-accepted room l =
         accepts room f l
         (record {
-          within =
-              λ i m. rw (weights-stay i, row-again s (variables s) (rowCount s) (own .proof .unused) i m) (own .proof .weights-within i m);
+          within = λ i m.
+              let again = row-again s (variables s) (rowCount s) (own .proof .unused) i m in
+              rw (weights-stay i, again) (own .proof .weights-within i m);
         })
         (rw (rows-stay τ s exact) d)
 

@@ -38,9 +38,8 @@ fn decide(claim: &[u8], proof: &[u8], room: usize) -> Verdict
     weigh(claim, proof, floor(claim), scale(proof))
 }
 
-// Checks a claim and its proof. Where it is accepted the output's first bytes become the exact proof, and the later
-// ones keep
-// their values; a refusal writes nothing.
+// Checks a claim and its proof. Where they are accepted the output's first bytes become the exact proof, and the later
+// ones keep their values; a refusal writes nothing.
 pub fn check(claim: &[u8], proof: &[u8], output: &mut [u8]) -> Verdict
     ensures verdict { λ r. ⌜ says r ≡ checkAnswer (now (claim .entry)) (now (proof .entry)) (length (now (output .entry))) ⌝ }
     ensures written { λ r. ⌜ now (output .exit) ≡ outputOf (now (claim .entry)) (now (proof .entry)) (now (output .entry)) ⌝ }

@@ -46,8 +46,7 @@ module _ (c s : List ℕ) (b b′ : ℤ) (S : ℕ) (f : Found)
 
   pub weighed-judged : (v : Verdict) (b″ : ℤ) → f ≡ Nothing
       → says v ≡ judgedAnswer (firstsTo greatestWeight (shiftedRow (targetOf c b″ S) s) (rowCount s)) (rowCount s)
-      → b″ ≡ b
-      → says v ≡ weighedAnswer (targetOf c b S) c s
+      → b″ ≡ b → says v ≡ weighedAnswer (targetOf c b S) c s
   unfolding weighedAnswer unheldAnswer
   weighed-judged v b″ h ev eb″ =
       then-passed (Accepted 0) _ (passed-at _ f _ 16 _ found-is h (accepted-says 0)) 0 refl v _ (rw eb″ at ev)

@@ -51,15 +51,13 @@ module _ (c s : List ℕ) (b : ℤ) (S : ℕ) (given : CheckedSheets c s b S) (n
     length-kept = rw e (all-length (weightsFor (targetOf c b′ S) s) out₀ n k i)
 
     module _ (row : Row) (a : Weights) (b″ : ℤ) (er : row ≡ byValue (shiftedRow (targetOf c b″ S) s i))
-        (ea : a ≡ row .weights)
-        (eb″ : b″ ≡ b) where
+        (ea : a ≡ row .weights) (eb″ : b″ ≡ b) where
       weights-are : a ≡ weightsFor (targetOf c b′ S) s i
       unfolding weightsFor
       weights-are = ea ∙ value-weights _ row er ∙ rw (eb″, eb)
 
       pub weights-narrow : AllWithin greatestWeight (targetOf c b S) s → i < k → Narrow (tripleFor a)
-      weights-narrow w l =
-          rw (weights-are, eb) (within-narrow _ (w .within i (rw ek at l)))
+      weights-narrow w l = rw (weights-are, eb) (within-narrow _ (w .within i (rw ek at l)))
 
     pub rows-written : k ≤ i → i ≤ k
         → out ≡ withRows (weightsFor (targetOf c b S) s) out₀ (variables s) (rowCount s) (rowCount s)

@@ -1,5 +1,4 @@
--- Laws of judgements: the ways through them, and that rows pass 17 to 19 exactly where they are within the limit and
--- hold.
+-- Laws of judgements: the ways through them; rows pass 17 to 19 exactly where they are within the limit and hold.
 use mathlib.Core.Path.{_≡_, refl, sym, _∙_, ap}
 use mathlib.Core.Bool.{Bool, true, false, cond, _||_}
 use mathlib.Core.List.{List}

@@ -1,6 +1,5 @@
 -- Laws of lines: the ways through the code whose last part has numbers of either sign; a prime marks a number as the
--- machine
--- reads it back.
+-- machine reads it back.
 use mathlib.Core.Path.{_≡_}
 use mathlib.Core.List.{List, _++_}
 use Prim.Native.Nat.{ℕ}
