@@ -11,7 +11,7 @@ use borrow.Author.Tests.{ltb-false, leb-true, eqb-true, eqb-false, not-false, lt
 use Rattle.integers.proofs.Integers.{abs-zero}
 use Rattle.monomials.specs.Points.{samePoint, risesTo, hasMidpoint, exponentsWithin}
 use Rattle.monomials.proofs.points.Laws.{same-eq, rises-self, rises-trans}
-use Rattle.checks.specs.Answers.{Passes}
+use Rattle.checks.specs.Answers.{says, Passes}
 use Rattle.checks.specs.Bounds.{greatestExponent, greatestWeight, greatestRows, greatestScale}
 use Rattle.sheets.specs.Layout.{variables, termCount, rowCount, proofLength, ClaimRoom, ProofRoom}
 use Rattle.sheets.specs.ClaimSheet.{floorOf, termPoint, coefficientOf}
@@ -20,9 +20,11 @@ use Rattle.sheets.specs.ProofSheet.{scaleOf, vOf, wOf, tripleOf}
 use Rattle.checks.specs.ProofChecks as P
 use Rattle.checks.specs.WellFormed.{sheetsAnswer, WellFormed, ClaimFacts, Within, ProofFacts}
 use Rattle.sheets.specs.declared.proof_sheet.Triple.{Triple}
+use Rattle.checks.specs.declared.answers.Verdict.{Verdict}
+use Rattle.checks.specs.declared.answers.Verdict.the-variants.{Accepted}
 use Rattle.checks.specs.declared.claim_checks.TermRule.the-variants as T
 use Rattle.checks.specs.declared.proof_checks.RowRule.the-variants as R
-use Rattle.checks.proofs.answers.Laws.{passes-if, passes-at, passes-then, then-passes}
+use Rattle.checks.proofs.answers.Laws.{passes-if, passes-at, passes-then, then-passes, passed}
 use Rattle.checks.proofs.bounds.Laws.{within-bound, bound-within}
 use Rattle.checks.proofs.searches.Laws.{first-nothing}
 use Rattle.checks.proofs.claim_checks.Laws.{header-counts}
@@ -98,6 +100,14 @@ claim-facts c h =
       exponents-within = λ i l. exponents-fact c _ _ i (first-nothing _ _ (p₆ .0) i l);
       rising = λ i l. rising-fact c _ _ i (first-nothing _ _ (p₇ .0) (suc i) l);
     }
+
+-- of a claim that a verdict accepts
+module _ (c : List ℕ) (v : Verdict) (e : says v ≡ C.claimAnswer c) (j : ℕ) (h : v ≡ Accepted j) where
+  pub claim-passed : ClaimFacts c (variables c) (termCount c)
+  claim-passed = claim-facts c (passed v _ e j h)
+
+  pub claim-long : 8 ≤ length c
+  claim-long = omega (arith, claim-passed .sized)
 
 -- ---- the proof
 

@@ -39,7 +39,7 @@ use Rattle.checks.specs.declared.searches.Found.the-variants.{At, Nothing}
 use Rattle.checks.proofs.answers.Laws.{passes-if, passes-at, passes-then, then-on, if-on, at-on, accepted-passes, failed, then-refused, passed, then-passed, refused-if, refused-at, large-says, offsets-says}
 use Rattle.checks.proofs.bounds.Laws.{over-bound, within-bound, bound-within}
 use Rattle.checks.proofs.searches.Laws.{first-at, first-on, first-nothing, nothing-first}
-use Rattle.checks.proofs.WellFormed.{claim-facts, claim-room}
+use Rattle.checks.proofs.WellFormed.{claim-passed, claim-room}
 use Rattle.judging.proofs.Promises.{floor-kept}
 use Rattle.evaluation.proofs.Short.{evaluation-short}
 use Rattle.evaluation.specs.Evaluations as Spec
@@ -225,9 +225,6 @@ module _ (c : List ℕ) (x : List ℤ) (v : Verdict) (e : says v ≡ claimAnswer
   claim-refused y h = told-refused y _ _ (sym (ap says h) ∙ then-refused v (claimAnswer c) e y h _)
 
   module _ (j : ℕ) (h : v ≡ Verdicts.Accepted j) where
-    pub claim-long : 8 ≤ length c
-    claim-long = omega (arith, claim-facts c (passed v _ e j h) .sized)
-
     module _ (n : ℕ) (en : n ≡ variables c) where
       pub offsets-refused : (length x ≡ n → ⊥) → tells (Refused (Offsets 20 0)) ≡ evaluationOf c x
       unfolding evaluationOf evaluationAnswer
@@ -239,7 +236,7 @@ module _ (c : List ℕ) (x : List ℤ) (v : Verdict) (e : says v ≡ claimAnswer
 
       module _ (t : ℕ) (et : t ≡ termCount c) where
         pub terms-room : ClaimRoom c n t
-        terms-room = rw (en, et) (claim-room c _ _ (claim-facts c (passed v _ e j h)))
+        terms-room = rw (en, et) (claim-room c _ _ (claim-passed c v e j h))
 
         pub all-summed : (r : Evaluation) → length x ≡ n → tells r ≡ summed c n t x → tells r ≡ evaluationOf c x
         unfolding evaluationOf evaluationAnswer summed sumTo

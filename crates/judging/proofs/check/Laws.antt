@@ -13,6 +13,7 @@ use Rattle.sheets.specs.ProofSheet.{scaleOf}
 use Rattle.checks.specs.Answers.{says, Passes}
 use Rattle.checks.specs.Bounds.{greatestWeight}
 use Rattle.checks.specs.Searches.{first}
+use Rattle.checks.specs.WellFormed.{WellFormed}
 use Rattle.checks.specs.declared.answers.Sheet.{Sheet}
 use Rattle.checks.specs.declared.answers.Sheet.the-variants.{Proof}
 use Rattle.checks.specs.declared.answers.Verdict.{Verdict}
@@ -51,6 +52,21 @@ module _ (c s : List ℕ) (b b′ : ℤ) (S : ℕ) (f : Found)
   weighed-judged v b″ h ev eb″ =
       then-passed (Accepted 0) _ (passed-at _ f _ 16 _ found-is h (accepted-says 0)) 0 refl v _ (rw eb″ at ev)
 
+-- ---- what decide and check read of well-formed sheets: b and S are the floor and the scale that were read
+
+module _ (c s : List ℕ) (f : WellFormed c s) where
+  own : CheckedSheets c s (floorOf c) (scaleOf s)
+  own = sheets-checked c s f
+
+  claim-eight : 8 ≤ length c
+  claim-eight = omega (arith, own .claim .sized)
+
+  proof-eight : 8 ≤ length s
+  proof-eight = omega (arith, own .proof .sized)
+
+  pub own-here : (b b′ : ℤ) (S : ℕ) → b ≡ floorOf c → S ≡ scaleOf s → b′ ≡ b → CheckedSheets c s b′ S
+  own-here b b′ S eb eS eb′ = rw (eb′, eb, eS) own
+
 -- ---- decide: v is the verdict on 1 to 15
 
 module _ (c s : List ℕ) (room : ℕ) (v : Verdict) (e : says v ≡ inputAnswer c s room) where
@@ -59,22 +75,19 @@ module _ (c s : List ℕ) (room : ℕ) (v : Verdict) (e : says v ≡ inputAnswer
   decided-input x h = then-refused v _ e x h _
 
   module _ (j : ℕ) (h : v ≡ Accepted j) where
-    own : CheckedSheets c s (floorOf c) (scaleOf s)
-    own = sheets-checked c s (input-formed c s room (passed v _ e j h))
+    pub input-accepted : WellFormed c s
+    input-accepted = input-formed c s room (passed v _ e j h)
 
-    pub claim-long : 8 ≤ length c
-    claim-long = omega (arith, own .claim .sized)
+    pub decided-claim : 8 ≤ length c
+    decided-claim = claim-eight c s input-accepted
 
-    pub proof-long : 8 ≤ length s
-    proof-long = omega (arith, own .proof .sized)
+    pub decided-proof : 8 ≤ length s
+    decided-proof = proof-eight c s input-accepted
 
-    module _ (b b′ : ℤ) (S : ℕ) (eb : b ≡ floorOf c) (eS : S ≡ scaleOf s) (eb′ : b′ ≡ b) where
-      pub own-here : CheckedSheets c s b′ S
-      own-here = rw (eb′, eb, eS) own
-
-      pub decided-weighed : (r : Verdict) → says r ≡ weighedAnswer (targetOf c b′ S) c s → says r ≡ checkAnswer c s room
-      unfolding checkAnswer targetsOf
-      decided-weighed r er = then-passed v _ e j h r _ (rw (eb′, eb, eS) at er)
+    pub decided-weighed : (b b′ : ℤ) (S : ℕ) (r : Verdict) → says r ≡ weighedAnswer (targetOf c b′ S) c s → b ≡ floorOf c
+        → S ≡ scaleOf s → b′ ≡ b → says r ≡ checkAnswer c s room
+    unfolding checkAnswer targetsOf
+    decided-weighed b b′ S r er eb eS eb′ = then-passed v _ e j h r _ (rw (eb′, eb, eS) at er)
 
 -- ---- check: v is the verdict, o the output afterwards
 
@@ -101,22 +114,19 @@ module _ (c s out : List ℕ) (v : Verdict) (e : says v ≡ checkAnswer c s (len
     passes : Passes (checkAnswer c s (length out))
     passes = passed v _ e k h
 
-    accepted-own : CheckedSheets c s (floorOf c) (scaleOf s)
-    accepted-own = sheets-checked c s (accepted-formed c s (length out) passes)
+    pub check-accepted : WellFormed c s
+    check-accepted = accepted-formed c s (length out) passes
 
     pub accepted-claim : 8 ≤ length c
-    accepted-claim = omega (arith, accepted-own .claim .sized)
+    accepted-claim = claim-eight c s check-accepted
 
     pub accepted-proof : 8 ≤ length s
-    accepted-proof = omega (arith, accepted-own .proof .sized)
+    accepted-proof = proof-eight c s check-accepted
 
     pub accepted-room : length s ≤ length out
     accepted-room = accepted-enough c s (length out) passes
 
     module _ (b b′ : ℤ) (S : ℕ) (eb : b ≡ floorOf c) (eS : S ≡ scaleOf s) (eb′ : b′ ≡ b) where
-      pub accepted-here : CheckedSheets c s b′ S
-      accepted-here = rw (eb′, eb, eS) accepted-own
-
       pub within-here : AllWithin greatestWeight (targetOf c b′ S) s
       unfolding targetsOf
       within-here = rw (eb′, eb, eS) (accepted-within c s (length out) passes)

@@ -15,7 +15,7 @@ use Rattle.checks.specs.declared.answers.Sheet.the-variants.{Output}
 use Rattle.checks.specs.declared.answers.Verdict.{Verdict}
 use Rattle.checks.specs.declared.answers.Verdict.the-variants.{Accepted, Refused}
 use Rattle.checks.proofs.answers.Laws.{refused-if, passed-if, accepted-says, output-says, passes-if, passes-then, then-passes, then-refused, then-passed, passed}
-use Rattle.checks.proofs.WellFormed.{Header, header-facts, claim-facts, formed, formed-claim, formed-header, formed-rows}
+use Rattle.checks.proofs.WellFormed.{Header, header-facts, claim-passed, formed, formed-claim, formed-header, formed-rows}
 use Rattle.judging.specs.Input.{roomAnswer, proofAnswer, inputAnswer}
 
 -- ---- check_room
@@ -68,11 +68,8 @@ module _ (c s : List ℕ) (room : ℕ) (v : Verdict) (e : says v ≡ claimAnswer
   input-claim x h = then-refused v _ e x h _
 
   module _ (j : ℕ) (h : v ≡ Accepted j) where
-    pub claim-long : 8 ≤ length c
-    claim-long = let f = claim-facts c (passed v _ e j h) in omega (arith, f .sized)
-
     pub claim-few : (n : ℕ) → n ≡ variables c → n ≤ 8
-    claim-few n en = let f = claim-facts c (passed v _ e j h) in rw en (f .few)
+    claim-few n en = rw en (claim-passed c v e j h .few)
 
     pub input-proof : (n : ℕ) (r : Verdict) → n ≡ variables c → says r ≡ proofAnswer n s room
         → says r ≡ inputAnswer c s room

@@ -1,5 +1,5 @@
 use mir.Facts.{toZ-ofZ}
-use Rattle.judging.proofs.check.Laws.{check-decides, check-floors, refused-output, refused-keeps, accepted-claim, accepted-proof, accepted-room, accepted-here, within-here, accepted-output, accepted-keeps}
+use Rattle.judging.proofs.check.Laws.{check-decides, check-floors, refused-output, refused-keeps, accepted-claim, accepted-proof, own-here, check-accepted, accepted-room, within-here, accepted-output, accepted-keeps}
 use borrow.Author.Needs.{needs}
 use Rattle.judging.proofs.check.check.Statement.{statement}
 use Rattle.judging.proofs.check.check.Tie as tie
@@ -23,7 +23,7 @@ scale-requires : tie.Need-scale-requires
 scale-requires c κs = search accepted-proof
 
 write-exact-requires : tie.Need-write-exact-requires
-write-exact-requires c κs = (search (accepted-here, toZ-ofZ), search (within-here, toZ-ofZ), search accepted-room)
+write-exact-requires c κs = (search (own-here, check-accepted, toZ-ofZ), search (within-here, toZ-ofZ), search accepted-room)
 
 same-length : tie.Need-same-length
 same-length c = search needs

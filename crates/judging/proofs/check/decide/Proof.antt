@@ -1,6 +1,6 @@
 use borrow.Author.Needs.{needs}
 use mir.Facts.{toZ-ofZ}
-use Rattle.judging.proofs.check.Laws.{decided-input, claim-long, proof-long, own-here, decided-weighed}
+use Rattle.judging.proofs.check.Laws.{decided-claim, decided-proof, own-here, decided-input, input-accepted, decided-weighed}
 use Rattle.judging.proofs.check.decide.Statement.{statement}
 use Rattle.judging.proofs.check.decide.Tie as tie
 
@@ -17,13 +17,13 @@ returns : tie.Need-returns
 returns c = search decided-input
 
 floor-requires : tie.Need-floor-requires
-floor-requires c κs = search claim-long
+floor-requires c κs = search decided-claim
 
 scale-requires : tie.Need-scale-requires
-scale-requires c κs = search proof-long
+scale-requires c κs = search decided-proof
 
 weigh-requires : tie.Need-weigh-requires
-weigh-requires c κs = search (own-here, toZ-ofZ)
+weigh-requires c κs = search (own-here, input-accepted, toZ-ofZ)
 
 returns-2 : tie.Need-returns-2
 returns-2 c = search (decided-weighed, toZ-ofZ)

@@ -1,4 +1,5 @@
-use Rattle.judging.proofs.input.Laws.{input-claim, claim-long, claim-few, input-proof}
+use Rattle.judging.proofs.input.Laws.{input-claim, claim-few, input-proof}
+use Rattle.checks.proofs.WellFormed.{claim-long}
 use borrow.Author.Needs.{needs}
 use Rattle.judging.proofs.input.check_input.Statement.{statement}
 use Rattle.judging.proofs.input.check_input.Tie as tie
