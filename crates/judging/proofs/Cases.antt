@@ -16,7 +16,7 @@ use Rattle.checks.specs.ClaimChecks as C
 use Rattle.checks.specs.ProofChecks as P
 use Rattle.checks.specs.Cases.{joined, word, words, claimOf, proofOf, squareWith, square, squareProof, oneRow}
 use Rattle.sharing.specs.Sharing.{count, errorAt, shiftedWeight}
-use Rattle.sharing.specs.Targets.{targetOf}
+use Rattle.sharing.specs.Targets.{aimOf, targetOf}
 use Rattle.sharing.specs.Slots.{slotsTo}
 use Rattle.sharing.specs.Shifts.{shiftedWeights, shiftRow, slotsBefore, shiftedRow, shiftedRows}
 use Rattle.judging.specs.Input.{roomAnswer, proofAnswer, inputAnswer}
@@ -33,7 +33,7 @@ unfolding
     coefficientOf termOf termsOf scaleOf vOf wOf wordsAt tripleOf weightsOf rowOf rowsOf tripleFor withTriple
     withWeights withRows accepted refused blames refuseIf refuseAt blameless andThen first beyond C.headerRight
     C.breaks C.termsAnswer C.claimAnswer P.headerRight P.headerAnswer P.carries P.anyBeyond P.breaks P.rowsAnswer
-    joined word words claimOf proofOf squareWith square squareProof oneRow count errorAt shiftedWeight targetOf slotsTo
+    joined word words claimOf proofOf squareWith square squareProof oneRow count errorAt shiftedWeight aimOf targetOf slotsTo
     shiftedWeights shiftRow slotsBefore shiftedRow shiftedRows roomAnswer proofAnswer inputAnswer pointFor unheldAt
     unheld unheldAnswer negative large judgePair judgeLone judgementOf numberOf judgedNumber judgedAs firstsTo
     judgedAnswer weightsFor exactProof weighedAnswer targetsOf checkAnswer outputOf bare noRows motzkin

@@ -23,7 +23,7 @@ use Rattle.checks.specs.Answers.{accepted, Passes}
 use Rattle.checks.specs.Bounds.{greatestWeight}
 use Rattle.checks.specs.WellFormed.{WellFormed, Within}
 use Rattle.checks.proofs.answers.Laws.{passes-then, then-on, accepted-passes}
-use Rattle.sharing.specs.Targets.{targetOf}
+use Rattle.sharing.specs.Targets.{aimOf, targetOf}
 use Rattle.sharing.specs.Shifts.{shiftedRow, shiftedRows, CheckedSheets}
 use Rattle.sharing.proofs.targets.Laws.{target-of}
 use Rattle.sharing.proofs.shifts.Laws.{sheets-checked}
@@ -42,8 +42,8 @@ module _ (c s : List ℕ) where
   τ = targetsOf c s
 
   target-here : (α : Exponents) → τ α ≡ target (scaleOf s) (lowered (variables c) (floorOf c) (termsOf c)) α
-  unfolding targetsOf
-  target-here α = target-of c (floorOf c) (scaleOf s) α
+  unfolding targetsOf aimOf
+  target-here α = target-of c (aimOf c s) α
 
   -- ---- what an acceptance says
 
@@ -64,7 +64,7 @@ module _ (c s : List ℕ) where
 
     accepted-met : (α : Exponents) → unheldAt τ s α ≡ false
     unfolding checkAnswer weighedAnswer targetsOf
-    accepted-met = unheld-passed c s (floorOf c) (scaleOf s) (passes-then _ _ (passes-then _ _ h .1) .0)
+    accepted-met = unheld-passed c s (aimOf c s) (passes-then _ _ (passes-then _ _ h .1) .0)
 
     pub accepted-within : AllWithin greatestWeight τ s
     unfolding weightsFor
@@ -95,8 +95,8 @@ module _ (c s : List ℕ) where
   unheld-none : Decomposes c s (shiftedRows τ s) → Passes (unheldAnswer τ c s)
   unfolding targetsOf
   unheld-none d =
-      unheld-passes c s (floorOf c) (scaleOf s)
-      (λ α l. adds-met (targetOf c (floorOf c) (scaleOf s)) s α (d .adds-up α l ∙ sym (target-here α)))
+      unheld-passes c s (aimOf c s)
+      (λ α l. adds-met (targetOf c (aimOf c s)) s α (d .adds-up α l ∙ sym (target-here α)))
 
   pub accepts : (room : ℕ) → WellFormed c s → length s ≤ room → AllWithin greatestWeight τ s
       → Decomposes c s (shiftedRows τ s) → checkAnswer c s room ≡ accepted (rowCount s)
@@ -129,7 +129,7 @@ module _ (c s : List ℕ) where
 
   -- demand 3, exact proofs
   module _ (f : WellFormed c s) (d : Decomposes c s (rowsOf s)) where
-    own : CheckedSheets c s (floorOf c) (scaleOf s)
+    own : CheckedSheets c s (aimOf c s)
     own = sheets-checked c s f
 
     exact : (α : Exponents) → length α ≡ variables s → coefficient α (slots (rowsOf s)) ≡ τ α
@@ -157,4 +157,4 @@ module _ (c s : List ℕ) where
 -- demand 2, what is written
 pub exact-reads : Reads
 unfolding targetsOf
-exact-reads c s f w = exact-rows c s (floorOf c) (scaleOf s) (sheets-checked c s f) w
+exact-reads c s f w = exact-rows c s (aimOf c s) (sheets-checked c s f) w

@@ -6,11 +6,9 @@ use lib.IntN.{ℤ}
 use lib.ListN.{length, drop}
 use Rattle.monomials.specs.Points.{Exponents}
 use Rattle.sheets.specs.Layout.{rowCount}
-use Rattle.sheets.specs.ClaimSheet.{floorOf}
-use Rattle.sheets.specs.ProofSheet.{scaleOf}
 use Rattle.checks.specs.Answers.{Answer, andThen, blameless}
 use Rattle.checks.specs.Bounds.{greatestWeight}
-use Rattle.sharing.specs.Targets.{targetOf}
+use Rattle.sharing.specs.Targets.{aimOf, targetOf}
 use Rattle.sharing.specs.Shifts.{shiftedRow}
 use Rattle.judging.specs.Input.{inputAnswer}
 use Rattle.judging.specs.Unheld.{unheldAnswer}
@@ -24,7 +22,7 @@ weighedAnswer τ c s =
 
 -- the targets with the claim's floor and the proof's scale
 unfoldable pub targetsOf : List ℕ → List ℕ → Exponents → ℤ
-targetsOf c s = targetOf c (floorOf c) (scaleOf s)
+targetsOf c s = targetOf c (aimOf c s)
 
 -- 1 to 19; the room is the output's length
 unfoldable pub checkAnswer : List ℕ → List ℕ → ℕ → Answer

@@ -6,8 +6,8 @@ use crate::unheld::first_unheld;
 use checks::answers::Sheet;
 use checks::answers::Verdict;
 use checks::searches::Found;
-use sheets::claim_sheet::floor;
-use sheets::proof_sheet::scale;
+use sharing::targets::Aim;
+use sharing::targets::aim_of;
 ghost use mathlib.Core.Path.{_≡_};
 ghost use lib.ListN.{length};
 ghost use Rattle.checks.specs.Answers.{says};
@@ -16,15 +16,15 @@ ghost use Rattle.sharing.specs.Shifts.{CheckedSheets};
 ghost use Rattle.judging.specs.Check.{weighedAnswer, checkAnswer, outputOf};
 ghost use Rattle.judging.specs.Promises.{Decides, Floors, Keeps};
 
-// The checks 16 to 19, for a floor and a scale.
-fn weigh(claim: &[u8], proof: &[u8], floor: i64, scale: u64) -> Verdict
-    requires { ⌜ CheckedSheets (now claim) (now proof) floor scale ⌝ }
-    ensures { λ r. ⌜ says r ≡ weighedAnswer (targetOf (now (claim .entry)) floor scale) (now (claim .entry)) (now (proof .entry)) ⌝ }
+// The checks 16 to 19, for an aim.
+fn weigh(claim: &[u8], proof: &[u8], aim: Aim) -> Verdict
+    requires { ⌜ CheckedSheets (now claim) (now proof) aim ⌝ }
+    ensures { λ r. ⌜ says r ≡ weighedAnswer (targetOf (now (claim .entry)) aim) (now (claim .entry)) (now (proof .entry)) ⌝ }
 {
-    if let Found::At(i) = first_unheld(claim, proof, floor, scale) {
+    if let Found::At(i) = first_unheld(claim, proof, aim) {
         return Verdict::Refused(Sheet::Proof(16, i));
     }
-    check_judged(claim, proof, floor, scale)
+    check_judged(claim, proof, aim)
 }
 
 // The verdict alone; the room is the output's length.
@@ -35,7 +35,7 @@ fn decide(claim: &[u8], proof: &[u8], room: usize) -> Verdict
     let Verdict::Accepted(_) = formed else {
         return formed;
     };
-    weigh(claim, proof, floor(claim), scale(proof))
+    weigh(claim, proof, aim_of(claim, proof))
 }
 
 // Checks a claim and its proof. Where they are accepted the output's first bytes become the exact proof, and the later
@@ -51,6 +51,6 @@ pub fn check(claim: &[u8], proof: &[u8], output: &mut [u8]) -> Verdict
     let Verdict::Accepted(_) = verdict else {
         return verdict;
     };
-    write_exact(claim, proof, floor(claim), scale(proof), output);
+    write_exact(claim, proof, aim_of(claim, proof), output);
     verdict
 }

@@ -7,6 +7,7 @@ use checks::proof_checks::any_beyond;
 use checks::searches::Found;
 use monomials::rows::Weights;
 use sharing::shifts::shifted_row;
+use sharing::targets::Aim;
 use sheets::proof_sheet::Row;
 use sheets::proof_sheet::Triple;
 use sheets::proof_sheet::row_count;
@@ -139,17 +140,17 @@ fn note(f: Firsts, number: u32, i: usize) -> Firsts
 }
 
 // The number of row i's judgement.
-fn judged_number(claim: &[u8], proof: &[u8], floor: i64, scale: u64, i: usize) -> u32
-    requires { ⌜ (CheckedSheets (now claim) (now proof) floor scale) × (i < rowCount (now proof)) ⌝ }
-    ensures { λ r. ⌜ r ≡ judgedNumber greatestWeight (shiftedRow (targetOf (now (claim .entry)) floor scale) (now (proof .entry))) i ⌝ }
+fn judged_number(claim: &[u8], proof: &[u8], aim: Aim, i: usize) -> u32
+    requires { ⌜ (CheckedSheets (now claim) (now proof) aim) × (i < rowCount (now proof)) ⌝ }
+    ensures { λ r. ⌜ r ≡ judgedNumber greatestWeight (shiftedRow (targetOf (now (claim .entry)) aim) (now (proof .entry))) i ⌝ }
 {
-    number_of(judge(shifted_row(claim, proof, floor, scale, i), GREATEST_WEIGHT))
+    number_of(judge(shifted_row(claim, proof, aim, i), GREATEST_WEIGHT))
 }
 
 // Every row judged, in one pass.
-fn judge_all(claim: &[u8], proof: &[u8], floor: i64, scale: u64, k: usize) -> Firsts
-    requires { ⌜ (CheckedSheets (now claim) (now proof) floor scale) × (k ≡ rowCount (now proof)) ⌝ }
-    ensures { λ r. ⌜ r ≡ firstsTo greatestWeight (shiftedRow (targetOf (now (claim .entry)) floor scale) (now (proof .entry))) k ⌝ }
+fn judge_all(claim: &[u8], proof: &[u8], aim: Aim, k: usize) -> Firsts
+    requires { ⌜ (CheckedSheets (now claim) (now proof) aim) × (k ≡ rowCount (now proof)) ⌝ }
+    ensures { λ r. ⌜ r ≡ firstsTo greatestWeight (shiftedRow (targetOf (now (claim .entry)) aim) (now (proof .entry))) k ⌝ }
 {
     let mut f = Firsts {
         beyond: Found::Nothing,
@@ -158,7 +159,7 @@ fn judge_all(claim: &[u8], proof: &[u8], floor: i64, scale: u64, k: usize) -> Fi
     };
     let mut i = 0;
     while i < k {
-        f = note(f, judged_number(claim, proof, floor, scale, i), i);
+        f = note(f, judged_number(claim, proof, aim, i), i);
         i += 1;
     }
     f
@@ -184,10 +185,10 @@ fn chosen(f: Firsts, k: usize) -> Verdict
 }
 
 // The checks 17 to 19.
-pub(crate) fn check_judged(claim: &[u8], proof: &[u8], floor: i64, scale: u64) -> Verdict
-    requires { ⌜ CheckedSheets (now claim) (now proof) floor scale ⌝ }
-    ensures { λ r. ⌜ says r ≡ judgedAnswer (firstsTo greatestWeight (shiftedRow (targetOf (now (claim .entry)) floor scale) (now (proof .entry))) (rowCount (now (proof .entry)))) (rowCount (now (proof .entry))) ⌝ }
+pub(crate) fn check_judged(claim: &[u8], proof: &[u8], aim: Aim) -> Verdict
+    requires { ⌜ CheckedSheets (now claim) (now proof) aim ⌝ }
+    ensures { λ r. ⌜ says r ≡ judgedAnswer (firstsTo greatestWeight (shiftedRow (targetOf (now (claim .entry)) aim) (now (proof .entry))) (rowCount (now (proof .entry)))) (rowCount (now (proof .entry))) ⌝ }
 {
     let k = row_count(proof);
-    chosen(judge_all(claim, proof, floor, scale, k), k)
+    chosen(judge_all(claim, proof, aim, k), k)
 }

@@ -4,6 +4,7 @@ use integers::magnitudes::magnitude;
 use monomials::keys::key_of;
 use monomials::points::Point;
 use sharing::slots::holds_key;
+use sharing::targets::Aim;
 use sharing::targets::target_at;
 use sheets::claim_sheet::term_count;
 use sheets::claim_sheet::term_point;
@@ -16,10 +17,9 @@ ghost use lib.IntN.{natAbs};
 ghost use Rattle.monomials.specs.Points.{exponents, pointOf};
 ghost use Rattle.sheets.specs.Layout.{variables, termCount};
 ghost use Rattle.checks.specs.Searches.{first};
-ghost use Rattle.checks.specs.Bounds.{greatestWeight, greatestScale};
 ghost use Rattle.checks.specs.WellFormed.{ClaimFacts};
 ghost use Rattle.sharing.specs.Carried.{Carried};
-ghost use Rattle.sharing.specs.Targets.{targetOf};
+ghost use Rattle.sharing.specs.Targets.{AimWithin, targetOf};
 ghost use Rattle.sharing.specs.Shifts.{CheckedSheets};
 ghost use Rattle.judging.specs.Unheld.{pointFor, unheld};
 
@@ -35,17 +35,17 @@ fn point_for(claim: &[u8], n: usize, t: usize, i: usize) -> Point
 }
 
 // Whether the target at a point is zero.
-fn no_target(claim: &[u8], floor: i64, scale: u64, p: Point) -> bool
-    requires { ⌜ (ClaimFacts (now claim) (variables (now claim)) (termCount (now claim))) × (natAbs floor ≤ greatestWeight) × (scale ≤ greatestScale) × (Carried (variables (now claim)) (exponents p)) ⌝ }
-    ensures { λ r. ⌜ r ≡ eqb (natAbs (targetOf (now (claim .entry)) floor scale (exponents p))) 0 ⌝ }
+fn no_target(claim: &[u8], aim: Aim, p: Point) -> bool
+    requires { ⌜ (ClaimFacts (now claim) (variables (now claim)) (termCount (now claim))) × (AimWithin aim) × (Carried (variables (now claim)) (exponents p)) ⌝ }
+    ensures { λ r. ⌜ r ≡ eqb (natAbs (targetOf (now (claim .entry)) aim (exponents p))) 0 ⌝ }
 {
-    magnitude(target_at(claim, floor, scale, p)) == 0
+    magnitude(target_at(claim, aim, p)) == 0
 }
 
 // The first term whose target is not zero and that no row holds, then the constant.
-pub(crate) fn first_unheld(claim: &[u8], proof: &[u8], floor: i64, scale: u64) -> Found
-    requires { ⌜ CheckedSheets (now claim) (now proof) floor scale ⌝ }
-    ensures { λ r. ⌜ r ≡ first (unheld (targetOf (now (claim .entry)) floor scale) (now (claim .entry)) (now (proof .entry))) (suc (termCount (now (claim .entry)))) ⌝ }
+pub(crate) fn first_unheld(claim: &[u8], proof: &[u8], aim: Aim) -> Found
+    requires { ⌜ CheckedSheets (now claim) (now proof) aim ⌝ }
+    ensures { λ r. ⌜ r ≡ first (unheld (targetOf (now (claim .entry)) aim) (now (claim .entry)) (now (proof .entry))) (suc (termCount (now (claim .entry)))) ⌝ }
 {
     let n = variables(claim);
     let t = term_count(claim);
@@ -53,7 +53,7 @@ pub(crate) fn first_unheld(claim: &[u8], proof: &[u8], floor: i64, scale: u64) -
     let mut i = 0;
     'terms: while i <= t {
         let p = point_for(claim, n, t, i);
-        if no_target(claim, floor, scale, p) {
+        if no_target(claim, aim, p) {
             i += 1;
             continue 'terms;
         }

@@ -1,8 +1,8 @@
 -- Shifted rows: each row of a proof with the shifted weights of its slots. Its points stay.
 use mathlib.Core.Path.{_≡_}
 use mathlib.Core.List.{List, [], _∷_, _++_}
-use Prim.Native.Nat.{ℕ, _≤_}
-use lib.IntN.{ℤ, natAbs}
+use Prim.Native.Nat.{ℕ}
+use lib.IntN.{ℤ}
 use Rattle.monomials.specs.Lists.{table}
 use Rattle.monomials.specs.Points.{Exponents, pointOf, midpointOf}
 use Rattle.monomials.specs.Sums.{Sum}
@@ -10,12 +10,13 @@ use Rattle.monomials.specs.Rows.{Row, slots}
 use Rattle.monomials.specs.declared.points.Point.{Point}
 use Rattle.monomials.specs.declared.rows.Weights.{Weights}
 use Rattle.monomials.specs.declared.rows.Weights.the-variants.{Pair, Lone}
-use Rattle.checks.specs.Bounds.{greatestWeight, greatestScale}
 use Rattle.sheets.specs.Layout.{variables, termCount, rowCount}
 use Rattle.sheets.specs.ProofSheet.{vOf, wOf, rowOf, rowsOf}
 use Rattle.checks.specs.WellFormed.{ClaimFacts, ProofFacts}
 use Rattle.sharing.specs.Sharing.{shiftedWeight}
+use Rattle.sharing.specs.Targets.{AimWithin}
 use Rattle.sharing.specs.Slots.{slotsTo}
+use Rattle.sharing.specs.declared.targets.Aim.{Aim}
 
 -- the shifted weights of a row's slots "p at v, q at w and r at u"; L are all slots, `before` those of the rows before
 unfoldable pub shiftedWeights : (Exponents → ℤ) → Sum → Sum → Exponents → Exponents → Weights → Weights
@@ -41,13 +42,12 @@ shiftedRow τ s i = shiftRow τ (slots (rowsOf s)) (slotsBefore s i) (rowOf s (v
 unfoldable pub shiftedRows : (Exponents → ℤ) → List ℕ → List Row
 shiftedRows τ s = table (shiftedRow τ s) (rowCount s)
 
--- two sheets that pass their checks, a floor and a scale
-pub record CheckedSheets (c s : List ℕ) (b : ℤ) (S : ℕ) : Type 0 where
+-- two sheets that pass their checks, with a floor and a scale
+pub record CheckedSheets (c s : List ℕ) (a : Aim) : Type 0 where
   pub claim : ClaimFacts c (variables c) (termCount c)
   pub proof : ProofFacts s (variables s) (rowCount s)
   pub same : variables s ≡ variables c
-  pub floor : natAbs b ≤ greatestWeight
-  pub scale : S ≤ greatestScale
+  pub aim : AimWithin a
 
 -- two points by value and the weights that are row i's
 pub record IsRow (s : List ℕ) (i : ℕ) (v w : Point) (weights : Weights) : Type 0 where

@@ -1,21 +1,33 @@
--- Targets of a claim sheet, with the floor and the scale as arguments.
+-- Targets of a claim sheet, for any floor and scale.
 use mathlib.Core.Bool.{Bool, cond}
 use mathlib.Core.List.{List}
-use Prim.Native.Nat.{ℕ}
+use Prim.Native.Nat.{ℕ, _≤_}
 use lib.Dec.{eqb}
-use lib.IntN.{ℤ, pos, _-ℤ_}
+use lib.IntN.{ℤ, pos, natAbs, _-ℤ_}
 use Rattle.monomials.specs.Points.{Exponents}
 use Rattle.monomials.specs.Keys.{keyOf}
 use Rattle.monomials.specs.Targets.{lowered, target}
 use Rattle.sheets.specs.Layout.{variables}
-use Rattle.sheets.specs.ClaimSheet.{termPoint, coefficientOf, termsOf}
+use Rattle.sheets.specs.ClaimSheet.{floorOf, termPoint, coefficientOf, termsOf}
+use Rattle.sheets.specs.ProofSheet.{scaleOf}
+use Rattle.checks.specs.Bounds.{greatestWeight, greatestScale}
 use Rattle.checks.specs.Searches.{first}
 use Rattle.checks.specs.declared.searches.Found.{Found}
 use Rattle.checks.specs.declared.searches.Found.the-variants.{At, Nothing}
+use Rattle.sharing.specs.declared.targets.Aim.{Aim}
+
+-- a floor and a scale that the sheets can hold
+pub record AimWithin (a : Aim) : Type 0 where
+  pub floor : natAbs (a .floor) ≤ greatestWeight
+  pub scale : a .scale ≤ greatestScale
+
+-- the claim's floor and the proof's scale
+unfoldable pub aimOf : List ℕ → List ℕ → Aim
+aimOf c s = record { floor = floorOf c; scale = scaleOf s }
 
 -- "Let g be f with b taken from its constant coefficient": the target at a point
-unfoldable pub targetOf : List ℕ → ℤ → ℕ → Exponents → ℤ
-targetOf c b S α = target S (lowered (variables c) b (termsOf c)) α
+unfoldable pub targetOf : List ℕ → Aim → Exponents → ℤ
+targetOf c a α = target (a .scale) (lowered (variables c) (a .floor) (termsOf c)) α
 
 -- ---- by keys, as the code finds it: `at-point` of proofs/targets/Laws.antt shows that it is the coefficient of g
 
@@ -24,8 +36,8 @@ unfoldable pub hasKey : List ℕ → ℕ → ℕ → ℕ → Bool
 hasKey c n key i = eqb key (keyOf (termPoint c n i))
 
 -- a coefficient, with the floor taken from it where it is the constant's
-unfoldable pub loweredBy : ℤ → ℕ → ℤ → ℤ
-loweredBy b key x = cond (eqb key 0) (x -ℤ b) x
+unfoldable pub loweredBy : Aim → ℕ → ℤ → ℤ
+loweredBy a key x = cond (eqb key 0) (x -ℤ a .floor) x
 
 -- the coefficient of the term that was found, 0 where none was
 unfoldable pub foundAt : List ℕ → ℕ → ℕ → Found → ℤ
@@ -33,5 +45,5 @@ foundAt c n t (At i) = coefficientOf c n t i
 foundAt c n t Nothing = pos 0
 
 -- the coefficient at a key, with the floor taken from the constant
-unfoldable pub loweredAt : List ℕ → ℕ → ℕ → ℤ → ℕ → ℤ
-loweredAt c n t b key = loweredBy b key (foundAt c n t (first (hasKey c n key) t))
+unfoldable pub loweredAt : List ℕ → ℕ → ℕ → Aim → ℕ → ℤ
+loweredAt c n t a key = loweredBy a key (foundAt c n t (first (hasKey c n key) t))

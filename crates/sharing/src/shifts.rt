@@ -1,6 +1,7 @@
 // Shifted weights: each slot's weight with its share of the error at its point.
 use crate::slots::Holding;
 use crate::slots::held;
+use crate::targets::Aim;
 use crate::targets::target_at;
 use integers::division::share;
 use monomials::points::Point;
@@ -25,50 +26,49 @@ ghost use Rattle.sharing.specs.Carried.{Carried};
 ghost use Rattle.sharing.specs.Shifts.{CheckedSheets, IsRow, slotsBefore, shiftedRow};
 
 // A weight with its share of the error.
-fn moved(x: i64, aim: i64, h: Holding) -> i64
-    requires { ⌜ (natAbs x ≤ greatestWeight) × (natAbs aim ≤ 2 ^ 51) × (natAbs (h .sum) ≤ 2 ^ 42) × (0 < h .count) ⌝ }
-    ensures { λ r. ⌜ r ≡ x +ℤ share (aim -ℤ h .sum) (h .count) (h .rank) ⌝ }
+fn moved(x: i64, target: i64, h: Holding) -> i64
+    requires { ⌜ (natAbs x ≤ greatestWeight) × (natAbs target ≤ 2 ^ 51) × (natAbs (h .sum) ≤ 2 ^ 42) × (0 < h .count) ⌝ }
+    ensures { λ r. ⌜ r ≡ x +ℤ share (target -ℤ h .sum) (h .count) (h .rank) ⌝ }
 {
-    x + share(aim - h.sum, h.count, h.rank)
+    x + share(target - h.sum, h.count, h.rank)
 }
 
 // The weight x of a slot of row i at p, shifted.
-fn shifted(claim: &[u8], proof: &[u8], floor: i64, scale: u64, i: usize, p: Point, x: i64) -> i64
-    requires { ⌜ (CheckedSheets (now claim) (now proof) floor scale) × (i < rowCount (now proof)) × (Carried (variables (now claim)) (exponents p)) × (natAbs x ≤ greatestWeight) × (0 < count (exponents p) (slots (rowsOf (now proof)))) ⌝ }
-    ensures { λ r. ⌜ r ≡ shiftedWeight (targetOf (now (claim .entry)) floor scale) (slots (rowsOf (now (proof .entry)))) (slotsBefore (now (proof .entry)) i) (exponents p) x ⌝ }
+fn shifted(claim: &[u8], proof: &[u8], aim: Aim, i: usize, p: Point, x: i64) -> i64
+    requires { ⌜ (CheckedSheets (now claim) (now proof) aim) × (i < rowCount (now proof)) × (Carried (variables (now claim)) (exponents p)) × (natAbs x ≤ greatestWeight) × (0 < count (exponents p) (slots (rowsOf (now proof)))) ⌝ }
+    ensures { λ r. ⌜ r ≡ shiftedWeight (targetOf (now (claim .entry)) aim) (slots (rowsOf (now (proof .entry)))) (slotsBefore (now (proof .entry)) i) (exponents p) x ⌝ }
 {
     let h = held(proof, variables(proof), row_count(proof), i, p);
-    moved(x, target_at(claim, floor, scale, p), h)
+    moved(x, target_at(claim, aim, p), h)
 }
 
 // The weights of row i, shifted; v and w are its points.
 fn shifted_weights(
     claim: &[u8],
     proof: &[u8],
-    floor: i64,
-    scale: u64,
+    aim: Aim,
     i: usize,
     v: Point,
     w: Point,
     weights: Weights,
 ) -> Weights
-    requires { ⌜ (CheckedSheets (now claim) (now proof) floor scale) × (i < rowCount (now proof)) × (IsRow (now proof) i v w weights) ⌝ }
-    ensures { λ r. ⌜ r ≡ shiftedRow (targetOf (now (claim .entry)) floor scale) (now (proof .entry)) i .weights ⌝ }
+    requires { ⌜ (CheckedSheets (now claim) (now proof) aim) × (i < rowCount (now proof)) × (IsRow (now proof) i v w weights) ⌝ }
+    ensures { λ r. ⌜ r ≡ shiftedRow (targetOf (now (claim .entry)) aim) (now (proof .entry)) i .weights ⌝ }
 {
     match weights {
         Weights::Pair(p, q, r) => Weights::Pair(
-            shifted(claim, proof, floor, scale, i, v, p),
-            shifted(claim, proof, floor, scale, i, w, q),
-            shifted(claim, proof, floor, scale, i, midpoint(v, w), r),
+            shifted(claim, proof, aim, i, v, p),
+            shifted(claim, proof, aim, i, w, q),
+            shifted(claim, proof, aim, i, midpoint(v, w), r),
         ),
-        Weights::Lone(p) => Weights::Lone(shifted(claim, proof, floor, scale, i, v, p)),
+        Weights::Lone(p) => Weights::Lone(shifted(claim, proof, aim, i, v, p)),
     }
 }
 
 // Row i with its shifted weights.
-pub fn shifted_row(claim: &[u8], proof: &[u8], floor: i64, scale: u64, i: usize) -> Row
-    requires { ⌜ (CheckedSheets (now claim) (now proof) floor scale) × (i < rowCount (now proof)) ⌝ }
-    ensures { λ r. ⌜ r ≡ byValue (shiftedRow (targetOf (now (claim .entry)) floor scale) (now (proof .entry)) i) ⌝ }
+pub fn shifted_row(claim: &[u8], proof: &[u8], aim: Aim, i: usize) -> Row
+    requires { ⌜ (CheckedSheets (now claim) (now proof) aim) × (i < rowCount (now proof)) ⌝ }
+    ensures { λ r. ⌜ r ≡ byValue (shiftedRow (targetOf (now (claim .entry)) aim) (now (proof .entry)) i) ⌝ }
 {
     let row = row_at(proof, variables(proof), row_count(proof), i);
     let v = row.v;
@@ -77,6 +77,6 @@ pub fn shifted_row(claim: &[u8], proof: &[u8], floor: i64, scale: u64, i: usize)
     Row {
         v,
         w,
-        weights: shifted_weights(claim, proof, floor, scale, i, v, w, weights),
+        weights: shifted_weights(claim, proof, aim, i, v, w, weights),
     }
 }

@@ -4,20 +4,40 @@ use monomials::keys::key_of;
 use monomials::points::Point;
 use monomials::points::keeps_sign;
 use sheets::claim_sheet::coefficient;
+use sheets::claim_sheet::floor;
 use sheets::claim_sheet::term_count;
 use sheets::claim_sheet::term_key;
 use sheets::layout::variables;
+use sheets::proof_sheet::scale;
 ghost use mathlib.Core.Path.{_≡_};
 ghost use Prim.Native.Nat.{_^_, _<_, _≤_};
 ghost use lib.IntN.{pos, natAbs, _*ℤ_};
+ghost use lib.ListN.{length};
 ghost use Rattle.monomials.specs.Points.{exponents};
 ghost use Rattle.monomials.specs.Targets.{worst};
 ghost use Rattle.checks.specs.Bounds.{greatestWeight, greatestScale};
 ghost use Rattle.sheets.specs.Layout.{variables, termCount};
 ghost use Rattle.checks.specs.Searches.{first};
 ghost use Rattle.checks.specs.WellFormed.{ClaimFacts};
-ghost use Rattle.sharing.specs.Targets.{targetOf, hasKey, loweredBy, loweredAt};
+ghost use Rattle.sharing.specs.Targets.{aimOf, AimWithin, targetOf, hasKey, loweredBy, loweredAt};
 ghost use Rattle.sharing.specs.Carried.{Carried};
+
+// What the weights are to aim at: the floor, and the scale.
+pub struct Aim {
+    pub floor: i64,
+    pub scale: u64,
+}
+
+// The claim's floor with the proof's scale.
+pub fn aim_of(claim: &[u8], proof: &[u8]) -> Aim
+    requires { ⌜ (8 ≤ length (now claim)) × (8 ≤ length (now proof)) ⌝ }
+    ensures { λ r. ⌜ r ≡ aimOf (now (claim .entry)) (now (proof .entry)) ⌝ }
+{
+    Aim {
+        floor: floor(claim),
+        scale: scale(proof),
+    }
+}
 
 // Whether term i has a key.
 fn has_key(claim: &[u8], n: usize, t: usize, i: usize, key: u64) -> bool
@@ -43,25 +63,25 @@ fn find_term(claim: &[u8], n: usize, t: usize, key: u64) -> Found
 }
 
 // A coefficient, less the floor where it is the constant's.
-fn lowered_by(c: i64, floor: i64, key: u64) -> i64
-    requires { ⌜ (natAbs c ≤ greatestWeight) × (natAbs floor ≤ greatestWeight) ⌝ }
-    ensures { λ r. ⌜ (r ≡ loweredBy floor key c) × (natAbs r ≤ 2 ^ 31) ⌝ }
+fn lowered_by(c: i64, aim: Aim, key: u64) -> i64
+    requires { ⌜ (natAbs c ≤ greatestWeight) × (AimWithin aim) ⌝ }
+    ensures { λ r. ⌜ (r ≡ loweredBy aim key c) × (natAbs r ≤ 2 ^ 31) ⌝ }
 {
     if key == 0 {
-        return c - floor;
+        return c - aim.floor;
     }
     c
 }
 
 // The coefficient at a key, with the floor taken from the constant.
-fn lowered_at(claim: &[u8], n: usize, t: usize, floor: i64, key: u64) -> i64
-    requires { ⌜ (ClaimFacts (now claim) n t) × (natAbs floor ≤ greatestWeight) ⌝ }
-    ensures { λ r. ⌜ (r ≡ loweredAt (now (claim .entry)) n t floor key) × (natAbs r ≤ 2 ^ 31) ⌝ }
+fn lowered_at(claim: &[u8], n: usize, t: usize, aim: Aim, key: u64) -> i64
+    requires { ⌜ (ClaimFacts (now claim) n t) × (AimWithin aim) ⌝ }
+    ensures { λ r. ⌜ (r ≡ loweredAt (now (claim .entry)) n t aim key) × (natAbs r ≤ 2 ^ 31) ⌝ }
 {
     let Found::At(i) = find_term(claim, n, t, key) else {
-        return lowered_by(0, floor, key);
+        return lowered_by(0, aim, key);
     };
-    lowered_by(coefficient(claim, n, t, i), floor, key)
+    lowered_by(coefficient(claim, n, t, i), aim, key)
 }
 
 // A coefficient with the worst sign: as it stands where the point keeps its sign, else minus its absolute value.
@@ -87,14 +107,14 @@ fn scaled(scale: u64, c: i64) -> i64
 }
 
 // The target at a point.
-pub fn target_at(claim: &[u8], floor: i64, scale: u64, p: Point) -> i64
-    requires { ⌜ (ClaimFacts (now claim) (variables (now claim)) (termCount (now claim))) × (natAbs floor ≤ greatestWeight) × (scale ≤ greatestScale) × (Carried (variables (now claim)) (exponents p)) ⌝ }
-    ensures { λ r. ⌜ (r ≡ targetOf (now (claim .entry)) floor scale (exponents p)) × (natAbs r ≤ 2 ^ 51) ⌝ }
+pub fn target_at(claim: &[u8], aim: Aim, p: Point) -> i64
+    requires { ⌜ (ClaimFacts (now claim) (variables (now claim)) (termCount (now claim))) × (AimWithin aim) × (Carried (variables (now claim)) (exponents p)) ⌝ }
+    ensures { λ r. ⌜ (r ≡ targetOf (now (claim .entry)) aim (exponents p)) × (natAbs r ≤ 2 ^ 51) ⌝ }
 {
     let n = variables(claim);
     let t = term_count(claim);
     scaled(
-        scale,
-        worst(keeps_sign(p), lowered_at(claim, n, t, floor, key_of(p))),
+        aim.scale,
+        worst(keeps_sign(p), lowered_at(claim, n, t, aim, key_of(p))),
     )
 }

@@ -6,10 +6,10 @@ use native.Mathlib.Omega.{arith}
 use lib.ListN.{length, take, drop, length-drop, length-replicate}
 use lib.Seq.{length-take-le, take-all}
 use Rattle.sheets.specs.Layout.{variables, rowCount, ProofRoom}
-use Rattle.sheets.specs.ClaimSheet.{floorOf}
 use Rattle.sheets.specs.ProofSheet.{scaleOf, tripleOf, tripleFor}
 use Rattle.checks.specs.Answers.{says, Passes}
 use Rattle.checks.specs.declared.answers.Verdict.{Verdict}
+use Rattle.sharing.specs.Targets.{aimOf}
 use Rattle.sharing.specs.Shifts.{CheckedSheets}
 use Rattle.sharing.proofs.shifts.Laws.{sheets-checked}
 use Rattle.judging.specs.Exact.{weightsFor, exactProof}
@@ -69,7 +69,7 @@ module _ (c s : List ℕ) where
   as-long = length-replicate {A = ℕ} (length s) 0
 
   module _ (h : Passes (checkAnswer c s (length s))) where
-    own : CheckedSheets c s (floorOf c) (scaleOf s)
+    own : CheckedSheets c s (aimOf c s)
     own = sheets-checked c s (accepted-formed c s (length s) h)
 
     abbrev exact : List ℕ

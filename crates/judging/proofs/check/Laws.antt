@@ -8,8 +8,7 @@ use lib.IntN.{ℤ}
 use lib.ListN.{length, drop}
 use Rattle.integers.proofs.words.Laws.{Bytes}
 use Rattle.sheets.specs.Layout.{termCount, rowCount}
-use Rattle.sheets.specs.ClaimSheet.{floorOf}
-use Rattle.sheets.specs.ProofSheet.{scaleOf}
+use Rattle.monomials.specs.Points.{Exponents}
 use Rattle.checks.specs.Answers.{says, Passes}
 use Rattle.checks.specs.Bounds.{greatestWeight}
 use Rattle.checks.specs.Searches.{first}
@@ -21,7 +20,8 @@ use Rattle.checks.specs.declared.answers.Verdict.the-variants.{Accepted, Refuse
 use Rattle.checks.specs.declared.searches.Found.{Found}
 use Rattle.checks.specs.declared.searches.Found.the-variants.{At, Nothing}
 use Rattle.checks.proofs.answers.Laws.{refused-at, passed-at, accepted-says, late-says, then-refused, then-passed, passed, failed, accepted-passes}
-use Rattle.sharing.specs.Targets.{targetOf}
+use Rattle.sharing.specs.Targets.{aimOf, targetOf}
+use Rattle.sharing.specs.declared.targets.Aim.{Aim}
 use Rattle.sharing.specs.Shifts.{shiftedRow, CheckedSheets}
 use Rattle.sharing.proofs.shifts.Laws.{sheets-checked}
 use Rattle.judging.specs.Input.{inputAnswer}
@@ -33,29 +33,24 @@ use Rattle.judging.specs.Promises.{Decides, Floors, Keeps}
 use Rattle.judging.proofs.input.Laws.{input-formed}
 use Rattle.judging.proofs.Promises.{decision, floor-kept, exact-accepted, exact-bytes, accepted-formed, accepted-enough, accepted-within}
 
--- ---- weigh: f is what 16 found, b′ the floor as the machine reads it back
+-- ---- weigh: f is what 16 found
 
-module _ (c s : List ℕ) (b b′ : ℤ) (S : ℕ) (f : Found)
-    (e : f ≡ first (unheld (targetOf c b′ S) c s) (suc (termCount c))) (eb : b′ ≡ b) where
-  found-is : f ≡ first (unheld (targetOf c b S) c s) (suc (termCount c))
-  found-is = e ∙ rw eb
-
-  pub weighed-unheld : (i : ℕ) → f ≡ At i → says (Refused (Proof 16 i)) ≡ weighedAnswer (targetOf c b S) c s
+module _ (τ : Exponents → ℤ) (c s : List ℕ) (f : Found) (e : f ≡ first (unheld τ c s) (suc (termCount c))) where
+  pub weighed-unheld : (i : ℕ) → f ≡ At i → says (Refused (Proof 16 i)) ≡ weighedAnswer τ c s
   unfolding weighedAnswer unheldAnswer
   weighed-unheld i h =
-      then-refused _ _ (refused-at _ f _ 16 _ found-is i h (late-says 16 i (omega arith) (omega arith))) (Proof 16 i) refl _
+      then-refused _ _ (refused-at _ f _ 16 _ e i h (late-says 16 i (omega arith) (omega arith))) (Proof 16 i) refl _
 
-  pub weighed-judged : (v : Verdict) (b″ : ℤ) → f ≡ Nothing
-      → says v ≡ judgedAnswer (firstsTo greatestWeight (shiftedRow (targetOf c b″ S) s) (rowCount s)) (rowCount s)
-      → b″ ≡ b → says v ≡ weighedAnswer (targetOf c b S) c s
+  pub weighed-judged : (v : Verdict) → f ≡ Nothing
+      → says v ≡ judgedAnswer (firstsTo greatestWeight (shiftedRow τ s) (rowCount s)) (rowCount s)
+      → says v ≡ weighedAnswer τ c s
   unfolding weighedAnswer unheldAnswer
-  weighed-judged v b″ h ev eb″ =
-      then-passed (Accepted 0) _ (passed-at _ f _ 16 _ found-is h (accepted-says 0)) 0 refl v _ (rw eb″ at ev)
+  weighed-judged v h ev = then-passed (Accepted 0) _ (passed-at _ f _ 16 _ e h (accepted-says 0)) 0 refl v _ ev
 
--- ---- what decide and check read of well-formed sheets: b and S are the floor and the scale that were read
+-- ---- what decide and check read of well-formed sheets: a is the aim that was read
 
 module _ (c s : List ℕ) (f : WellFormed c s) where
-  own : CheckedSheets c s (floorOf c) (scaleOf s)
+  own : CheckedSheets c s (aimOf c s)
   own = sheets-checked c s f
 
   claim-eight : 8 ≤ length c
@@ -64,8 +59,8 @@ module _ (c s : List ℕ) (f : WellFormed c s) where
   proof-eight : 8 ≤ length s
   proof-eight = omega (arith, own .proof .sized)
 
-  pub own-here : (b b′ : ℤ) (S : ℕ) → b ≡ floorOf c → S ≡ scaleOf s → b′ ≡ b → CheckedSheets c s b′ S
-  own-here b b′ S eb eS eb′ = rw (eb′, eb, eS) own
+  pub own-here : (a : Aim) → a ≡ aimOf c s → CheckedSheets c s a
+  own-here a e = rw e own
 
 -- ---- decide: v is the verdict on 1 to 15
 
@@ -84,10 +79,10 @@ module _ (c s : List ℕ) (room : ℕ) (v : Verdict) (e : says v ≡ inputAnswer
     pub decided-proof : 8 ≤ length s
     decided-proof = proof-eight c s input-accepted
 
-    pub decided-weighed : (b b′ : ℤ) (S : ℕ) (r : Verdict) → says r ≡ weighedAnswer (targetOf c b′ S) c s → b ≡ floorOf c
-        → S ≡ scaleOf s → b′ ≡ b → says r ≡ checkAnswer c s room
+    pub decided-weighed : (a : Aim) (r : Verdict) → says r ≡ weighedAnswer (targetOf c a) c s → a ≡ aimOf c s
+        → says r ≡ checkAnswer c s room
     unfolding checkAnswer targetsOf
-    decided-weighed b b′ S r er eb eS eb′ = then-passed v _ e j h r _ (rw (eb′, eb, eS) at er)
+    decided-weighed a r er ea = then-passed v _ e j h r _ (rw ea at er)
 
 -- ---- check: v is the verdict, o the output afterwards
 
@@ -126,19 +121,19 @@ module _ (c s out : List ℕ) (v : Verdict) (e : says v ≡ checkAnswer c s (len
     pub accepted-room : length s ≤ length out
     accepted-room = accepted-enough c s (length out) passes
 
-    module _ (b b′ : ℤ) (S : ℕ) (eb : b ≡ floorOf c) (eS : S ≡ scaleOf s) (eb′ : b′ ≡ b) where
-      pub within-here : AllWithin greatestWeight (targetOf c b′ S) s
+    module _ (a : Aim) (ea : a ≡ aimOf c s) where
+      pub within-here : AllWithin greatestWeight (targetOf c a) s
       unfolding targetsOf
-      within-here = rw (eb′, eb, eS) (accepted-within c s (length out) passes)
+      within-here = rw ea (accepted-within c s (length out) passes)
 
-      module _ (o : List ℕ) (eo : o ≡ exactProof (targetOf c b′ S) s ++ drop (length s) out) where
+      module _ (o : List ℕ) (eo : o ≡ exactProof (targetOf c a) s ++ drop (length s) out) where
         pub accepted-output : o ≡ outputOf c s out
         unfolding outputOf targetsOf
-        accepted-output = rw passes (rw (eb′, eb, eS) at eo)
+        accepted-output = rw passes (rw ea at eo)
 
         pub accepted-keeps : Bytes s → Keeps c s out v o
         unfolding targetsOf
         accepted-keeps y = record {
           keeps = λ f l d.
-              (e ∙ exact-accepted c s f d (length out) l, (rw (eb′, eb, eS) at eo) ∙ rw (exact-bytes c s f d y));
+              (e ∙ exact-accepted c s f d (length out) l, (rw ea at eo) ∙ rw (exact-bytes c s f d y));
         }

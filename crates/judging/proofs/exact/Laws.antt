@@ -20,6 +20,7 @@ use Rattle.checks.specs.Bounds.{greatestWeight}
 use Rattle.checks.specs.WellFormed.{Within}
 use Rattle.checks.proofs.WellFormed.{proof-room}
 use Rattle.sharing.specs.Targets.{targetOf}
+use Rattle.sharing.specs.declared.targets.Aim.{Aim}
 use Rattle.sharing.specs.Shifts.{shiftedRow, shiftedRows, CheckedSheets}
 use Rattle.sharing.proofs.Rows.{keeps-kind, rows-are}
 use Rattle.judging.specs.Exact.{weightsFor, exactProof, AllWithin}
@@ -31,74 +32,67 @@ within-narrow x w = record {
   r-fits = fits-within (x .r) greatestWeight (w .r-within) (lit< tt);
 }
 
--- ---- write_rows: n and k are what the proof says, b′ is the floor as the machine reads it back, out₀ the bytes before
+-- ---- write_rows: n and k are what the proof says, out₀ the bytes before
 
-module _ (c s : List ℕ) (b : ℤ) (S : ℕ) (given : CheckedSheets c s b S) (n k : ℕ) (en : n ≡ variables s)
-    (ek : k ≡ rowCount s) where
+module _ (c s : List ℕ) (t : Aim) (given : CheckedSheets c s t) (n k : ℕ) (en : n ≡ variables s) (ek : k ≡ rowCount s) where
   proof-length : length s ≡ 8 + k * (2 * n + 12)
   proof-length = rw (en, ek) (given .proof .sized)
 
-  module _ (b′ : ℤ) (eb : b′ ≡ b) (out₀ out : List ℕ) (i : ℕ)
-      (e : out ≡ withRows (weightsFor (targetOf c b′ S) s) out₀ n k i) where
+  module _ (out₀ out : List ℕ) (i : ℕ) (e : out ≡ withRows (weightsFor (targetOf c t) s) out₀ n k i) where
     pub room-kept : length s ≤ length out₀ → ProofRoom out n k
     room-kept l = record {
       few = rw (en, given .same) (given .claim .few);
       rows = rw ek (given .proof .rows);
-      long = rw (e, all-length (weightsFor (targetOf c b′ S) s) out₀ n k i) (omega (arith, proof-length, l));
+      long = rw (e, all-length (weightsFor (targetOf c t) s) out₀ n k i) (omega (arith, proof-length, l));
     }
 
     pub length-kept : length out ≡ length out₀
-    length-kept = rw e (all-length (weightsFor (targetOf c b′ S) s) out₀ n k i)
+    length-kept = rw e (all-length (weightsFor (targetOf c t) s) out₀ n k i)
 
-    module _ (row : Row) (a : Weights) (b″ : ℤ) (er : row ≡ byValue (shiftedRow (targetOf c b″ S) s i))
-        (ea : a ≡ row .weights) (eb″ : b″ ≡ b) where
-      weights-are : a ≡ weightsFor (targetOf c b′ S) s i
+    module _ (row : Row) (a : Weights) (er : row ≡ byValue (shiftedRow (targetOf c t) s i)) (ea : a ≡ row .weights) where
+      weights-are : a ≡ weightsFor (targetOf c t) s i
       unfolding weightsFor
-      weights-are = ea ∙ value-weights _ row er ∙ rw (eb″, eb)
+      weights-are = ea ∙ value-weights _ row er
 
-      pub weights-narrow : AllWithin greatestWeight (targetOf c b S) s → i < k → Narrow (tripleFor a)
-      weights-narrow w l = rw (weights-are, eb) (within-narrow _ (w .within i (rw ek at l)))
+      pub weights-narrow : AllWithin greatestWeight (targetOf c t) s → i < k → Narrow (tripleFor a)
+      weights-narrow w l = rw weights-are (within-narrow _ (w .within i (rw ek at l)))
+
+      pub row-written : (out′ : List ℕ) → out′ ≡ withWeights out n k i a
+          → out′ ≡ withRows (weightsFor (targetOf c t) s) out₀ n k (i + 1)
+      row-written out′ eo = eo ∙ rw (e, weights-are) (sym (all-more (weightsFor (targetOf c t) s) out₀ n k i))
 
     pub rows-written : k ≤ i → i ≤ k
-        → out ≡ withRows (weightsFor (targetOf c b S) s) out₀ (variables s) (rowCount s) (rowCount s)
-    rows-written l m = let q : i ≡ k = omega arith in e ∙ rw (q, eb, en, ek)
-
-pub row-written : (c s : List ℕ) (b′ b″ : ℤ) (S n k i : ℕ) (out₀ out out′ : List ℕ) (row : Row) (a : Weights)
-    → out′ ≡ withWeights out n k i a → out ≡ withRows (weightsFor (targetOf c b′ S) s) out₀ n k i
-    → row ≡ byValue (shiftedRow (targetOf c b″ S) s i) → a ≡ row .weights → b″ ≡ b′
-    → out′ ≡ withRows (weightsFor (targetOf c b′ S) s) out₀ n k (i + 1)
-unfolding weightsFor
-row-written c s b′ b″ S n k i out₀ out out′ row a eo e er ea eb =
-    eo ∙ rw (e, ea, value-weights _ row er, eb) (sym (all-more (weightsFor (targetOf c b′ S) s) out₀ n k i))
+        → out ≡ withRows (weightsFor (targetOf c t) s) out₀ (variables s) (rowCount s) (rowCount s)
+    rows-written l m = let q : i ≡ k = omega arith in e ∙ rw (q, en, ek)
 
 pub rows-none : (weights : ℕ → Weights) (out : List ℕ) (n k : ℕ) → out ≡ withRows weights out n k 0
 rows-none weights out n k = sym (all-none weights out n k)
 
 -- ---- write_exact: o is the output with the proof copied into it
 
-module _ (c s out o : List ℕ) (b : ℤ) (S : ℕ) (e : o ≡ take (length s) s ++ drop (length s) out) where
+module _ (c s out o : List ℕ) (t : Aim) (e : o ≡ take (length s) s ++ drop (length s) out) where
   copied : o ≡ s ++ drop (length s) out
   copied = e ∙ rw (take-length s)
 
   pub copied-room : length s ≤ length o
   copied-room = rw (copied, length-append s (drop (length s) out)) (omega arith)
 
-  pub exact-written : (o′ : List ℕ) (b′ : ℤ) → CheckedSheets c s b S
-      → o′ ≡ withRows (weightsFor (targetOf c b′ S) s) o (variables s) (rowCount s) (rowCount s) → b′ ≡ b
-      → o′ ≡ exactProof (targetOf c b S) s ++ drop (length s) out
+  pub exact-written : (o′ : List ℕ) → CheckedSheets c s t
+      → o′ ≡ withRows (weightsFor (targetOf c t) s) o (variables s) (rowCount s) (rowCount s)
+      → o′ ≡ exactProof (targetOf c t) s ++ drop (length s) out
   unfolding exactProof
-  exact-written o′ b′ given eo eb =
-      eo ∙ rw (copied, eb)
-      (all-append (weightsFor (targetOf c b S) s) s (variables s) (rowCount s) (drop (length s) out) (rowCount s) (omega arith)
+  exact-written o′ given eo =
+      eo ∙ rw copied
+      (all-append (weightsFor (targetOf c t) s) s (variables s) (rowCount s) (drop (length s) out) (rowCount s) (omega arith)
       (omega (arith, given .proof .sized)))
 
 -- ---- the exact proof's rows are the shifted rows
 
-pub exact-rows : (c s : List ℕ) (b : ℤ) (S : ℕ) → CheckedSheets c s b S → AllWithin greatestWeight (targetOf c b S) s
-    → rowsOf (exactProof (targetOf c b S) s) ≡ shiftedRows (targetOf c b S) s
+pub exact-rows : (c s : List ℕ) (t : Aim) → CheckedSheets c s t → AllWithin greatestWeight (targetOf c t) s
+    → rowsOf (exactProof (targetOf c t) s) ≡ shiftedRows (targetOf c t) s
 unfolding exactProof weightsFor
-exact-rows c s b S given w =
-    let τ : Exponents → ℤ = targetOf c b S in
+exact-rows c s t given w =
+    let τ : Exponents → ℤ = targetOf c t in
     let room = proof-room s (variables s) (rowCount s) (rw (given .same) (given .claim .few)) (given .proof) in
     sheet-read s (variables s) (rowCount s) (weightsFor τ s) room (λ i l. within-narrow _ (w .within i l))
     (λ i l. keeps-kind τ s i) refl refl

@@ -1,7 +1,6 @@
 -- Laws of judgements: the ways through them; rows pass 17 to 19 exactly where they are within the limit and hold.
 use mathlib.Core.Path.{_≡_, refl, sym, _∙_, ap}
 use mathlib.Core.Bool.{Bool, true, false, cond, _||_}
-use mathlib.Core.List.{List}
 use Prim.Native.Nat.{ℕ, _+_, _*_, _^_, _≤_, _<_}
 use native.Mathlib.Nat.{mul-le-mul}
 use native.Mathlib.Numerals.{add-one}
@@ -18,7 +17,6 @@ use Rattle.monomials.specs.Rows.{Row}
 use Rattle.monomials.specs.Rows as Formal
 use Rattle.monomials.specs.declared.rows.Weights.{Weights}
 use Rattle.monomials.specs.declared.rows.Weights.the-variants.{Pair, Lone}
-use Rattle.sheets.specs.Layout.{rowCount}
 use Rattle.sheets.specs.ProofSheet.{tripleFor, byValue}
 use Rattle.sheets.specs.declared.proof_sheet.Triple.{Triple}
 use Rattle.sheets.specs.declared.proof_sheet.Row as Value
@@ -37,8 +35,6 @@ use Rattle.checks.proofs.answers.Laws.{passes-at, refused-at, passed-at, accept
 use Rattle.checks.proofs.bounds.Laws.{within-bound, bound-within}
 use Rattle.checks.proofs.searches.Laws.{first-none, first-here, first-stays, first-on, first-nothing, nothing-first}
 use Rattle.checks.proofs.WellFormed.{none-beyond, within-none}
-use Rattle.sharing.specs.Targets.{targetOf}
-use Rattle.sharing.specs.Shifts.{shiftedRow}
 use Rattle.judging.specs.Judgements.{negative, large, judgePair, judgeLone, judgementOf, numberOf, judgedNumber, judgedAs, kept, noted, firstsTo, judgedAnswer}
 use Rattle.judging.specs.declared.judgements.Firsts.{Firsts}
 use Rattle.judging.specs.declared.judgements.Judgement.{Judgement}
@@ -228,23 +224,20 @@ module _ (f : Firsts) (k : ℕ) (a : Found) (ea : a ≡ f .beyond) where
 
 -- ---- judged_number: row i of the shifted proof
 
-pub judged-number : (limit : ℕ) (c s : List ℕ) (b b′ : ℤ) (S i : ℕ) (a : Value.Row) (j : Judgement) (m : ℕ)
-    → a ≡ byValue (shiftedRow (targetOf c b′ S) s i) → j ≡ judgementOf limit (a .weights) → m ≡ numberOf j → b′ ≡ b
-    → m ≡ judgedNumber limit (shiftedRow (targetOf c b S) s) i
+pub judged-number : (limit : ℕ) (row : ℕ → Row) (i : ℕ) (a : Value.Row) (j : Judgement) (m : ℕ) → a ≡ byValue (row i)
+    → j ≡ judgementOf limit (a .weights) → m ≡ numberOf j → m ≡ judgedNumber limit row i
 unfolding judgedNumber
-judged-number limit c s b b′ S i a j m ea ej em eb = em ∙ rw (ej, value-weights _ a ea, eb)
+judged-number limit row i a j m ea ej em = em ∙ rw (ej, value-weights _ a ea)
 
--- ---- judge_all and check_judged: b′ is the floor as the machine reads it back
+-- ---- judge_all and check_judged
 
-module _ (limit : ℕ) (c s : List ℕ) (b b′ : ℤ) (S : ℕ) (f : Firsts) where
-  pub firsts-end : (i k : ℕ) → f ≡ firstsTo limit (shiftedRow (targetOf c b′ S) s) i → k ≤ i → i ≤ k → b′ ≡ b
-      → f ≡ firstsTo limit (shiftedRow (targetOf c b S) s) k
-  firsts-end i k h l m eb = let q : i ≡ k = omega arith in rw (q, eb) at h
+module _ (limit : ℕ) (row : ℕ → Row) (f : Firsts) where
+  pub firsts-end : (i k : ℕ) → f ≡ firstsTo limit row i → k ≤ i → i ≤ k → f ≡ firstsTo limit row k
+  firsts-end i k h l m = let q : i ≡ k = omega arith in rw q at h
 
-  pub judged-is : (k : ℕ) (v : Verdict) → says v ≡ judgedAnswer f k
-      → f ≡ firstsTo limit (shiftedRow (targetOf c b′ S) s) k → k ≡ rowCount s → b′ ≡ b
-      → says v ≡ judgedAnswer (firstsTo limit (shiftedRow (targetOf c b S) s) (rowCount s)) (rowCount s)
-  judged-is k v ev ef ek eb = ev ∙ rw (ef, ek, eb)
+  pub judged-is : (k m : ℕ) (v : Verdict) → says v ≡ judgedAnswer f k → f ≡ firstsTo limit row k → k ≡ m
+      → says v ≡ judgedAnswer (firstsTo limit row m) m
+  judged-is k m v ev ef ek = ev ∙ rw (ef, ek)
 
 -- ---- a row is judged to hold exactly where its weights are within the limit and it holds
 

@@ -34,6 +34,7 @@ use Rattle.checks.proofs.searches.Laws.{first-at, first-on, first-end, first-no
 use Rattle.sharing.specs.Carried.{Carried}
 use Rattle.sharing.specs.Sharing.{count}
 use Rattle.sharing.specs.Targets.{targetOf}
+use Rattle.sharing.specs.declared.targets.Aim.{Aim}
 use Rattle.sharing.specs.Slots.{CheckedProof, slotsTo, holdsKey}
 use Rattle.sharing.specs.Shifts.{shiftedRows, CheckedSheets}
 use Rattle.sharing.proofs.Carried.{term-carried, constant-carried, carried-low}
@@ -72,10 +73,9 @@ module _ (c : List ℕ) (n t i : ℕ) where
 
 -- ---- no_target: x is the target
 
-pub no-target : (c : List ℕ) (b b′ : ℤ) (S m : ℕ) (p : Point) (x x′ : ℤ) → x ≡ targetOf c b′ S (exponents p)
-    → m ≡ natAbs x′
-    → x′ ≡ x → b′ ≡ b → eqb m 0 ≡ eqb (natAbs (targetOf c b S (exponents p))) 0
-no-target c b b′ S m p x x′ ex em e eb = rw (em, e, ex, eb)
+pub no-target : (c : List ℕ) (a : Aim) (m : ℕ) (p : Point) (x x′ : ℤ) → x ≡ targetOf c a (exponents p) → m ≡ natAbs x′
+    → x′ ≡ x → eqb m 0 ≡ eqb (natAbs (targetOf c a (exponents p))) 0
+no-target c a m p x x′ ex em e = rw (em, e, ex)
 
 -- ---- a point with no target, one that is held, and one that is neither
 
@@ -98,13 +98,13 @@ module _ (τ : Exponents → ℤ) (s : List ℕ) (α : Exponents) where
 
 -- ---- first_unheld: n, t and k are what the sheets say
 
-module _ (c s : List ℕ) (b : ℤ) (S : ℕ) (given : CheckedSheets c s b S) (n t k : ℕ) (en : n ≡ variables c)
+module _ (c s : List ℕ) (a : Aim) (given : CheckedSheets c s a) (n t k : ℕ) (en : n ≡ variables c)
     (et : t ≡ termCount c) (ek : k ≡ rowCount s) where
   pub claim-here : ClaimFacts c n t
   claim-here = rw (en, et) (given .claim)
 
   pub proof-here : CheckedProof s n k
-  proof-here = proof-checked c s b S given n k (en ∙ sym (given .same)) ek
+  proof-here = proof-checked c s a given n k (en ∙ sym (given .same)) ek
 
   -- point i of those that are looked at
   module _ (i : ℕ) where
@@ -130,58 +130,53 @@ module _ (c s : List ℕ) (b : ℤ) (S : ℕ) (given : CheckedSheets c s b S) (n
     pub key-low : (key : ℕ) → key ≡ keyOf α → key < 2 ^ 63
     key-low key e = omega (arith, e, carried-low n α (claim-here .few) carried)
 
-    -- b′ is the floor as the machine reads it back
-    module _ (b′ : ℤ) (eb : b′ ≡ b) where
-      abbrev wrong : ℕ → Bool
-      wrong = unheld (targetOf c b′ S) c s
+    abbrev wrong : ℕ → Bool
+    wrong = unheld (targetOf c a) c s
 
-      here : wrong i ≡ unheldAt (targetOf c b′ S) s α
-      unfolding unheld
-      here = rw (en, et)
+    here : wrong i ≡ unheldAt (targetOf c a) s α
+    unfolding unheld
+    here = rw (en, et)
 
-      met : unheldAt (targetOf c b′ S) s α ≡ false → first wrong i ≡ Nothing → first wrong (i + 1) ≡ Nothing
-      met h before = first-on wrong i false before (sym (here ∙ h)) refl
+    met : unheldAt (targetOf c a) s α ≡ false → first wrong i ≡ Nothing → first wrong (i + 1) ≡ Nothing
+    met h before = first-on wrong i false before (sym (here ∙ h)) refl
 
-      module _ (p : Point) (ep : p ≡ pointOf α) (b″ : ℤ) (r : Bool)
-          (er : r ≡ eqb (natAbs (targetOf c b″ S (exponents p))) 0) (eb″ : b″ ≡ b) where
-        target-tested : eqb (natAbs (targetOf c b′ S α)) 0 ≡ r
-        target-tested = sym (er ∙ rw (eb″, eb, point-is p ep))
+    module _ (p : Point) (ep : p ≡ pointOf α) (r : Bool) (er : r ≡ eqb (natAbs (targetOf c a (exponents p))) 0) where
+      target-tested : eqb (natAbs (targetOf c a α)) 0 ≡ r
+      target-tested = sym (er ∙ rw (point-is p ep))
 
-        pub target-none : r ≡ true → first wrong i ≡ Nothing → first wrong (i + 1) ≡ Nothing
-        target-none h = met (zero-met (targetOf c b′ S) s α (target-tested ∙ h))
+      pub target-none : r ≡ true → first wrong i ≡ Nothing → first wrong (i + 1) ≡ Nothing
+      target-none h = met (zero-met (targetOf c a) s α (target-tested ∙ h))
 
-        pub target-some : r ≡ false → eqb (natAbs (targetOf c b′ S α)) 0 ≡ false
-        target-some h = target-tested ∙ h
+      pub target-some : r ≡ false → eqb (natAbs (targetOf c a α)) 0 ≡ false
+      target-some h = target-tested ∙ h
 
-      pub row-found : (j key : ℕ) (r : Bool) → key ≡ keyOf α → r ≡ holdsKey s n key j → r ≡ true → j < k
-          → first wrong i ≡ Nothing → first wrong (i + 1) ≡ Nothing
-      row-found j key r e er h l =
-          let held = key-held s n k j proof-here l α carried (rw e at (sym er ∙ h)) in
-          met (held-met (targetOf c b′ S) s α (rw slots-here at held))
+    pub row-found : (j key : ℕ) (r : Bool) → key ≡ keyOf α → r ≡ holdsKey s n key j → r ≡ true → j < k
+        → first wrong i ≡ Nothing → first wrong (i + 1) ≡ Nothing
+    row-found j key r e er h l =
+        let held = key-held s n k j proof-here l α carried (rw e at (sym er ∙ h)) in
+        met (held-met (targetOf c a) s α (rw slots-here at held))
 
-      pub none-found : (j key i′ : ℕ) → key ≡ keyOf α → i ≤ t → k ≤ j → j ≤ k
-          → eqb (natAbs (targetOf c b′ S α)) 0 ≡ false → first (holdsKey s n key) j ≡ Nothing → first wrong i ≡ Nothing
-          → i′ ≡ i → At i′ ≡ first (unheld (targetOf c b S) c s) (suc (termCount c))
-      none-found j key i′ e l m o h rows before ei =
-          let q : j ≡ k = omega arith in
-          let none : count α (slotsTo s n k k) ≡ 0 = keys-unheld s n k α proof-here carried (rw (q, e) at rows) in
-          let unheld-here = here ∙ unmet (targetOf c b′ S) s α h (rw slots-here at none) in
-          let inside : i < suc (termCount c) = omega (arith, et) in
-          rw (ei, ← eb) (first-at wrong (suc (termCount c)) i true inside before (sym unheld-here) refl)
+    pub none-found : (j key i′ : ℕ) → key ≡ keyOf α → i ≤ t → k ≤ j → j ≤ k
+        → eqb (natAbs (targetOf c a α)) 0 ≡ false → first (holdsKey s n key) j ≡ Nothing → first wrong i ≡ Nothing
+        → i′ ≡ i → At i′ ≡ first wrong (suc (termCount c))
+    none-found j key i′ e l m o h rows before ei =
+        let q : j ≡ k = omega arith in
+        let none : count α (slotsTo s n k k) ≡ 0 = keys-unheld s n k α proof-here carried (rw (q, e) at rows) in
+        let unheld-here = here ∙ unmet (targetOf c a) s α h (rw slots-here at none) in
+        let inside : i < suc (termCount c) = omega (arith, et) in
+        rw ei (first-at wrong (suc (termCount c)) i true inside before (sym unheld-here) refl)
 
-      pub all-met : t < i → i ≤ suc t → first wrong i ≡ Nothing
-          → Nothing ≡ first (unheld (targetOf c b S) c s) (suc (termCount c))
-      all-met l m before =
-          rw (← eb) (first-end wrong (suc (termCount c)) i (omega (arith, et)) (omega (arith, et)) before)
+    pub all-met : t < i → i ≤ suc t → first wrong i ≡ Nothing → Nothing ≡ first wrong (suc (termCount c))
+    all-met l m before = first-end wrong (suc (termCount c)) i (omega (arith, et)) (omega (arith, et)) before
 
 -- ---- 16 is passed exactly where every point of n exponents has no target, or is held
 
 met-zero : (τ : Exponents → ℤ) (s : List ℕ) (α : Exponents) → τ α ≡ pos 0 → unheldAt τ s α ≡ false
 met-zero τ s α e = zero-met τ s α (eq-eqb _ 0 (ap natAbs e))
 
-module _ (c s : List ℕ) (b : ℤ) (S : ℕ) where
+module _ (c s : List ℕ) (a : Aim) where
   abbrev τ : Exponents → ℤ
-  τ = targetOf c b S
+  τ = targetOf c a
 
   pub unheld-passes : ((α : Exponents) → length α ≡ variables c → unheldAt τ s α ≡ false) → Passes (unheldAnswer τ c s)
   unfolding unheldAnswer unheld
@@ -209,13 +204,13 @@ module _ (c s : List ℕ) (b : ℤ) (S : ℕ) where
     elsewhere : (α : Exponents) → samePoint α (replicate (variables c) 0) ≡ false → unheldAt τ s α ≡ true → ⊥
     elsewhere α apart wrong =
         let none = coefficient-none (λ β. unheldAt τ s β ≡ false) α (termsOf c) listed-terms (λ q. true≢false (sym wrong ∙ q)) in
-        let zero = target-of c b S α ∙ target-zero S _ α (lowered-other (variables c) b (termsOf c) α apart ∙ none) in
+        let zero = target-of c a α ∙ target-zero (a .scale) _ α (lowered-other (variables c) (a .floor) (termsOf c) α apart ∙ none) in
         true≢false (sym wrong ∙ met-zero τ s α zero)
 
     pub unheld-passed : (α : Exponents) → unheldAt τ s α ≡ false
     unheld-passed α = go (unheldAt τ s α) (samePoint α (replicate (variables c) 0)) refl refl
       where
-        go : (a e : Bool) → unheldAt τ s α ≡ a → samePoint α (replicate (variables c) 0) ≡ e → a ≡ false
+        go : (b e : Bool) → unheldAt τ s α ≡ b → samePoint α (replicate (variables c) 0) ≡ e → b ≡ false
         go false e ea ee = refl
         go true true ea ee = absurd (true≢false (sym ea ∙ rw (same-eq _ _ ee) listed-constant))
         go true false ea ee = absurd (elsewhere α ee ea)

@@ -24,16 +24,16 @@ use Rattle.monomials.specs.declared.rows.Weights.the-variants.{Pair, Lone}
 use Rattle.monomials.proofs.points.Laws.{exponents-of, same-eq, same-refl}
 use Rattle.monomials.proofs.keys.Laws.{key-midpoint}
 use Rattle.monomials.proofs.rows.Laws.{slots-pair, slots-lone}
-use Rattle.sheets.specs.ProofSheet.{scaleOf, vOf, wOf, tripleOf, rowOf, rowsOf, byValue}
+use Rattle.sheets.specs.ProofSheet.{vOf, wOf, tripleOf, rowOf, rowsOf, byValue}
 use Rattle.sheets.specs.declared.proof_sheet.Row.{Row}
-use Rattle.sheets.specs.ClaimSheet.{floorOf}
 use Rattle.checks.specs.WellFormed.{WellFormed}
 use Rattle.checks.proofs.WellFormed.{claim-formed, proof-formed, proof-room}
 use Rattle.sheets.proofs.proof_sheet.Laws.{lone-of, pair-of, row-v, row-w, value-v, value-w, value-weights, by-value}
 use Rattle.checks.specs.Bounds.{greatestWeight}
 use Rattle.sheets.specs.Layout.{variables, rowCount, ProofRoom}
 use Rattle.sharing.specs.Sharing.{count, errorAt, shiftedWeight}
-use Rattle.sharing.specs.Targets.{targetOf}
+use Rattle.sharing.specs.Targets.{aimOf, targetOf}
+use Rattle.sharing.specs.declared.targets.Aim.{Aim}
 use Rattle.sharing.specs.Carried.{Carried}
 use Rattle.sharing.proofs.Carried.{v-carried, w-carried, middle-carried, carried-same}
 use Rattle.sharing.specs.Slots.{CheckedProof, slotsTo, holdingOf}
@@ -42,38 +42,39 @@ use Rattle.sharing.proofs.Sharing.{count-past, count-cons}
 use Rattle.sharing.proofs.slots.Laws.{all-slots, row-held, slots-are, tally-bound, tally-sum}
 use Rattle.sharing.specs.declared.slots.Holding.{Holding}
 
--- ---- moved: aim is the target, y the share
+-- ---- moved: z is the target, y the share
 
-module _ (aim aim′ : ℤ) (h : Holding) (ha : natAbs aim ≤ 2 ^ 51) (hs : natAbs (h .sum) ≤ 2 ^ 42) (ea : aim′ ≡ aim) where
-  error-small : natAbs (aim -ℤ h .sum) ≤ 2 ^ 52
-  error-small = omega (arith, abs-add aim (negℤ (h .sum)), abs-neg (h .sum))
+module _ (z z′ : ℤ) (h : Holding) (ha : natAbs z ≤ 2 ^ 51) (hs : natAbs (h .sum) ≤ 2 ^ 42) (ea : z′ ≡ z) where
+  error-small : natAbs (z -ℤ h .sum) ≤ 2 ^ 52
+  error-small = omega (arith, abs-add z (negℤ (h .sum)), abs-neg (h .sum))
 
   sum-back : back (h .sum) ≡ h .sum
   sum-back = toZ-ofZ (fits-within {w = w64} (h .sum) (2 ^ 42) hs (lit< tt))
 
-  pub error-fits : SFits w64 (aim′ -ℤ back (h .sum))
-  error-fits = rw (ea, sum-back) (fits-within (aim -ℤ h .sum) (2 ^ 52) error-small (lit< tt))
+  pub error-fits : SFits w64 (z′ -ℤ back (h .sum))
+  error-fits = rw (ea, sum-back) (fits-within (z -ℤ h .sum) (2 ^ 52) error-small (lit< tt))
 
   module _ (x x′ e y y′ : ℤ) (ey : y ≡ share e (h .count) (h .rank)) (hx : natAbs x ≤ greatestWeight)
-      (ee : e ≡ back (aim′ -ℤ back (h .sum))) (ex : x′ ≡ x) (by : y′ ≡ y) where
-    error-is : e ≡ aim -ℤ h .sum
+      (ee : e ≡ back (z′ -ℤ back (h .sum))) (ex : x′ ≡ x) (by : y′ ≡ y) where
+    error-is : e ≡ z -ℤ h .sum
     error-is = ee ∙ toZ-ofZ error-fits ∙ rw (ea, sum-back)
 
-    share-is : y′ ≡ share (aim -ℤ h .sum) (h .count) (h .rank)
+    share-is : y′ ≡ share (z -ℤ h .sum) (h .count) (h .rank)
     share-is = by ∙ ey ∙ rw error-is
 
     pub moved-fits : SFits w64 (x′ +ℤ y′)
     moved-fits =
-        let z : ℤ = share (aim -ℤ h .sum) (h .count) (h .rank) in
-        let g = share-abs (aim -ℤ h .sum) (h .count) (h .rank) in
-        rw (ex, share-is) (fits-within (x +ℤ z) (2 ^ 53) (omega (arith, error-small, g, abs-add x z)) (lit< tt))
+        let d : ℤ = share (z -ℤ h .sum) (h .count) (h .rank) in
+        let g = share-abs (z -ℤ h .sum) (h .count) (h .rank) in
+        rw (ex, share-is) (fits-within (x +ℤ d) (2 ^ 53) (omega (arith, error-small, g, abs-add x d)) (lit< tt))
 
-    pub moved-is : back (x′ +ℤ y′) ≡ x +ℤ share (aim -ℤ h .sum) (h .count) (h .rank)
+    pub moved-is : back (x′ +ℤ y′) ≡ x +ℤ share (z -ℤ h .sum) (h .count) (h .rank)
     moved-is = toZ-ofZ moved-fits ∙ rw (ex, share-is)
 
 -- ---- well-formed sheets, with their own floor and scale
 
-pub sheets-checked : (c s : List ℕ) → WellFormed c s → CheckedSheets c s (floorOf c) (scaleOf s)
+pub sheets-checked : (c s : List ℕ) → WellFormed c s → CheckedSheets c s (aimOf c s)
+unfolding aimOf
 sheets-checked c s f =
     let claim = claim-formed c s f in
     let proof = proof-formed c s f in
@@ -81,13 +82,12 @@ sheets-checked c s f =
       claim = claim;
       proof = rw (proof .same) proof;
       same = proof .same;
-      floor = claim .floor-within;
-      scale = proof .scale;
+      aim = record { floor = claim .floor-within; scale = proof .scale };
     }
 
 -- ---- shifted: n and k are what the proof sheet says
 
-module _ (c s : List ℕ) (b : ℤ) (S : ℕ) (given : CheckedSheets c s b S) (n k : ℕ) (en : n ≡ variables s)
+module _ (c s : List ℕ) (a : Aim) (given : CheckedSheets c s a) (n k : ℕ) (en : n ≡ variables s)
     (ek : k ≡ rowCount s) where
   pub proof-checked : CheckedProof s n k
   proof-checked = rw (en, ek) (record {
@@ -117,11 +117,11 @@ module _ (c s : List ℕ) (b : ℤ) (S : ℕ) (given : CheckedSheets c s b S) (n
     unfolding holdingOf
     held-some l = rw (eh, all-slots s n k en ek) l
 
-    pub shifted-is : (x x′ b′ aim aim′ r r′ : ℤ) → r ≡ x′ +ℤ share (aim′ -ℤ h .sum) (h .count) (h .rank)
-        → aim ≡ targetOf c b′ S (exponents p) → r′ ≡ r → aim′ ≡ aim → x′ ≡ x → b′ ≡ b
-        → r′ ≡ shiftedWeight (targetOf c b S) (slots (rowsOf s)) (slotsBefore s i) (exponents p) x
+    pub shifted-is : (x x′ z z′ r r′ : ℤ) → r ≡ x′ +ℤ share (z′ -ℤ h .sum) (h .count) (h .rank)
+        → z ≡ targetOf c a (exponents p) → r′ ≡ r → z′ ≡ z → x′ ≡ x
+        → r′ ≡ shiftedWeight (targetOf c a) (slots (rowsOf s)) (slotsBefore s i) (exponents p) x
     unfolding holdingOf slotsBefore shiftedWeight errorAt
-    shifted-is x x′ b′ aim aim′ r r′ er ea br ba bx bb = br ∙ er ∙ rw (ba, ea, bx, bb, eh, all-slots s n k en ek, en, ek)
+    shifted-is x x′ z z′ r r′ er ez br bz bx = br ∙ er ∙ rw (bz, ez, bx, eh, all-slots s n k en ek, en, ek)
 
 -- ---- a slot elsewhere does not move another's weight
 
@@ -162,10 +162,7 @@ module _ (s : List ℕ) (n k i : ℕ) (f : CheckedProof s n k) (l : i < k) where
 
 -- ---- shifted_weights: row i of well-formed sheets
 
-module _ (c s : List ℕ) (b : ℤ) (S i : ℕ) (given : CheckedSheets c s b S) (l : i < rowCount s) where
-  pub checked-back : (b′ : ℤ) → b′ ≡ b → CheckedSheets c s b′ S
-  checked-back b′ e = rw e given
-
+module _ (c s : List ℕ) (t : Aim) (i : ℕ) (given : CheckedSheets c s t) (l : i < rowCount s) where
   abbrev n : ℕ
   n = variables s
 
@@ -179,7 +176,7 @@ module _ (c s : List ℕ) (b : ℤ) (S i : ℕ) (given : CheckedSheets c s b S) 
   β = wOf s n i
 
   proof-here : CheckedProof s n k
-  proof-here = proof-checked c s b S given n k refl refl
+  proof-here = proof-checked c s t given n k refl refl
 
   -- the points of the row's own slots are held
   own-held : (γ : Exponents) (L : Sum) → slotsAt (rowOf s n k i .v) (rowOf s n k i .w) (rowOf s n k i .weights) ≡ L
@@ -219,11 +216,11 @@ module _ (c s : List ℕ) (b : ℤ) (S i : ℕ) (given : CheckedSheets c s b S) 
           own-held (exponents v) ((exponents v, p) ∷ []) (rw (lone-row, slots-lone, row-v, v-is))
           (rw (count-cons, same-refl) (omega arith))
 
-      pub lone-shifted : (b′ p′ x x′ : ℤ)
-          → x ≡ shiftedWeight (targetOf c b′ S) (slots (rowsOf s)) (slotsBefore s i) (exponents v) p′
-          → x′ ≡ x → p′ ≡ p → b′ ≡ b → Lone x′ ≡ shiftedRow (targetOf c b S) s i .weights
+      pub lone-shifted : (p′ x x′ : ℤ)
+          → x ≡ shiftedWeight (targetOf c t) (slots (rowsOf s)) (slotsBefore s i) (exponents v) p′
+          → x′ ≡ x → p′ ≡ p → Lone x′ ≡ shiftedRow (targetOf c t) s i .weights
       unfolding shiftedRow shiftRow shiftedWeights
-      lone-shifted b′ p′ x x′ ex bx bp bb = rw (lone-row, row-v, bx, ex, bp, bb, v-is)
+      lone-shifted p′ x x′ ex bx bp = rw (lone-row, row-v, bx, ex, bp, v-is)
 
     -- a pair
     module _ (p q r : ℤ) (e : a ≡ Pair p q r) where
@@ -267,24 +264,24 @@ module _ (c s : List ℕ) (b : ℤ) (S i : ℕ) (given : CheckedSheets c s b S) 
             pair-held (exponents u)
             (rw (u-is u eu, count-cons, mid-off-α, count-cons, mid-off-β, count-cons, same-refl) (omega arith))
 
-        pub pair-shifted : (b₁ b₂ b₃ p′ q′ r′ x x′ y y′ z z′ : ℤ)
-            → x ≡ shiftedWeight (targetOf c b₁ S) (slots (rowsOf s)) (slotsBefore s i) (exponents v) p′
-            → y ≡ shiftedWeight (targetOf c b₂ S) (slots (rowsOf s)) (slotsBefore s i) (exponents w) q′
-            → z ≡ shiftedWeight (targetOf c b₃ S) (slots (rowsOf s)) (slotsBefore s i) (exponents u) r′
-            → x′ ≡ x → y′ ≡ y → z′ ≡ z → p′ ≡ p → q′ ≡ q → r′ ≡ r → b₁ ≡ b → b₂ ≡ b → b₃ ≡ b
-            → Pair x′ y′ z′ ≡ shiftedRow (targetOf c b S) s i .weights
+        pub pair-shifted : (p′ q′ r′ x x′ y y′ z z′ : ℤ)
+            → x ≡ shiftedWeight (targetOf c t) (slots (rowsOf s)) (slotsBefore s i) (exponents v) p′
+            → y ≡ shiftedWeight (targetOf c t) (slots (rowsOf s)) (slotsBefore s i) (exponents w) q′
+            → z ≡ shiftedWeight (targetOf c t) (slots (rowsOf s)) (slotsBefore s i) (exponents u) r′
+            → x′ ≡ x → y′ ≡ y → z′ ≡ z → p′ ≡ p → q′ ≡ q → r′ ≡ r
+            → Pair x′ y′ z′ ≡ shiftedRow (targetOf c t) s i .weights
         unfolding shiftedRow shiftRow shiftedWeights
-        pair-shifted b₁ b₂ b₃ p′ q′ r′ x x′ y y′ z z′ ex ey ez bx by bz bp bq br e₁ e₂ e₃ =
-            rw (pair-row, row-v, row-w, bx, ex, by, ey, bz, ez, bp, bq, br, e₁, e₂, e₃, v-is, w-is, u-is u eu)
-            (ap₂ (Pair (shiftedWeight (targetOf c b S) (slots (rowsOf s)) (slotsBefore s i) α p))
+        pair-shifted p′ q′ r′ x x′ y y′ z z′ ex ey ez bx by bz bp bq br =
+            rw (pair-row, row-v, row-w, bx, ex, by, ey, bz, ez, bp, bq, br, v-is, w-is, u-is u eu)
+            (ap₂ (Pair (shiftedWeight (targetOf c t) (slots (rowsOf s)) (slotsBefore s i) α p))
             (sym (weight-past _ _ _ _ _ q β-off-α))
             (sym (weight-past _ _ _ _ _ r mid-off-β ∙ weight-past _ _ _ _ _ r mid-off-α)))
 
 -- ---- shifted_row
 
-module _ (c s : List ℕ) (b : ℤ) (S i n k : ℕ) (given : CheckedSheets c s b S) (en : n ≡ variables s) (ek : k ≡ rowCount s) where
+module _ (c s : List ℕ) (t : Aim) (i n k : ℕ) (given : CheckedSheets c s t) (en : n ≡ variables s) (ek : k ≡ rowCount s) where
   pub room-here : ProofRoom s n k
-  room-here = let f = proof-checked c s b S given n k en ek in proof-room s n k (f .few) (f .facts)
+  room-here = let f = proof-checked c s t given n k en ek in proof-room s n k (f .few) (f .facts)
 
   module _ (row : Row) (er : row ≡ byValue (rowOf s n k i)) where
     pub is-row : (v w : Point) (a : Weights) → v ≡ row .v → w ≡ row .w → a ≡ row .weights → IsRow s i v w a
@@ -294,8 +291,8 @@ module _ (c s : List ℕ) (b : ℤ) (S i n k : ℕ) (given : CheckedSheets c s b
       carries = ea ∙ value-weights _ row er ∙ rw (en, ek);
     }
 
-    pub row-shifted : (v w : Point) (b′ : ℤ) (x : Weights) → x ≡ shiftedRow (targetOf c b′ S) s i .weights → v ≡ row .v
-        → w ≡ row .w → b′ ≡ b → record { v = v; w = w; weights = x } ≡ byValue (shiftedRow (targetOf c b S) s i)
+    pub row-shifted : (v w : Point) (x : Weights) → x ≡ shiftedRow (targetOf c t) s i .weights → v ≡ row .v → w ≡ row .w
+        → record { v = v; w = w; weights = x } ≡ byValue (shiftedRow (targetOf c t) s i)
     unfolding shiftedRow shiftRow
-    row-shifted v w b′ x ex ev ew bb =
-        by-value _ v w x (ev ∙ value-v _ row er ∙ rw (en, ek)) (ew ∙ value-w _ row er ∙ rw (en, ek)) (ex ∙ rw bb)
+    row-shifted v w x ex ev ew =
+        by-value _ v w x (ev ∙ value-v _ row er ∙ rw (en, ek)) (ew ∙ value-w _ row er ∙ rw (en, ek)) ex

@@ -30,14 +30,16 @@ use Rattle.monomials.proofs.keys.Laws.{key-zeros}
 use Rattle.checks.specs.Bounds.{greatestWeight, greatestScale}
 use Rattle.sheets.specs.Layout.{variables, termCount}
 use Rattle.checks.specs.Searches.{first}
-use Rattle.sheets.specs.ClaimSheet.{termPoint, coefficientOf, termOf, termsOf}
+use Rattle.sheets.specs.ClaimSheet.{floorOf, termPoint, coefficientOf, termOf, termsOf}
+use Rattle.sheets.specs.ProofSheet.{scaleOf}
 use Rattle.checks.specs.WellFormed.{ClaimFacts}
 use Rattle.checks.specs.declared.searches.Found.{Found}
 use Rattle.checks.specs.declared.searches.Found.the-variants.{At, Nothing}
 use Rattle.checks.proofs.searches.Laws.{first-none, first-here, first-stays, first-on, first-inside}
 use Rattle.sheets.proofs.claim_sheet.Laws.{terms-table, term-point, term-coefficient}
 use Rattle.checks.proofs.WellFormed.{points-differ}
-use Rattle.sharing.specs.Targets.{targetOf, hasKey, loweredBy, foundAt, loweredAt}
+use Rattle.sharing.specs.declared.targets.Aim.{Aim}
+use Rattle.sharing.specs.Targets.{AimWithin, aimOf, targetOf, hasKey, loweredBy, foundAt, loweredAt}
 use Rattle.sharing.specs.Carried.{Carried}
 use Rattle.sharing.proofs.Carried.{term-carried, constant-carried, carried-same}
 
@@ -45,27 +47,30 @@ use Rattle.sharing.proofs.Carried.{term-carried, constant-carried, carr
 pub back-small : (r r′ : ℤ) (m : ℕ) → natAbs r ≤ m → r′ ≡ r → natAbs r′ ≤ m
 back-small r r′ m h e = rw e h
 
--- ---- lowered_by: x is a coefficient and b the floor
+-- ---- lowered_by: x is a coefficient
 
 difference-small : (x b : ℤ) → natAbs x ≤ greatestWeight → natAbs b ≤ greatestWeight → natAbs (x -ℤ b) ≤ 2 ^ 31
 difference-small x b hx hb = omega (arith, abs-add x (negℤ b), abs-neg b)
 
-module _ (x x′ b b′ : ℤ) (key : ℕ) (hx : natAbs x ≤ greatestWeight) (hb : natAbs b ≤ greatestWeight) (ex : x′ ≡ x)
-    (eb : b′ ≡ b) where
-  pub lowered-fits : SFits w64 (x′ -ℤ b′)
-  lowered-fits = rw (ex, eb) (fits-within (x -ℤ b) (2 ^ 31) (difference-small x b hx hb) (lit< tt))
+module _ (x x′ : ℤ) (a : Aim) (key : ℕ) (hx : natAbs x ≤ greatestWeight) (ha : AimWithin a) (ex : x′ ≡ x) where
+  floor-back : back (a .floor) ≡ a .floor
+  floor-back = toZ-ofZ (fits-within {w = w64} (a .floor) greatestWeight (ha .floor) (lit< tt))
 
-  pub lowered-here : key ≡ 0 → back (x′ -ℤ b′) ≡ loweredBy b key x
+  pub lowered-fits : SFits w64 (x′ -ℤ back (a .floor))
+  lowered-fits =
+      rw (ex, floor-back) (fits-within (x -ℤ a .floor) (2 ^ 31) (difference-small x (a .floor) hx (ha .floor)) (lit< tt))
+
+  pub lowered-here : key ≡ 0 → back (x′ -ℤ back (a .floor)) ≡ loweredBy a key x
   unfolding loweredBy
-  lowered-here h = toZ-ofZ lowered-fits ∙ rw (ex, eb, eq-eqb key 0 h)
+  lowered-here h = toZ-ofZ lowered-fits ∙ rw (ex, floor-back, eq-eqb key 0 h)
 
-  pub constant-small : natAbs (back (x′ -ℤ b′)) ≤ 2 ^ 31
-  constant-small = rw (toZ-ofZ lowered-fits, ex, eb) (difference-small x b hx hb)
+  pub constant-small : natAbs (back (x′ -ℤ back (a .floor))) ≤ 2 ^ 31
+  constant-small = rw (toZ-ofZ lowered-fits, ex, floor-back) (difference-small x (a .floor) hx (ha .floor))
 
 module _ (x x′ : ℤ) (ex : x′ ≡ x) where
-  pub lowered-elsewhere : (b : ℤ) (key : ℕ) → (key ≡ 0 → ⊥) → x′ ≡ loweredBy b key x
+  pub lowered-elsewhere : (a : Aim) (key : ℕ) → (key ≡ 0 → ⊥) → x′ ≡ loweredBy a key x
   unfolding loweredBy
-  lowered-elsewhere b key h = rw (ex, ne-eqb key 0 h)
+  lowered-elsewhere a key h = rw (ex, ne-eqb key 0 h)
 
   pub other-small : natAbs x ≤ greatestWeight → natAbs x′ ≤ 2 ^ 31
   other-small h = rw ex (omega arith)
@@ -110,6 +115,13 @@ module _ (S : ℕ) (x x′ : ℤ) (hS : S ≤ greatestScale) (h : natAbs x ≤ 2
   pub scaled-small : natAbs (back (toZ w64 S *ℤ x′)) ≤ 2 ^ 51
   scaled-small = rw product-is product-small
 
+-- ---- aim_of: b and S are what the sheets say
+
+pub aim-is : (c s : List ℕ) (b b′ : ℤ) (S : ℕ) → b ≡ floorOf c → S ≡ scaleOf s → b′ ≡ b
+    → record { floor = b′; scale = S } ≡ aimOf c s
+unfolding aimOf
+aim-is c s b b′ S eb eS e = rw (e, eb, eS)
+
 -- ---- has_key
 
 pub key-tested : (c : List ℕ) (n i key k : ℕ) → k ≡ keyOf (termPoint c n i) → eqb key k ≡ hasKey c n key i
@@ -118,11 +130,10 @@ key-tested c n i key k e = rw e
 
 -- ---- lowered_at: f is what was found, r what was taken from it
 
-module _ (c : List ℕ) (n t key : ℕ) (b b′ : ℤ) (f : Found) (ef : f ≡ first (hasKey c n key) t) where
-  pub lowered-none : (r r′ : ℤ) → r ≡ loweredBy b′ key (pos 0) → f ≡ Nothing → r′ ≡ r → b′ ≡ b
-      → r′ ≡ loweredAt c n t b key
+module _ (c : List ℕ) (n t key : ℕ) (a : Aim) (f : Found) (ef : f ≡ first (hasKey c n key) t) where
+  pub lowered-none : (r r′ : ℤ) → r ≡ loweredBy a key (pos 0) → f ≡ Nothing → r′ ≡ r → r′ ≡ loweredAt c n t a key
   unfolding loweredAt foundAt
-  lowered-none r r′ er h e eb = e ∙ er ∙ rw (← ef, h, eb)
+  lowered-none r r′ er h e = e ∙ er ∙ rw (← ef, h)
 
   module _ (i : ℕ) (h : f ≡ At i) where
     pub found-inside : i < t
@@ -131,10 +142,10 @@ module _ (c : List ℕ) (n t key : ℕ) (b b′ : ℤ) (f : Found) (ef : f ≡ f
     pub found-within : (x x′ : ℤ) → ClaimFacts c n t → x ≡ coefficientOf c n t i → x′ ≡ x → natAbs x′ ≤ greatestWeight
     found-within x x′ facts ex e = rw (e, ex) (facts .coefficient-within i found-inside)
 
-    pub lowered-found : (x x′ r r′ : ℤ) → r ≡ loweredBy b′ key x′ → x ≡ coefficientOf c n t i → r′ ≡ r → x′ ≡ x → b′ ≡ b
-        → r′ ≡ loweredAt c n t b key
+    pub lowered-found : (x x′ r r′ : ℤ) → r ≡ loweredBy a key x′ → x ≡ coefficientOf c n t i → r′ ≡ r → x′ ≡ x
+        → r′ ≡ loweredAt c n t a key
     unfolding loweredAt foundAt
-    lowered-found x x′ r r′ er ex e e₂ eb = e ∙ er ∙ rw (← ef, h, e₂, ex, eb)
+    lowered-found x x′ r r′ er ex e e₂ = e ∙ er ∙ rw (← ef, h, e₂, ex)
 
 -- ---- the term found by its key is the one at the point
 
@@ -188,16 +199,16 @@ module _ (c : List ℕ) (n t : ℕ) (facts : ClaimFacts c n t) (α : Exponents) 
   abbrev f : Sum
   f = termsOf c
 
-  pub at-point : (b : ℤ) → n ≡ variables c → t ≡ termCount c
-      → loweredAt c n t b (keyOf α) ≡ coefficient α (lowered (variables c) b (termsOf c))
+  pub at-point : (a : Aim) → n ≡ variables c → t ≡ termCount c
+      → loweredAt c n t a (keyOf α) ≡ coefficient α (lowered (variables c) (a .floor) (termsOf c))
   unfolding loweredAt loweredBy here
-  at-point b en et =
+  at-point a en et =
       rw (found-coefficient t (omega arith), terms-table c n t en et, ← en) (go (samePoint α (replicate n 0)) refl)
     where
       go : (k : Bool) → samePoint α (replicate n 0) ≡ k
-          → cond (eqb (keyOf α) 0) (coefficient α f -ℤ b) (coefficient α f) ≡ coefficient α (lowered n b f)
-      go true e = rw (constant-there, e) (sym (lowered-constant n b f α e))
-      go false e = rw (constant-there, e) (sym (lowered-other n b f α e))
+          → cond (eqb (keyOf α) 0) (coefficient α f -ℤ a .floor) (coefficient α f) ≡ coefficient α (lowered n (a .floor) f)
+      go true e = rw (constant-there, e) (sym (lowered-constant n (a .floor) f α e))
+      go false e = rw (constant-there, e) (sym (lowered-other n (a .floor) f α e))
 
 -- ---- target: x is the coefficient of g, y the same with the worst sign, z the target
 
@@ -206,17 +217,18 @@ module _ (c : List ℕ) (n t : ℕ) (en : n ≡ variables c) (et : t ≡ termCou
   pub facts-here : ClaimFacts c n t
   facts-here = rw (en, et) facts
 
-  pub target-made : (S key : ℕ) (b b′ x x′ y y′ z z′ : ℤ) (p : Point) (k : Bool) → z ≡ pos S *ℤ y′ → y ≡ worst k x′
-      → x ≡ loweredAt c n t b′ key → k ≡ keepsSign (exponents p) → key ≡ keyOf (exponents p)
-      → Carried (variables c) (exponents p) → z′ ≡ z → y′ ≡ y → x′ ≡ x → b′ ≡ b → z′ ≡ targetOf c b S (exponents p)
+  pub target-made : (key : ℕ) (a : Aim) (x x′ y y′ z z′ : ℤ) (p : Point) (k : Bool) → z ≡ pos (a .scale) *ℤ y′
+      → y ≡ worst k x′
+      → x ≡ loweredAt c n t a key → k ≡ keepsSign (exponents p) → key ≡ keyOf (exponents p)
+      → Carried (variables c) (exponents p) → z′ ≡ z → y′ ≡ y → x′ ≡ x → z′ ≡ targetOf c a (exponents p)
   unfolding targetOf
-  target-made S key b b′ x x′ y y′ z z′ p k ez ey ex ek e carried bz by bx bb =
-      bz ∙ ez ∙ rw (by, ey, bx, ex, bb, ek, e, at-point c n t facts-here (exponents p) (rw en carried) b en et)
-      (sym (target-is S (lowered (variables c) b (termsOf c)) (exponents p)))
+  target-made key a x x′ y y′ z z′ p k ez ey ex ek e carried bz by bx =
+      bz ∙ ez ∙ rw (by, ey, bx, ex, ek, e, at-point c n t facts-here (exponents p) (rw en carried) a en et)
+      (sym (target-is (a .scale) (lowered (variables c) (a .floor) (termsOf c)) (exponents p)))
 
 -- ---- for the crates above
 
-pub target-of : (c : List ℕ) (b : ℤ) (S : ℕ) (α : Exponents)
-    → targetOf c b S α ≡ target S (lowered (variables c) b (termsOf c)) α
+pub target-of : (c : List ℕ) (a : Aim) (α : Exponents)
+    → targetOf c a α ≡ target (a .scale) (lowered (variables c) (a .floor) (termsOf c)) α
 unfolding targetOf
-target-of c b S α = refl
+target-of c a α = refl

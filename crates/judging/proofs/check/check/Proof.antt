@@ -1,4 +1,3 @@
-use mir.Facts.{toZ-ofZ}
 use Rattle.judging.proofs.check.Laws.{check-decides, check-floors, refused-output, refused-keeps, accepted-claim, accepted-proof, own-here, check-accepted, accepted-room, within-here, accepted-output, accepted-keeps}
 use borrow.Author.Needs.{needs}
 use Rattle.judging.proofs.check.check.Statement.{statement}
@@ -16,21 +15,18 @@ enum-told-2 c = search needs
 returns : tie.Need-returns
 returns c = (search needs, (search refused-output, (search check-decides, (search check-floors, search refused-keeps))))
 
-floor-requires : tie.Need-floor-requires
-floor-requires c κs = search accepted-claim
-
-scale-requires : tie.Need-scale-requires
-scale-requires c κs = search accepted-proof
+aim-of-requires : tie.Need-aim-of-requires
+aim-of-requires c κs = search (accepted-claim, accepted-proof)
 
 write-exact-requires : tie.Need-write-exact-requires
-write-exact-requires c κs = (search (own-here, check-accepted, toZ-ofZ), search (within-here, toZ-ofZ), search accepted-room)
+write-exact-requires c κs = (search (own-here, check-accepted), search within-here, search accepted-room)
 
 same-length : tie.Need-same-length
 same-length c = search needs
 
 returns-2 : tie.Need-returns-2
 returns-2 c =
-    (search needs, (search (accepted-output, toZ-ofZ), (search check-decides, (search check-floors, search (accepted-keeps, toZ-ofZ)))))
+    (search needs, (search accepted-output, (search check-decides, (search check-floors, search accepted-keeps))))
 
 pub check-spec : {M : Type 1} → statement M
 check-spec =
@@ -40,8 +36,7 @@ check-spec =
     enum-told
     enum-told-2
     returns
-    floor-requires
-    scale-requires
+    aim-of-requires
     write-exact-requires
     same-length
     returns-2)

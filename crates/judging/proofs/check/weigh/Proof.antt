@@ -1,26 +1,25 @@
 use borrow.Author.Needs.{needs}
-use mir.Facts.{toZ-ofZ}
 use Rattle.judging.proofs.check.Laws.{weighed-unheld, weighed-judged}
 use Rattle.judging.proofs.check.weigh.Statement.{statement}
 use Rattle.judging.proofs.check.weigh.Tie as tie
 
 first-unheld-requires : tie.Need-first-unheld-requires
-first-unheld-requires c κs = search (needs, toZ-ofZ)
+first-unheld-requires c κs = search needs
 
 enum-known-i : tie.Need-enum-known-i
 enum-known-i c = search needs
 
 returns : tie.Need-returns
-returns c = search (weighed-unheld, toZ-ofZ)
+returns c = search weighed-unheld
 
 enum-told : tie.Need-enum-told
 enum-told c = search needs
 
 check-judged-requires : tie.Need-check-judged-requires
-check-judged-requires c κs = search (needs, toZ-ofZ)
+check-judged-requires c κs = search needs
 
 returns-2 : tie.Need-returns-2
-returns-2 c = search (weighed-judged, toZ-ofZ)
+returns-2 c = search weighed-judged
 
 pub weigh-spec : {M : Type 1} → statement M
 weigh-spec =

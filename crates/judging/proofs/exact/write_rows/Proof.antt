@@ -1,9 +1,6 @@
 use borrow.Author.Needs.{needs}
 use Prim.Native.Nat.{_≤_, _-_}
 use mathlib.Core.Path.{_≡_}
-use mir.Facts.{toZ-ofZ}
-use mir.Syntax.{w64}
-use mir.Val.{toZ}
 use Rattle.sheets.specs.ProofSheet.{withRows}
 use Rattle.sharing.specs.Targets.{targetOf}
 use Rattle.judging.specs.Exact.{weightsFor}
@@ -12,11 +9,11 @@ use Rattle.judging.proofs.exact.write_rows.Statement.{statement}
 use Rattle.judging.proofs.exact.write_rows.Tie as tie
 
 abbrev Inv-loop : tie.InvT-loop
-Inv-loop claim proof floor scale out₀ n k i₀ out i =
-    (i ≤ k) × (out ≡ withRows (weightsFor (targetOf claim (toZ w64 floor) scale) proof) out₀ n k i)
+Inv-loop claim proof aim out₀ n k i₀ out i =
+    (i ≤ k) × (out ≡ withRows (weightsFor (targetOf claim aim) proof) out₀ n k i)
 
 abbrev μ-loop : tie.MeasureT-loop
-μ-loop claim proof floor scale out₀ n k i₀ out i = k - i
+μ-loop claim proof aim out₀ n k i₀ out i = k - i
 
 variables-requires : tie.Need-variables-requires Inv-loop μ-loop
 variables-requires c κs = search needs
@@ -28,10 +25,10 @@ loop-holds : tie.Need-loop-holds Inv-loop μ-loop
 loop-holds c = (search needs, search rows-none)
 
 shifted-row-requires : tie.Need-shifted-row-requires Inv-loop μ-loop
-shifted-row-requires c κs = search (needs, toZ-ofZ)
+shifted-row-requires c κs = search needs
 
 write-weights-requires : tie.Need-write-weights-requires Inv-loop μ-loop
-write-weights-requires c κs = (search (room-kept, toZ-ofZ), search needs, search (weights-narrow, toZ-ofZ))
+write-weights-requires c κs = (search room-kept, search needs, search weights-narrow)
 
 add-i : tie.Need-add-i Inv-loop μ-loop
 add-i c = search needs
@@ -40,13 +37,13 @@ loop-less : tie.Need-loop-less Inv-loop μ-loop
 loop-less c = search needs
 
 loop-again : tie.Need-loop-again Inv-loop μ-loop
-loop-again c = (search needs, search (row-written, toZ-ofZ))
+loop-again c = (search needs, search row-written)
 
 same-length : tie.Need-same-length Inv-loop μ-loop
-same-length c = search (length-kept, toZ-ofZ)
+same-length c = search length-kept
 
 returns : tie.Need-returns Inv-loop μ-loop
-returns c = search (rows-written, toZ-ofZ)
+returns c = search rows-written
 
 pub write-rows-spec : {M : Type 1} → statement M
 write-rows-spec =

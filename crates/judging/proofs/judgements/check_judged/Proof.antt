@@ -1,4 +1,3 @@
-use mir.Facts.{toZ-ofZ}
 use Rattle.judging.proofs.judgements.Laws.{judged-is}
 use borrow.Author.Needs.{needs}
 use Rattle.judging.proofs.judgements.check_judged.Statement.{statement}
@@ -8,13 +7,13 @@ row-count-requires : tie.Need-row-count-requires
 row-count-requires c κs = search needs
 
 judge-all-requires : tie.Need-judge-all-requires
-judge-all-requires c κs = search (needs, toZ-ofZ)
+judge-all-requires c κs = search needs
 
 chosen-requires : tie.Need-chosen-requires
 chosen-requires c κs = search needs
 
 returns : tie.Need-returns
-returns c = search (judged-is, toZ-ofZ)
+returns c = search judged-is
 
 pub check-judged-spec : {M : Type 1} → statement M
 check-judged-spec =

@@ -1,9 +1,6 @@
 use borrow.Author.Needs.{needs}
 use Prim.Native.Nat.{_≤_, _-_}
 use mathlib.Core.Path.{_≡_}
-use mir.Facts.{toZ-ofZ}
-use mir.Syntax.{w64}
-use mir.Val.{toZ}
 use Rattle.checks.specs.Bounds.{greatestWeight}
 use Rattle.sharing.specs.Targets.{targetOf}
 use Rattle.sharing.specs.Shifts.{shiftedRow}
@@ -13,17 +10,17 @@ use Rattle.judging.proofs.judgements.judge_all.Statement.{statement}
 use Rattle.judging.proofs.judgements.judge_all.Tie as tie
 
 abbrev Inv-loop : tie.InvT-loop
-Inv-loop claim proof floor scale k f₀ i₀ f i =
-    (i ≤ k) × (f ≡ firstsTo greatestWeight (shiftedRow (targetOf claim (toZ w64 floor) scale) proof) i)
+Inv-loop claim proof aim k f₀ i₀ f i =
+    (i ≤ k) × (f ≡ firstsTo greatestWeight (shiftedRow (targetOf claim aim) proof) i)
 
 abbrev μ-loop : tie.MeasureT-loop
-μ-loop claim proof floor scale k f₀ i₀ f i = k - i
+μ-loop claim proof aim k f₀ i₀ f i = k - i
 
 loop-holds : tie.Need-loop-holds Inv-loop μ-loop
 loop-holds c = search (needs, firsts-none)
 
 judged-number-requires : tie.Need-judged-number-requires Inv-loop μ-loop
-judged-number-requires c κs = search (needs, toZ-ofZ)
+judged-number-requires c κs = search needs
 
 note-requires : tie.Need-note-requires Inv-loop μ-loop
 note-requires c κs = search needs
@@ -35,10 +32,10 @@ loop-less : tie.Need-loop-less Inv-loop μ-loop
 loop-less c = search needs
 
 loop-again : tie.Need-loop-again Inv-loop μ-loop
-loop-again c = search (needs, firsts-on, toZ-ofZ)
+loop-again c = search (needs, firsts-on)
 
 returns : tie.Need-returns Inv-loop μ-loop
-returns c = search (firsts-end, toZ-ofZ)
+returns c = search firsts-end
 
 pub judge-all-spec : {M : Type 1} → statement M
 judge-all-spec =

@@ -1,4 +1,3 @@
-use mir.Facts.{toZ-ofZ}
 use Rattle.judging.proofs.judgements.Laws.{judged-number}
 use borrow.Author.Needs.{needs}
 use Rattle.judging.proofs.judgements.judged_number.Statement.{statement}
@@ -14,7 +13,7 @@ number-of-requires : tie.Need-number-of-requires
 number-of-requires c κs = search needs
 
 returns : tie.Need-returns
-returns c = search (judged-number, toZ-ofZ)
+returns c = search judged-number
 
 pub judged-number-spec : {M : Type 1} → statement M
 judged-number-spec =

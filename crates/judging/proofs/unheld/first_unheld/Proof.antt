@@ -6,9 +6,6 @@ use mathlib.Core.Logic.{⊎-elim}
 use native.Mathlib.Omega.{arith}
 use lib.Dec.{eqb}
 use lib.IntN.{natAbs}
-use mir.Facts.{toZ-ofZ}
-use mir.Syntax.{w64}
-use mir.Val.{toZ}
 use Rattle.monomials.specs.Keys.{keyOf}
 use Rattle.checks.specs.Searches.{first}
 use Rattle.checks.specs.declared.searches.Found.the-variants.{Nothing}
@@ -21,18 +18,18 @@ use Rattle.judging.proofs.unheld.first_unheld.Statement.{statement}
 use Rattle.judging.proofs.unheld.first_unheld.Tie as tie
 
 abbrev Inv-loop : tie.InvT-loop
-Inv-loop claim proof floor scale n t k i₀ key j₀ i j =
-    (i ≡ i₀) × (i ≤ t) × (j ≤ k) × (key ≡ keyOf (pointFor claim n t i)) × (eqb (natAbs (targetOf claim (toZ w64 floor) scale (pointFor claim n t i))) 0 ≡ false) × (first (holdsKey proof n key) j ≡ Nothing) × (first (unheld (targetOf claim (toZ w64 floor) scale) claim proof) i ≡ Nothing)
+Inv-loop claim proof aim n t k i₀ key j₀ i j =
+    (i ≡ i₀) × (i ≤ t) × (j ≤ k) × (key ≡ keyOf (pointFor claim n t i)) × (eqb (natAbs (targetOf claim aim (pointFor claim n t i))) 0 ≡ false) × (first (holdsKey proof n key) j ≡ Nothing) × (first (unheld (targetOf claim aim) claim proof) i ≡ Nothing)
 
 abbrev μ-loop : tie.MeasureT-loop
-μ-loop claim proof floor scale n t k i₀ key j₀ i j = k - j
+μ-loop claim proof aim n t k i₀ key j₀ i j = k - j
 
 abbrev Inv-terms : tie.InvT-terms
-Inv-terms claim proof floor scale n t k i₀ i =
-    (i ≤ suc t) × (first (unheld (targetOf claim (toZ w64 floor) scale) claim proof) i ≡ Nothing)
+Inv-terms claim proof aim n t k i₀ i =
+    (i ≤ suc t) × (first (unheld (targetOf claim aim) claim proof) i ≡ Nothing)
 
 abbrev μ-terms : tie.MeasureT-terms
-μ-terms claim proof floor scale n t k i₀ i = suc t - i
+μ-terms claim proof aim n t k i₀ i = suc t - i
 
 variables-requires : tie.Need-variables-requires Inv-loop μ-loop Inv-terms μ-terms
 variables-requires c κs = search needs
@@ -50,7 +47,7 @@ point-for-requires : tie.Need-point-for-requires Inv-loop μ-loop Inv-terms μ-t
 point-for-requires c κs = search (needs, claim-here)
 
 no-target-requires : tie.Need-no-target-requires Inv-loop μ-loop Inv-terms μ-terms
-no-target-requires c κs = search (needs, point-here, toZ-ofZ)
+no-target-requires c κs = search (needs, point-here)
 
 add-i : tie.Need-add-i Inv-loop μ-loop Inv-terms μ-terms
 add-i c = search needs
@@ -59,14 +56,14 @@ terms-less : tie.Need-terms-less Inv-loop μ-loop Inv-terms μ-terms
 terms-less c = search needs
 
 terms-again : tie.Need-terms-again Inv-loop μ-loop Inv-terms μ-terms
-terms-again c = (search needs, search (target-none, toZ-ofZ))
+terms-again c = (search needs, search target-none)
 
 key-of-requires : tie.Need-key-of-requires Inv-loop μ-loop Inv-terms μ-terms
 key-of-requires c κs = search needs
 
 loop-holds : tie.Need-loop-holds Inv-loop μ-loop Inv-terms μ-terms
 loop-holds c =
-    (search needs, search needs, search needs, search key-here, search (target-some, toZ-ofZ), search first-none, search needs)
+    (search needs, search needs, search needs, search key-here, search target-some, search first-none, search needs)
 
 holds-key-requires : tie.Need-holds-key-requires Inv-loop μ-loop Inv-terms μ-terms
 holds-key-requires c κs = (search proof-here, search needs, search key-low)
@@ -78,7 +75,7 @@ terms-less-2 : tie.Need-terms-less-2 Inv-loop μ-loop Inv-terms μ-terms
 terms-less-2 c = search needs
 
 terms-again-2 : tie.Need-terms-again-2 Inv-loop μ-loop Inv-terms μ-terms
-terms-again-2 c = (search needs, search (row-found, toZ-ofZ))
+terms-again-2 c = (search needs, search row-found)
 
 add-j : tie.Need-add-j Inv-loop μ-loop Inv-terms μ-terms
 add-j c = search needs
@@ -90,10 +87,10 @@ loop-again : tie.Need-loop-again Inv-loop μ-loop Inv-terms μ-terms
 loop-again c = (search needs, search needs, search needs, search needs, search needs, search first-on, search needs)
 
 returns : tie.Need-returns Inv-loop μ-loop Inv-terms μ-terms
-returns c = ⊎-elim (λ end. absurd (omega arith)) (λ miss. search (none-found, toZ-ofZ)) (c .before .terms-test .came)
+returns c = ⊎-elim (λ end. absurd (omega arith)) (λ miss. search none-found) (c .before .terms-test .came)
 
 returns-2 : tie.Need-returns-2 Inv-loop μ-loop Inv-terms μ-terms
-returns-2 c = ⊎-elim (λ end. search (all-met, toZ-ofZ)) (λ miss. absurd (omega arith)) (c .before .terms-test .came)
+returns-2 c = ⊎-elim (λ end. search all-met) (λ miss. absurd (omega arith)) (c .before .terms-test .came)
 
 pub first-unheld-spec : {M : Type 1} → statement M
 first-unheld-spec =

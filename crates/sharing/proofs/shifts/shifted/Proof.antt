@@ -15,7 +15,7 @@ held-requires : tie.Need-held-requires
 held-requires c κs = search (needs, proof-checked, carried-here, row-here)
 
 target-at-requires : tie.Need-target-at-requires
-target-at-requires c κs = search (needs, back-small, toZ-ofZ)
+target-at-requires c κs = search needs
 
 moved-requires : tie.Need-moved-requires
 moved-requires c κs = search (needs, back-small, held-small, held-some, toZ-ofZ)

@@ -1,5 +1,4 @@
-use mir.Facts.{toZ-ofZ}
-use Rattle.sharing.proofs.shifts.Laws.{room-here, row-here, checked-back, is-row, row-shifted}
+use Rattle.sharing.proofs.shifts.Laws.{room-here, row-here, is-row, row-shifted}
 use borrow.Author.Needs.{needs}
 use Rattle.sharing.proofs.shifts.shifted_row.Statement.{statement}
 use Rattle.sharing.proofs.shifts.shifted_row.Tie as tie
@@ -14,10 +13,10 @@ row-at-requires : tie.Need-row-at-requires
 row-at-requires c κs = search (needs, room-here, row-here)
 
 shifted-weights-requires : tie.Need-shifted-weights-requires
-shifted-weights-requires c κs = search (needs, checked-back, is-row, toZ-ofZ)
+shifted-weights-requires c κs = search (needs, is-row)
 
 returns : tie.Need-returns
-returns c = search (row-shifted, toZ-ofZ)
+returns c = search row-shifted
 
 pub shifted-row-spec : {M : Type 1} → statement M
 shifted-row-spec =

@@ -17,7 +17,7 @@ key-of-requires : tie.Need-key-of-requires
 key-of-requires c κs = search needs
 
 lowered-at-requires : tie.Need-lowered-at-requires
-lowered-at-requires c κs = search (needs, facts-here, back-small, toZ-ofZ)
+lowered-at-requires c κs = search (needs, facts-here)
 
 worst-requires : tie.Need-worst-requires
 worst-requires c κs = search needs
