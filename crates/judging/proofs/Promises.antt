@@ -10,8 +10,9 @@ use lib.Seq.{drop-length}
 use lib.Signed.{_≤ℤ_}
 use Rattle.integers.proofs.words.Laws.{Bytes}
 use Rattle.monomials.specs.Points.{Exponents}
-use Rattle.monomials.specs.Sums.{valueAt, coefficient}
+use Rattle.monomials.specs.Sums.{valueAt}
 use Rattle.monomials.specs.Rows.{Row, slots, Holds}
+use Rattle.monomials.specs.Decomposition.{AddsUp}
 use Rattle.monomials.specs.Targets.{lowered, target}
 use Rattle.monomials.proofs.Floor.{floor}
 use Rattle.sheets.specs.Layout.{variables, rowCount}
@@ -73,7 +74,7 @@ module _ (c s : List ℕ) where
     pub accepted-decomposes : Decomposes c s (shiftedRows τ s)
     accepted-decomposes = record {
       hold = rows-all τ s (λ a. Holds (a .weights)) (λ i l. accepted-judged i l .1);
-      adds-up = λ α l. met-adds τ s α (accepted-met α) ∙ target-here α;
+      adds-up = λ α l. met-adds τ s α (accepted-met α);
     }
 
     -- demand 3, the floor
@@ -87,7 +88,7 @@ module _ (c s : List ℕ) where
           sized = terms-sized c;
           placed = rw (own .same) at (rows-stay-placed τ s (own .proof));
           hold = d .hold;
-          adds-up = d .adds-up;
+          adds-up = λ α l. d .adds-up α l ∙ target-here α;
         })
 
   -- ---- and what is accepted
@@ -96,7 +97,7 @@ module _ (c s : List ℕ) where
   unfolding targetsOf
   unheld-none d =
       unheld-passes c s (aimOf c s)
-      (λ α l. adds-met (targetOf c (aimOf c s)) s α (d .adds-up α l ∙ sym (target-here α)))
+      (λ α l. adds-met (targetOf c (aimOf c s)) s α (d .adds-up α l))
 
   pub accepts : (room : ℕ) → WellFormed c s → length s ≤ room → AllWithin greatestWeight τ s
       → Decomposes c s (shiftedRows τ s) → checkAnswer c s room ≡ accepted (rowCount s)
@@ -132,8 +133,8 @@ module _ (c s : List ℕ) where
     own : CheckedSheets c s (aimOf c s)
     own = sheets-checked c s f
 
-    exact : (α : Exponents) → length α ≡ variables s → coefficient α (slots (rowsOf s)) ≡ τ α
-    exact α l = d .adds-up α (l ∙ own .same) ∙ sym (target-here α)
+    exact : AddsUp (variables s) τ (slots (rowsOf s))
+    exact α l = d .adds-up α (l ∙ own .same)
 
     weights-stay : (i : ℕ) → weightsFor τ s i ≡ rowOf s (variables s) (rowCount s) i .weights
     unfolding weightsFor

@@ -12,7 +12,7 @@ use Rattle.monomials.specs.Rows.{Row, slots, Holds}
 use Rattle.monomials.specs.Decomposition.{AddsUp}
 use Rattle.sheets.specs.Layout.{variables, rowCount}
 use Rattle.sheets.specs.ClaimSheet.{floorOf, termsOf}
-use Rattle.sheets.specs.ProofSheet.{scaleOf, rowsOf}
+use Rattle.sheets.specs.ProofSheet.{rowsOf}
 use Rattle.checks.specs.Answers.{accepted, says}
 use Rattle.checks.specs.Bounds.{greatestWeight}
 use Rattle.checks.specs.WellFormed.{WellFormed}
@@ -24,7 +24,7 @@ use Rattle.judging.specs.Check.{targetsOf}
 -- "every row holds and the weights add up to the target at every point", of rows beside a claim and a proof's scale
 pub record Decomposes (c s : List ℕ) (rows : List Row) : Type 0 where
   pub hold : All (λ a. Holds (a .weights)) rows
-  pub adds-up : AddsUp (variables c) (scaleOf s) (floorOf c) (termsOf c) (slots rows)
+  pub adds-up : AddsUp (variables c) (targetsOf c s) (slots rows)
 
 -- Demand 2: "A well-formed claim and proof, with output enough, are accepted exactly when the weights, shifted by the
 -- published sharing rule, stay within ±2^30 and form, row by row, a decomposition"

@@ -44,7 +44,7 @@ module _ (φ : Exponents → ℤ) (signs : (α : Exponents) → keepsSign α ≡
 -- ---- points of n exponents are enough
 
 -- weights that add up at every point of n exponents add up at every point
-pub everywhere : (n S : ℕ) (b : ℤ) (f M : Sum) → Sized n f → Sized n M → AddsUp n S b f M
+pub everywhere : (n S : ℕ) (b : ℤ) (f M : Sum) → Sized n f → Sized n M → AddsUp n (target S (lowered n b f)) M
     → (α : Exponents) → coefficient α M ≡ target S (lowered n b f) α
 unfolding lowered
 everywhere n S b f M sf sm e α = go (ℕ-discrete (length α) n)
@@ -70,8 +70,8 @@ rows-sized n (a ∷ rows) t =
 -- ---- the floor, for any slots that are worth at least 0 at absolute values
 
 module _ (φ : Exponents → ℤ) (signs : (α : Exponents) → keepsSign α ≡ true → pos 0 ≤ℤ φ α) where
-  pub worth-floor : (n S : ℕ) (b : ℤ) (f M : Sum) → 0 < S → Sized n f → Sized n M → AddsUp n S b f M
-      → pos 0 ≤ℤ value (absolute φ) M → pos 0 ≤ℤ value φ (lowered n b f)
+  pub worth-floor : (n S : ℕ) (b : ℤ) (f M : Sum) → 0 < S → Sized n f → Sized n M
+      → AddsUp n (target S (lowered n b f)) M → pos 0 ≤ℤ value (absolute φ) M → pos 0 ≤ℤ value φ (lowered n b f)
   worth-floor n S b f M s sf sm e h =
       nonneg-cancel S (value φ (lowered n b f)) s
       (≤ℤ-trans h (target-bounds φ signs S (lowered n b f) M (everywhere n S b f M sf sm e)))
@@ -91,8 +91,8 @@ all-means x n (a ∷ rows) t = (means x (a .v) (a .w) (a .weights) (t .0 .whole)
 raise : (b v : ℤ) → pos 0 ≤ℤ (negℤ b *ℤ pos 1 +ℤ v) → b ≤ℤ v
 raise b v h = let s = simp ring at (read-le h) in by-le (simp ring (omega arith))
 
-pub slots-floor : (n S : ℕ) (b : ℤ) (f M : Sum) → 0 < S → Sized n f → Sized n M → AddsUp n S b f M
-    → (x : List ℤ) → pos 0 ≤ℤ value (absolute (monomialOf x)) M → b ≤ℤ valueAt x f
+pub slots-floor : (n S : ℕ) (b : ℤ) (f M : Sum) → 0 < S → Sized n f → Sized n M
+    → AddsUp n (target S (lowered n b f)) M → (x : List ℤ) → pos 0 ≤ℤ value (absolute (monomialOf x)) M → b ≤ℤ valueAt x f
 unfolding lowered value
 slots-floor n S b f M s sf sm e x h =
     raise b (valueAt x f)

@@ -28,9 +28,10 @@ pub record Placed (n : ℕ) (a : Row) : Type 0 where
   pub w-length : length (a .w) ≡ n
   pub whole : Whole (a .v) (a .w) (a .weights)
 
--- "at each point of n exponents, held or not, the sum over its slots (0 where there is none) equals the target there"
-abbrev pub AddsUp : ℕ → ℕ → ℤ → Sum → Sum → Type 0
-AddsUp n S b f L = (α : Exponents) → length α ≡ n → coefficient α L ≡ target S (lowered n b f) α
+-- "at each point of n exponents, held or not, the sum over its slots (0 where there is none) equals the target there";
+-- τ gives each point's target
+abbrev pub AddsUp : ℕ → (Exponents → ℤ) → Sum → Type 0
+AddsUp n τ L = (α : Exponents) → length α ≡ n → coefficient α L ≡ τ α
 
 -- "every row holds and the weights add up to the target at every point"
 pub record Decomposition (n S : ℕ) (b : ℤ) (f : Sum) (rows : List Row) : Type 0 where
@@ -38,4 +39,4 @@ pub record Decomposition (n S : ℕ) (b : ℤ) (f : Sum) (rows : List Row) : Typ
   pub sized : Sized n f
   pub placed : All (Placed n) rows
   pub hold : All (λ a. Holds (a .weights)) rows
-  pub adds-up : AddsUp n S b f (slots rows)
+  pub adds-up : AddsUp n (target S (lowered n b f)) (slots rows)

@@ -10,7 +10,7 @@ use Rattle.monomials.specs.Lists.{table, All}
 use Rattle.monomials.specs.Points.{Exponents, samePoint, midpointOf}
 use Rattle.monomials.specs.Sums.{Sum, coefficient}
 use Rattle.monomials.specs.Rows.{Row, slotsAt, slots}
-use Rattle.monomials.specs.Decomposition.{Placed, Whole}
+use Rattle.monomials.specs.Decomposition.{Placed, Whole, AddsUp}
 use Rattle.monomials.specs.declared.rows.Weights.{Weights}
 use Rattle.monomials.specs.declared.rows.Weights.the-variants.{Pair, Lone}
 use Rattle.monomials.proofs.Lists.{all-table, table-all, table-same}
@@ -124,8 +124,7 @@ rows-stay-placed τ s f =
     (λ i l. keeps-place τ s i (variables s) (row-placed s (variables s) (rowCount s) i (f .whole i l)))
 
 -- where the proposed weights add up at every point of n exponents, the shifted row is the proposed one
-module _ (τ : Exponents → ℤ) (s : List ℕ)
-    (exact : (α : Exponents) → length α ≡ variables s → coefficient α (slots (rowsOf s)) ≡ τ α) where
+module _ (τ : Exponents → ℤ) (s : List ℕ) (exact : AddsUp (variables s) τ (slots (rowsOf s))) where
   stays : (before : Sum) (α : Exponents) (x : ℤ) → length α ≡ variables s
       → shiftedWeight τ (slots (rowsOf s)) before α x ≡ x
   stays before α x l = weight-stays τ (slots (rowsOf s)) before α x (exact α l)
