@@ -14,7 +14,6 @@ use Rattle.checks.specs.Searches.{first}
 use Rattle.checks.specs.Bounds.{beyond}
 use Rattle.checks.specs.ClaimChecks as C
 use Rattle.checks.specs.ProofChecks as P
-use Rattle.checks.specs.Cases.{joined, word, words, claimOf, proofOf, squareWith, square, squareProof}
 use Rattle.sharing.specs.Sharing.{count, errorAt, shiftedWeight}
 use Rattle.sharing.specs.Targets.{aimOf, targetOf}
 use Rattle.sharing.specs.Slots.{slotsTo}
@@ -24,10 +23,10 @@ use Rattle.judging.specs.Unheld.{pointFor, unheldAt, unheld, unheldAnswer}
 use Rattle.judging.specs.Judgements.{negative, large, judgePair, judgeLone, judgementOf, numberOf, judgedNumber, judgedAs, firstsTo, judgedAnswer}
 use Rattle.judging.specs.Exact.{weightsFor, exactProof}
 use Rattle.judging.specs.Check.{weighedAnswer, targetsOf, checkAnswer, outputOf}
-use Rattle.judging.specs.Cases.{motzkin, motzkinProof}
 use Rattle.report.specs.Text.{digits, natural, integer, counted, numbered}
 use Rattle.report.specs.Lines.{scaleText, acceptedLine, laterText, weightsText, rowLine, refusedLine}
 use Rattle.report.specs.Reports.{ended, linesOf, rowsText, firstText, acceptedText, refusedText, carries, reportText}
+use Rattle.worked.specs.Sheets.{joined, word, words, claimOf, proofOf, squareWith, square, squareProof, motzkin, motzkinProof}
 use Rattle.burmelox_check.specs.Input.{saidLength, splits, claimEnd, claimPart, proofPart}
 use Rattle.burmelox_check.specs.Printing.{sheetsText, programText}
 use Rattle.burmelox_check.specs.Cases.{cases, Worked}

@@ -5,9 +5,8 @@ use Prim.Native.Nat.{ℕ}
 use Prim.Native.String.{String}
 use lib.IntN.{pos, negsuc}
 use lib.ListN.{take}
-use Rattle.checks.specs.Cases.{claimOf, squareWith, square, squareProof}
-use Rattle.judging.specs.Cases.{motzkin, motzkinProof}
 use Rattle.report.specs.Text.{ascii}
+use Rattle.worked.specs.Sheets.{claimOf, squareWith, square, squareProof, motzkin, motzkinProof}
 use Rattle.burmelox_check.specs.Printing.{programText}
 
 -- an input and what is printed for it

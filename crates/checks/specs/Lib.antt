@@ -4,4 +4,3 @@ pub mod Bounds
 pub mod ClaimChecks
 pub mod ProofChecks
 pub mod WellFormed
-pub mod Cases

@@ -1,2 +1,1 @@
 pub mod Evaluations
-pub mod Cases

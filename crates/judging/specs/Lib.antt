@@ -4,4 +4,3 @@ pub mod Judgements
 pub mod Exact
 pub mod Check
 pub mod Promises
-pub mod Cases

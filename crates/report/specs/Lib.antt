@@ -1,4 +1,3 @@
 pub mod Text
 pub mod Lines
 pub mod Reports
-pub mod Cases

@@ -4,11 +4,11 @@ use Rattle.integers.specs.Words.{u32At, i32At}
 use Rattle.sheets.specs.ClaimSheet.{floorOf}
 use Rattle.sheets.specs.ProofSheet.{scaleOf, wordsAt, tripleOf}
 use Rattle.checks.specs.Answers.{blames, accepted, refused, blameless}
-use Rattle.checks.specs.Cases.{joined, word, words, claimOf, proofOf, squareWith, square, squareProof}
 use Rattle.report.specs.Text.{digits, natural, integer, counted, numbered}
 use Rattle.report.specs.Lines.{scaleText, acceptedLine, laterText, weightsText, rowLine, refusedLine}
 use Rattle.report.specs.Reports.{ended, linesOf, rowText, rowsText, firstText, acceptedText, refusedText, carries, reportText}
-use Rattle.report.specs.Cases.{cases, Worked}
+use Rattle.worked.specs.Sheets.{joined, word, words, claimOf, proofOf, squareWith, square, squareProof}
+use Rattle.worked.specs.Reports.{cases, Worked}
 
 pub worked : Worked
 unfolding

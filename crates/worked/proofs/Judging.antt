@@ -14,17 +14,17 @@ use Rattle.checks.specs.Searches.{first}
 use Rattle.checks.specs.Bounds.{beyond}
 use Rattle.checks.specs.ClaimChecks as C
 use Rattle.checks.specs.ProofChecks as P
-use Rattle.checks.specs.Cases.{joined, word, words, claimOf, proofOf, squareWith, square, squareProof, oneRow}
 use Rattle.sharing.specs.Sharing.{count, errorAt, shiftedWeight}
 use Rattle.sharing.specs.Targets.{aimOf, targetOf}
 use Rattle.sharing.specs.Slots.{slotsTo}
 use Rattle.sharing.specs.Shifts.{shiftedWeights, shiftRow, slotsBefore, shiftedRow, shiftedRows}
 use Rattle.judging.specs.Input.{roomAnswer, proofAnswer, inputAnswer}
 use Rattle.judging.specs.Unheld.{pointFor, unheldAt, unheld, unheldAnswer}
 use Rattle.judging.specs.Judgements.{negative, large, judgePair, judgeLone, judgementOf, numberOf, judgedNumber, judgedAs, firstsTo, judgedAnswer}
 use Rattle.judging.specs.Exact.{weightsFor, exactProof}
 use Rattle.judging.specs.Check.{weighedAnswer, targetsOf, checkAnswer, outputOf}
-use Rattle.judging.specs.Cases.{bare, noRows, motzkin, motzkinProof, oneTerm, spare, accepts, refuses, motzkinExact, marked, tabled, worked, Worked}
+use Rattle.worked.specs.Sheets.{joined, word, words, claimOf, proofOf, squareWith, square, squareProof, oneRow, bare, noRows, motzkin, motzkinProof, oneTerm}
+use Rattle.worked.specs.Judging.{spare, accepts, refuses, motzkinExact, marked, tabled, worked, Worked}
 
 pub all-worked : Worked
 unfolding

@@ -4,8 +4,8 @@ use mathlib.Core.List.{List, [], _∷_, map}
 use Prim.Native.Nat.{ℕ, _-_, _^_}
 use lib.IntN.{ℤ, pos, negsuc}
 use Rattle.checks.specs.Answers.{refused}
-use Rattle.checks.specs.Cases.{claimOf, twoTerms, square}
 use Rattle.evaluation.specs.Evaluations.{Told, value, refusal, evaluationOf}
+use Rattle.worked.specs.Sheets.{claimOf, twoTerms, square}
 
 pub record Case : Type 0 where
   pub claim : List ℕ

@@ -8,11 +8,11 @@ use Rattle.monomials.specs.Sums.{value}
 use Rattle.sheets.specs.ClaimSheet.{floorOf, termPoint, coefficientOf, termOf, termsOf}
 use Rattle.checks.specs.Answers.{blames, accepted, refused, refuseIf, refuseAt, blameless, andThen}
 use Rattle.checks.specs.Bounds.{beyond}
-use Rattle.checks.specs.Cases.{joined, word, words, claimOf, twoTerms, squareWith, square}
 use Rattle.checks.specs.ClaimChecks.{headerRight, breaks, termsAnswer, claimAnswer}
 use Rattle.checks.specs.Searches.{first}
 use Rattle.evaluation.specs.Evaluations.{toldBy, termValue, large, largeAnswer, evaluationAnswer, evaluationOf}
-use Rattle.evaluation.specs.Cases.{at, oneAt, least, greatest, cases, Worked}
+use Rattle.worked.specs.Sheets.{joined, word, words, claimOf, twoTerms, squareWith, square}
+use Rattle.worked.specs.Evaluations.{at, oneAt, least, greatest, cases, Worked}
 
 pub worked : Worked
 unfolding

@@ -5,9 +5,9 @@ use Prim.Native.Nat.{ℕ, _-_, _^_}
 use Prim.Native.String.{String}
 use lib.IntN.{pos, negsuc}
 use Rattle.checks.specs.Answers.{Answer, accepted, refused}
-use Rattle.checks.specs.Cases.{claimOf, proofOf, square, squareProof}
 use Rattle.report.specs.Text.{ascii}
 use Rattle.report.specs.Reports.{reportText}
+use Rattle.worked.specs.Sheets.{claimOf, proofOf, square, squareProof}
 
 -- a claim, an exact proof, what the verdict says, and the report
 pub record Case : Type 0 where

@@ -2,43 +2,15 @@
 use mathlib.Core.Path.{_≡_}
 use mathlib.Core.List.{List, [], _∷_, _++_, map}
 use Prim.Native.Nat.{ℕ, _+_, _^_}
-use lib.IntN.{ℤ, pos, negsuc}
+use lib.IntN.{pos, negsuc}
 use lib.ListN.{length, replicate}
 use Rattle.monomials.specs.Rows.{Row}
 use Rattle.monomials.specs.declared.rows.Weights.{Weights}
 use Rattle.monomials.specs.declared.rows.Weights.the-variants.{Pair, Lone}
 use Rattle.checks.specs.Answers.{Answer, accepted, refused}
-use Rattle.checks.specs.Cases.{claimOf, proofOf, squareWith, square, squareProof, oneRow}
 use Rattle.sharing.specs.Shifts.{shiftedRows}
 use Rattle.judging.specs.Check.{targetsOf, checkAnswer, outputOf}
-
--- ---- sheets
-
--- "t 0, k 0", with a floor
-unfoldable pub bare : ℤ → List ℕ
-bare b = claimOf 1 b [] []
-
-unfoldable pub noRows : List ℕ
-noRows = proofOf 1 (pos 1) 0 [] []
-
--- "Motzkin (Example 20): points (0,0), (2,2), (2,4), (4,2), coefficients 1, −3, 1, 1, b 0"
-unfoldable pub motzkin : List ℕ
-motzkin =
-    claimOf 2 (pos 0) ((0 ∷ 0 ∷ []) ∷ (2 ∷ 2 ∷ []) ∷ (2 ∷ 4 ∷ []) ∷ (4 ∷ 2 ∷ []) ∷ [])
-    (pos 1 ∷ negsuc 2 ∷ pos 1 ∷ pos 1 ∷ [])
-
--- "Rows (0,0)(2,4) with 1, 1, −2; (1,2)(3,2) with 2, 2, −4; (2,2)(4,2) with 1, 1, −2": with any first r
-unfoldable pub motzkinProof : ℤ → List ℕ
-motzkinProof r =
-    proofOf 2 (pos 1) 3
-    ((0 ∷ 0 ∷ []) ∷ (2 ∷ 4 ∷ []) ∷ (1 ∷ 2 ∷ []) ∷ (3 ∷ 2 ∷ []) ∷ (2 ∷ 2 ∷ []) ∷ (4 ∷ 2 ∷ []) ∷ [])
-    (pos 1 ∷ pos 1 ∷ r ∷ pos 2 ∷ pos 2 ∷ negsuc 3 ∷ pos 1 ∷ pos 1 ∷ negsuc 1 ∷ [])
-
--- one term in one variable
-unfoldable pub oneTerm : ℕ → ℤ → List ℕ
-oneTerm e x = claimOf 1 (pos 0) ((e ∷ []) ∷ []) (x ∷ [])
-
--- ---- the cases
+use Rattle.worked.specs.Sheets.{proofOf, squareWith, square, squareProof, oneRow, bare, noRows, motzkin, motzkinProof, oneTerm}
 
 -- two sheets and an output; the weights that every row has after the shift, the answer, and the output afterwards
 pub record Case : Type 0 where

@@ -1,0 +1,4 @@
+pub mod Checks
+pub mod Judging
+pub mod Evaluations
+pub mod Reports

@@ -1,0 +1,5 @@
+pub mod Sheets
+pub mod Checks
+pub mod Judging
+pub mod Evaluations
+pub mod Reports

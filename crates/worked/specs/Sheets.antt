@@ -1,0 +1,70 @@
+-- Sheets that the cases are about.
+use mathlib.Core.List.{List, [], _∷_, _++_, map}
+use Prim.Native.Nat.{ℕ}
+use lib.IntN.{ℤ, pos, negsuc}
+use lib.ListN.{length}
+use mir.Syntax.{w32}
+use mir.Val.{ofZ}
+use Rattle.integers.specs.Words.{bytesOf}
+
+-- ---- sheets from their numbers
+
+unfoldable pub joined : List (List ℕ) → List ℕ
+joined [] = []
+joined (l ∷ ls) = l ++ joined ls
+
+unfoldable pub word : ℤ → List ℕ
+word z = bytesOf (ofZ w32 z)
+
+unfoldable pub words : List ℤ → List ℕ
+words zs = joined (map word zs)
+
+-- n, the floor, the points and the coefficients
+unfoldable pub claimOf : ℕ → ℤ → List (List ℕ) → List ℤ → List ℕ
+claimOf n b points coefficients = n ∷ length points ∷ 0 ∷ 0 ∷ word b ++ (joined points ++ words coefficients)
+
+-- n, the scale, the number of rows (up to 255), their points (v, w, v, w, ..) and weights (p, q, r, p, ..)
+unfoldable pub proofOf : ℕ → ℤ → ℕ → List (List ℕ) → List ℤ → List ℕ
+proofOf n S k points weights = n ∷ 0 ∷ k ∷ 0 ∷ word S ++ (joined points ++ words weights)
+
+-- "the claim n 1, points 0, 1, 2, coefficients 1, −2, 1, b 0, with S 1 and one row 0, 2 weighted 1, 1, −2"; its worked
+-- variants have another floor, or another coefficient at point 1
+unfoldable pub squareWith : ℤ → ℤ → List ℕ
+squareWith b x = claimOf 1 b ((0 ∷ []) ∷ (1 ∷ []) ∷ (2 ∷ []) ∷ []) (pos 1 ∷ x ∷ pos 1 ∷ [])
+
+unfoldable pub square : List ℕ
+square = squareWith (pos 0) (negsuc 1)
+
+unfoldable pub squareProof : List ℕ
+squareProof = proofOf 1 (pos 1) 1 ((0 ∷ []) ∷ (2 ∷ []) ∷ []) (pos 1 ∷ pos 1 ∷ negsuc 1 ∷ [])
+
+-- two terms in one variable, by their exponents and coefficients; one row in one variable, by its exponents and weights
+unfoldable pub twoTerms : ℕ → ℕ → ℤ → ℤ → List ℕ
+twoTerms a b x y = claimOf 1 (pos 0) ((a ∷ []) ∷ (b ∷ []) ∷ []) (x ∷ y ∷ [])
+
+unfoldable pub oneRow : ℕ → ℕ → ℤ → ℤ → ℤ → List ℕ
+oneRow v w p q r = proofOf 1 (pos 1) 1 ((v ∷ []) ∷ (w ∷ []) ∷ []) (p ∷ q ∷ r ∷ [])
+
+-- "t 0, k 0", with a floor
+unfoldable pub bare : ℤ → List ℕ
+bare b = claimOf 1 b [] []
+
+unfoldable pub noRows : List ℕ
+noRows = proofOf 1 (pos 1) 0 [] []
+
+-- "Motzkin (Example 20): points (0,0), (2,2), (2,4), (4,2), coefficients 1, −3, 1, 1, b 0"
+unfoldable pub motzkin : List ℕ
+motzkin =
+    claimOf 2 (pos 0) ((0 ∷ 0 ∷ []) ∷ (2 ∷ 2 ∷ []) ∷ (2 ∷ 4 ∷ []) ∷ (4 ∷ 2 ∷ []) ∷ [])
+    (pos 1 ∷ negsuc 2 ∷ pos 1 ∷ pos 1 ∷ [])
+
+-- "Rows (0,0)(2,4) with 1, 1, −2; (1,2)(3,2) with 2, 2, −4; (2,2)(4,2) with 1, 1, −2": with any first r
+unfoldable pub motzkinProof : ℤ → List ℕ
+motzkinProof r =
+    proofOf 2 (pos 1) 3
+    ((0 ∷ 0 ∷ []) ∷ (2 ∷ 4 ∷ []) ∷ (1 ∷ 2 ∷ []) ∷ (3 ∷ 2 ∷ []) ∷ (2 ∷ 2 ∷ []) ∷ (4 ∷ 2 ∷ []) ∷ [])
+    (pos 1 ∷ pos 1 ∷ r ∷ pos 2 ∷ pos 2 ∷ negsuc 3 ∷ pos 1 ∷ pos 1 ∷ negsuc 1 ∷ [])
+
+-- one term in one variable
+unfoldable pub oneTerm : ℕ → ℤ → List ℕ
+oneTerm e x = claimOf 1 (pos 0) ((e ∷ []) ∷ []) (x ∷ [])
