@@ -19,10 +19,11 @@ use Rattle.sharing.specs.Targets.{aimOf, targetOf}
 use Rattle.sharing.specs.Slots.{slotsTo}
 use Rattle.sharing.specs.Shifts.{shiftedWeights, shiftRow, slotsBefore, shiftedRow}
 use Rattle.judging.specs.Input.{roomAnswer, proofAnswer, inputAnswer}
-use Rattle.judging.specs.Unheld.{pointFor, unheldAt, unheld, unheldAnswer}
-use Rattle.judging.specs.Judgements.{negative, large, judgePair, judgeLone, judgementOf, numberOf, judgedNumber, judgedAs, firstsTo, judgedAnswer}
-use Rattle.judging.specs.Exact.{weightsFor, exactProof}
-use Rattle.judging.specs.Check.{weighedAnswer, targetsOf, checkAnswer, outputOf}
+use Rattle.weighing.specs.Unheld.{pointFor, unheldAt, unheld, unheldAnswer}
+use Rattle.weighing.specs.Judgements.{negative, large, judgePair, judgeLone, judgementOf, numberOf, judgedNumber, judgedAs, firstsTo, judgedAnswer}
+use Rattle.weighing.specs.Exact.{weightsFor, exactProof}
+use Rattle.weighing.specs.Weighed.{weighedAnswer}
+use Rattle.judging.specs.Check.{targetsOf, checkAnswer, outputOf}
 use Rattle.report.specs.Text.{digits, natural, integer, counted, numbered}
 use Rattle.report.specs.Lines.{scaleText, acceptedLine, laterText, weightsText, rowLine, refusedLine}
 use Rattle.report.specs.Reports.{ended, linesOf, rowsText, firstText, acceptedText, refusedText, carries, reportText}

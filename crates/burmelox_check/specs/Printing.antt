@@ -8,7 +8,7 @@ use Rattle.sheets.specs.Layout.{rowCount}
 use Rattle.sheets.specs.ClaimSheet.{floorOf}
 use Rattle.sheets.specs.ProofSheet.{scaleOf, tripleFor}
 use Rattle.checks.specs.Answers.{blameless, Passes}
-use Rattle.judging.specs.Exact.{weightsFor}
+use Rattle.weighing.specs.Exact.{weightsFor}
 use Rattle.judging.specs.Check.{targetsOf, checkAnswer, outputOf}
 use Rattle.report.specs.Lines.{acceptedLine}
 use Rattle.report.specs.Reports.{ended, linesOf, refusedText, reportText}

@@ -1,5 +1,5 @@
 -- The promises of the check, from what its answer is.
-use mathlib.Core.Path.{_≡_, sym, _∙_, ap}
+use mathlib.Core.Path.{_≡_, _∙_, ap}
 use mathlib.Core.Bool.{false}
 use mathlib.Core.List.{List, append-nil}
 use mathlib.Core.Logic.{_↔_}
@@ -29,14 +29,15 @@ use Rattle.sharing.specs.Shifts.{shiftedRow, shiftedRows, CheckedSheets}
 use Rattle.sharing.proofs.targets.Laws.{target-of}
 use Rattle.sharing.proofs.shifts.Laws.{sheets-checked}
 use Rattle.sharing.proofs.Rows.{rows-all, rows-each, rows-stay-placed, row-stays, rows-stay}
-use Rattle.judging.specs.Unheld.{unheldAt, unheldAnswer}
-use Rattle.judging.specs.Exact.{weightsFor, exactProof, AllWithin}
-use Rattle.judging.specs.Check.{weighedAnswer, targetsOf, checkAnswer, outputOf}
+use Rattle.weighing.specs.Unheld.{unheldAt, unheldAnswer}
+use Rattle.weighing.specs.Exact.{weightsFor, exactProof, AllWithin}
+use Rattle.weighing.specs.Weighed.{weighedAnswer}
+use Rattle.judging.specs.Check.{targetsOf, checkAnswer, outputOf}
 use Rattle.judging.specs.Promises.{Decomposes, Reads}
-use Rattle.judging.proofs.exact.Laws.{exact-rows}
+use Rattle.weighing.proofs.exact.Laws.{exact-rows}
 use Rattle.judging.proofs.input.Laws.{input-passes, input-formed, input-enough}
-use Rattle.judging.proofs.unheld.Laws.{unheld-passes, unheld-passed, met-adds, adds-met}
-use Rattle.judging.proofs.judgements.Laws.{judged-passed, judged-accepted}
+use Rattle.weighing.proofs.unheld.Laws.{unheld-passes, unheld-passed, met-adds, adds-met}
+use Rattle.weighing.proofs.judgements.Laws.{judged-passed, judged-accepted}
 
 module _ (c s : List ℕ) where
   abbrev τ : Exponents → ℤ

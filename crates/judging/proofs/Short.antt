@@ -7,9 +7,10 @@ use Rattle.sheets.specs.Layout.{variables, termCount, rowCount}
 use Rattle.checks.specs.Answers.{Short}
 use Rattle.checks.proofs.Short.{short-accepted, short-if, short-at, short-then, claim-short, header-short, rows-counted, rows-short}
 use Rattle.judging.specs.Input.{roomAnswer, proofAnswer, inputAnswer}
-use Rattle.judging.specs.Unheld.{unheldAnswer}
-use Rattle.judging.specs.Judgements.{firstsTo, judgedAnswer}
-use Rattle.judging.specs.Check.{weighedAnswer, checkAnswer}
+use Rattle.weighing.specs.Unheld.{unheldAnswer}
+use Rattle.weighing.specs.Judgements.{firstsTo, judgedAnswer}
+use Rattle.weighing.specs.Weighed.{weighedAnswer}
+use Rattle.judging.specs.Check.{checkAnswer}
 
 pub check-short : (c s : List ℕ) (room : ℕ) → Bytes c → Bytes s → Short (checkAnswer c s room)
 unfolding checkAnswer inputAnswer proofAnswer roomAnswer weighedAnswer unheldAnswer judgedAnswer firstsTo

@@ -5,20 +5,11 @@ use Prim.Native.Nat.{ℕ}
 use lib.IntN.{ℤ}
 use lib.ListN.{length, drop}
 use Rattle.monomials.specs.Points.{Exponents}
-use Rattle.sheets.specs.Layout.{rowCount}
 use Rattle.checks.specs.Answers.{Answer, andThen, blameless}
-use Rattle.checks.specs.Bounds.{greatestWeight}
 use Rattle.sharing.specs.Targets.{aimOf, targetOf}
-use Rattle.sharing.specs.Shifts.{shiftedRow}
+use Rattle.weighing.specs.Exact.{exactProof}
+use Rattle.weighing.specs.Weighed.{weighedAnswer}
 use Rattle.judging.specs.Input.{inputAnswer}
-use Rattle.judging.specs.Unheld.{unheldAnswer}
-use Rattle.judging.specs.Judgements.{firstsTo, judgedAnswer}
-use Rattle.judging.specs.Exact.{exactProof}
-
--- 16 to 19; τ gives each point's target
-unfoldable pub weighedAnswer : (Exponents → ℤ) → List ℕ → List ℕ → Answer
-weighedAnswer τ c s =
-    andThen (unheldAnswer τ c s) (judgedAnswer (firstsTo greatestWeight (shiftedRow τ s) (rowCount s)) (rowCount s))
 
 -- the targets with the claim's floor and the proof's scale
 unfoldable pub targetsOf : List ℕ → List ℕ → Exponents → ℤ

@@ -18,7 +18,7 @@ use Rattle.checks.specs.Bounds.{greatestWeight}
 use Rattle.checks.specs.WellFormed.{WellFormed}
 use Rattle.checks.specs.declared.answers.Verdict.{Verdict}
 use Rattle.sharing.specs.Shifts.{shiftedRows}
-use Rattle.judging.specs.Exact.{exactProof, AllWithin}
+use Rattle.weighing.specs.Exact.{exactProof, AllWithin}
 use Rattle.judging.specs.Check.{targetsOf}
 
 -- "every row holds and the weights add up to the target at every point", of rows beside a claim and a proof's scale

@@ -1,31 +1,14 @@
 // The whole check: the verdict on a claim and its proof, and the exact proof in the output.
-use crate::exact::write_exact;
 use crate::input::check_input;
-use crate::judgements::check_judged;
-use crate::unheld::first_unheld;
-use checks::answers::Sheet;
 use checks::answers::Verdict;
-use checks::searches::Found;
-use sharing::targets::Aim;
 use sharing::targets::aim_of;
+use weighing::exact::write_exact;
+use weighing::weighed::weigh;
 ghost use mathlib.Core.Path.{_≡_};
 ghost use lib.ListN.{length};
 ghost use Rattle.checks.specs.Answers.{says};
-ghost use Rattle.sharing.specs.Targets.{targetOf};
-ghost use Rattle.sharing.specs.Shifts.{CheckedSheets};
-ghost use Rattle.judging.specs.Check.{weighedAnswer, checkAnswer, outputOf};
+ghost use Rattle.judging.specs.Check.{checkAnswer, outputOf};
 ghost use Rattle.judging.specs.Promises.{Decides, Floors, Keeps};
-
-// The checks 16 to 19, for an aim.
-fn weigh(claim: &[u8], proof: &[u8], aim: Aim) -> Verdict
-    requires { ⌜ CheckedSheets (now claim) (now proof) aim ⌝ }
-    ensures { λ r. ⌜ says r ≡ weighedAnswer (targetOf (now (claim .entry)) aim) (now (claim .entry)) (now (proof .entry)) ⌝ }
-{
-    if let Found::At(i) = first_unheld(claim, proof, aim) {
-        return Verdict::Refused(Sheet::Proof(16, i));
-    }
-    check_judged(claim, proof, aim)
-}
 
 // The verdict alone; the room is the output's length.
 fn decide(claim: &[u8], proof: &[u8], room: usize) -> Verdict

@@ -12,9 +12,9 @@ use Rattle.checks.specs.declared.answers.Verdict.{Verdict}
 use Rattle.sharing.specs.Targets.{aimOf}
 use Rattle.sharing.specs.Shifts.{CheckedSheets}
 use Rattle.sharing.proofs.shifts.Laws.{sheets-checked}
-use Rattle.judging.specs.Exact.{weightsFor, exactProof}
+use Rattle.weighing.specs.Exact.{weightsFor, exactProof}
 use Rattle.judging.specs.Check.{targetsOf, checkAnswer, outputOf}
-use Rattle.judging.proofs.exact.Laws.{exact-length, exact-variables, exact-scale, exact-weights}
+use Rattle.weighing.proofs.exact.Laws.{exact-length, exact-variables, exact-scale, exact-weights}
 use Rattle.judging.proofs.Promises.{accepted-formed, accepted-within, accepted-rows, accepted-exact}
 use Rattle.report.specs.Text.{Written}
 use Rattle.report.specs.Reports.{reportText}

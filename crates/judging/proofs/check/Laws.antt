@@ -1,51 +1,29 @@
 -- Laws of the whole check: the ways through it.
-use mathlib.Core.Path.{_≡_, refl, sym, _∙_}
+use mathlib.Core.Path.{_≡_, sym, _∙_}
 use mathlib.Core.Bool.{true≢false}
 use mathlib.Core.List.{List, _++_}
-use Prim.Native.Nat.{ℕ, suc, _≤_}
+use Prim.Native.Nat.{ℕ, _≤_}
 use native.Mathlib.Omega.{arith}
-use lib.IntN.{ℤ}
 use lib.ListN.{length, drop}
 use Rattle.integers.proofs.words.Laws.{Bytes}
-use Rattle.sheets.specs.Layout.{termCount, rowCount}
-use Rattle.monomials.specs.Points.{Exponents}
 use Rattle.checks.specs.Answers.{says, Passes}
 use Rattle.checks.specs.Bounds.{greatestWeight}
-use Rattle.checks.specs.Searches.{first}
 use Rattle.checks.specs.WellFormed.{WellFormed}
 use Rattle.checks.specs.declared.answers.Sheet.{Sheet}
-use Rattle.checks.specs.declared.answers.Sheet.the-variants.{Proof}
 use Rattle.checks.specs.declared.answers.Verdict.{Verdict}
 use Rattle.checks.specs.declared.answers.Verdict.the-variants.{Accepted, Refused}
-use Rattle.checks.specs.declared.searches.Found.{Found}
-use Rattle.checks.specs.declared.searches.Found.the-variants.{At, Nothing}
-use Rattle.checks.proofs.answers.Laws.{refused-at, passed-at, accepted-says, late-says, then-refused, then-passed, passed, failed, accepted-passes}
+use Rattle.checks.proofs.answers.Laws.{then-refused, then-passed, passed, failed, accepted-passes}
 use Rattle.sharing.specs.Targets.{aimOf, targetOf}
 use Rattle.sharing.specs.declared.targets.Aim.{Aim}
-use Rattle.sharing.specs.Shifts.{shiftedRow, CheckedSheets}
+use Rattle.sharing.specs.Shifts.{CheckedSheets}
 use Rattle.sharing.proofs.shifts.Laws.{sheets-checked}
 use Rattle.judging.specs.Input.{inputAnswer}
-use Rattle.judging.specs.Unheld.{unheld, unheldAnswer}
-use Rattle.judging.specs.Judgements.{firstsTo, judgedAnswer}
-use Rattle.judging.specs.Check.{weighedAnswer, targetsOf, checkAnswer, outputOf}
-use Rattle.judging.specs.Exact.{AllWithin, exactProof}
+use Rattle.weighing.specs.Weighed.{weighedAnswer}
+use Rattle.judging.specs.Check.{targetsOf, checkAnswer, outputOf}
+use Rattle.weighing.specs.Exact.{AllWithin, exactProof}
 use Rattle.judging.specs.Promises.{Decides, Floors, Keeps}
 use Rattle.judging.proofs.input.Laws.{input-formed}
 use Rattle.judging.proofs.Promises.{decision, floor-kept, exact-accepted, exact-bytes, accepted-formed, accepted-enough, accepted-within}
-
--- ---- weigh: f is what 16 found
-
-module _ (τ : Exponents → ℤ) (c s : List ℕ) (f : Found) (e : f ≡ first (unheld τ c s) (suc (termCount c))) where
-  pub weighed-unheld : (i : ℕ) → f ≡ At i → says (Refused (Proof 16 i)) ≡ weighedAnswer τ c s
-  unfolding weighedAnswer unheldAnswer
-  weighed-unheld i h =
-      then-refused _ _ (refused-at _ f _ 16 _ e i h (late-says 16 i (omega arith) (omega arith))) (Proof 16 i) refl _
-
-  pub weighed-judged : (v : Verdict) → f ≡ Nothing
-      → says v ≡ judgedAnswer (firstsTo greatestWeight (shiftedRow τ s) (rowCount s)) (rowCount s)
-      → says v ≡ weighedAnswer τ c s
-  unfolding weighedAnswer unheldAnswer
-  weighed-judged v h ev = then-passed (Accepted 0) _ (passed-at _ f _ 16 _ e h (accepted-says 0)) 0 refl v _ ev
 
 -- ---- what decide and check read of well-formed sheets: a is the aim that was read
 

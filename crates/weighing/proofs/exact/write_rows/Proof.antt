@@ -1,0 +1,63 @@
+use borrow.Author.Needs.{needs}
+use Prim.Native.Nat.{_≤_, _-_}
+use mathlib.Core.Path.{_≡_}
+use Rattle.sheets.specs.ProofSheet.{withRows}
+use Rattle.sharing.specs.Targets.{targetOf}
+use Rattle.weighing.specs.Exact.{weightsFor}
+use Rattle.weighing.proofs.exact.Laws.{room-kept, length-kept, weights-narrow, row-written, rows-written, rows-none}
+use Rattle.weighing.proofs.exact.write_rows.Statement.{statement}
+use Rattle.weighing.proofs.exact.write_rows.Tie as tie
+
+abbrev Inv-loop : tie.InvT-loop
+Inv-loop claim proof aim out₀ n k i₀ out i =
+    (i ≤ k) × (out ≡ withRows (weightsFor (targetOf claim aim) proof) out₀ n k i)
+
+abbrev μ-loop : tie.MeasureT-loop
+μ-loop claim proof aim out₀ n k i₀ out i = k - i
+
+variables-requires : tie.Need-variables-requires Inv-loop μ-loop
+variables-requires c κs = search needs
+
+row-count-requires : tie.Need-row-count-requires Inv-loop μ-loop
+row-count-requires c κs = search needs
+
+loop-holds : tie.Need-loop-holds Inv-loop μ-loop
+loop-holds c = (search needs, search rows-none)
+
+shifted-row-requires : tie.Need-shifted-row-requires Inv-loop μ-loop
+shifted-row-requires c κs = search needs
+
+write-weights-requires : tie.Need-write-weights-requires Inv-loop μ-loop
+write-weights-requires c κs = (search room-kept, search needs, search weights-narrow)
+
+add-i : tie.Need-add-i Inv-loop μ-loop
+add-i c = search needs
+
+loop-less : tie.Need-loop-less Inv-loop μ-loop
+loop-less c = search needs
+
+loop-again : tie.Need-loop-again Inv-loop μ-loop
+loop-again c = (search needs, search row-written)
+
+same-length : tie.Need-same-length Inv-loop μ-loop
+same-length c = search length-kept
+
+returns : tie.Need-returns Inv-loop μ-loop
+returns c = search rows-written
+
+pub write-rows-spec : {M : Type 1} → statement M
+write-rows-spec =
+    tie.close
+    (tie.spec
+    Inv-loop
+    μ-loop
+    variables-requires
+    row-count-requires
+    loop-holds
+    shifted-row-requires
+    write-weights-requires
+    add-i
+    loop-less
+    loop-again
+    same-length
+    returns)

@@ -1,0 +1,122 @@
+use borrow.Author.Needs.{needs}
+use Prim.Native.Nat.{suc, _≤_, _-_}
+use mathlib.Core.Path.{_≡_}
+use mathlib.Core.Bool.{false}
+use mathlib.Core.Logic.{⊎-elim}
+use native.Mathlib.Omega.{arith}
+use lib.Dec.{eqb}
+use lib.IntN.{natAbs}
+use Rattle.monomials.specs.Keys.{keyOf}
+use Rattle.checks.specs.Searches.{first}
+use Rattle.checks.specs.declared.searches.Found.the-variants.{Nothing}
+use Rattle.checks.proofs.searches.Laws.{first-none, first-on}
+use Rattle.sharing.specs.Targets.{targetOf}
+use Rattle.sharing.specs.Slots.{holdsKey}
+use Rattle.weighing.specs.Unheld.{pointFor, unheld}
+use Rattle.weighing.proofs.unheld.Laws.{claim-here, proof-here, point-here, target-none, target-some, key-here, key-low, row-found, none-found, all-met}
+use Rattle.weighing.proofs.unheld.first_unheld.Statement.{statement}
+use Rattle.weighing.proofs.unheld.first_unheld.Tie as tie
+
+abbrev Inv-loop : tie.InvT-loop
+Inv-loop claim proof aim n t k i₀ key j₀ i j =
+    (i ≡ i₀) × (i ≤ t) × (j ≤ k) × (key ≡ keyOf (pointFor claim n t i)) × (eqb (natAbs (targetOf claim aim (pointFor claim n t i))) 0 ≡ false) × (first (holdsKey proof n key) j ≡ Nothing) × (first (unheld (targetOf claim aim) claim proof) i ≡ Nothing)
+
+abbrev μ-loop : tie.MeasureT-loop
+μ-loop claim proof aim n t k i₀ key j₀ i j = k - j
+
+abbrev Inv-terms : tie.InvT-terms
+Inv-terms claim proof aim n t k i₀ i =
+    (i ≤ suc t) × (first (unheld (targetOf claim aim) claim proof) i ≡ Nothing)
+
+abbrev μ-terms : tie.MeasureT-terms
+μ-terms claim proof aim n t k i₀ i = suc t - i
+
+variables-requires : tie.Need-variables-requires Inv-loop μ-loop Inv-terms μ-terms
+variables-requires c κs = search needs
+
+term-count-requires : tie.Need-term-count-requires Inv-loop μ-loop Inv-terms μ-terms
+term-count-requires c κs = search needs
+
+row-count-requires : tie.Need-row-count-requires Inv-loop μ-loop Inv-terms μ-terms
+row-count-requires c κs = search needs
+
+terms-holds : tie.Need-terms-holds Inv-loop μ-loop Inv-terms μ-terms
+terms-holds c = search (needs, first-none)
+
+point-for-requires : tie.Need-point-for-requires Inv-loop μ-loop Inv-terms μ-terms
+point-for-requires c κs = search (needs, claim-here)
+
+no-target-requires : tie.Need-no-target-requires Inv-loop μ-loop Inv-terms μ-terms
+no-target-requires c κs = search (needs, point-here)
+
+add-i : tie.Need-add-i Inv-loop μ-loop Inv-terms μ-terms
+add-i c = search needs
+
+terms-less : tie.Need-terms-less Inv-loop μ-loop Inv-terms μ-terms
+terms-less c = search needs
+
+terms-again : tie.Need-terms-again Inv-loop μ-loop Inv-terms μ-terms
+terms-again c = (search needs, search target-none)
+
+key-of-requires : tie.Need-key-of-requires Inv-loop μ-loop Inv-terms μ-terms
+key-of-requires c κs = search needs
+
+loop-holds : tie.Need-loop-holds Inv-loop μ-loop Inv-terms μ-terms
+loop-holds c =
+    (search needs, search needs, search needs, search key-here, search target-some, search first-none, search needs)
+
+holds-key-requires : tie.Need-holds-key-requires Inv-loop μ-loop Inv-terms μ-terms
+holds-key-requires c κs = (search proof-here, search needs, search key-low)
+
+add-i-2 : tie.Need-add-i-2 Inv-loop μ-loop Inv-terms μ-terms
+add-i-2 c = search needs
+
+terms-less-2 : tie.Need-terms-less-2 Inv-loop μ-loop Inv-terms μ-terms
+terms-less-2 c = search needs
+
+terms-again-2 : tie.Need-terms-again-2 Inv-loop μ-loop Inv-terms μ-terms
+terms-again-2 c = (search needs, search row-found)
+
+add-j : tie.Need-add-j Inv-loop μ-loop Inv-terms μ-terms
+add-j c = search needs
+
+loop-less : tie.Need-loop-less Inv-loop μ-loop Inv-terms μ-terms
+loop-less c = search needs
+
+loop-again : tie.Need-loop-again Inv-loop μ-loop Inv-terms μ-terms
+loop-again c = (search needs, search needs, search needs, search needs, search needs, search first-on, search needs)
+
+returns : tie.Need-returns Inv-loop μ-loop Inv-terms μ-terms
+returns c = ⊎-elim (λ end. absurd (omega arith)) (λ miss. search none-found) (c .before .terms-test .came)
+
+returns-2 : tie.Need-returns-2 Inv-loop μ-loop Inv-terms μ-terms
+returns-2 c = ⊎-elim (λ end. search all-met) (λ miss. absurd (omega arith)) (c .before .terms-test .came)
+
+pub first-unheld-spec : {M : Type 1} → statement M
+first-unheld-spec =
+    tie.close
+    (tie.spec
+    Inv-loop
+    μ-loop
+    Inv-terms
+    μ-terms
+    variables-requires
+    term-count-requires
+    row-count-requires
+    terms-holds
+    point-for-requires
+    no-target-requires
+    add-i
+    terms-less
+    terms-again
+    key-of-requires
+    loop-holds
+    holds-key-requires
+    add-i-2
+    terms-less-2
+    terms-again-2
+    add-j
+    loop-less
+    loop-again
+    returns
+    returns-2)

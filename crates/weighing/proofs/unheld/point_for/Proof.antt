@@ -1,0 +1,17 @@
+use Rattle.weighing.proofs.unheld.Laws.{point-term, point-constant}
+use Rattle.checks.proofs.WellFormed.{claim-room}
+use borrow.Author.Needs.{needs}
+use Rattle.weighing.proofs.unheld.point_for.Statement.{statement}
+use Rattle.weighing.proofs.unheld.point_for.Tie as tie
+
+term-point-requires : tie.Need-term-point-requires
+term-point-requires c κs = search (needs, claim-room)
+
+returns : tie.Need-returns
+returns c = search point-term
+
+returns-2 : tie.Need-returns-2
+returns-2 c = search point-constant
+
+pub point-for-spec : {M : Type 1} → statement M
+point-for-spec = tie.close (tie.spec term-point-requires returns returns-2)

@@ -1,0 +1,4 @@
+pub mod Unheld
+pub mod Judgements
+pub mod Exact
+pub mod Weighed

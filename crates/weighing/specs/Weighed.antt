@@ -1,0 +1,16 @@
+-- The checks 16 to 19 of checked sheets, in the order of their numbers.
+use mathlib.Core.List.{List}
+use Prim.Native.Nat.{ℕ}
+use lib.IntN.{ℤ}
+use Rattle.monomials.specs.Points.{Exponents}
+use Rattle.sheets.specs.Layout.{rowCount}
+use Rattle.checks.specs.Answers.{Answer, andThen}
+use Rattle.checks.specs.Bounds.{greatestWeight}
+use Rattle.sharing.specs.Shifts.{shiftedRow}
+use Rattle.weighing.specs.Unheld.{unheldAnswer}
+use Rattle.weighing.specs.Judgements.{firstsTo, judgedAnswer}
+
+-- 16 to 19; τ gives each point's target
+unfoldable pub weighedAnswer : (Exponents → ℤ) → List ℕ → List ℕ → Answer
+weighedAnswer τ c s =
+    andThen (unheldAnswer τ c s) (judgedAnswer (firstsTo greatestWeight (shiftedRow τ s) (rowCount s)) (rowCount s))

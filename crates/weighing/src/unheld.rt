@@ -1,0 +1,75 @@
+// Check 16: a target that is not zero needs a slot.
+use checks::searches::Found;
+use integers::magnitudes::magnitude;
+use monomials::keys::key_of;
+use monomials::points::Point;
+use sharing::slots::holds_key;
+use sharing::targets::Aim;
+use sharing::targets::target_at;
+use sheets::claim_sheet::term_count;
+use sheets::claim_sheet::term_point;
+use sheets::layout::variables;
+use sheets::proof_sheet::row_count;
+ghost use mathlib.Core.Path.{_≡_};
+ghost use Prim.Native.Nat.{suc, _≤_};
+ghost use lib.Dec.{eqb};
+ghost use lib.IntN.{natAbs};
+ghost use Rattle.monomials.specs.Points.{exponents, pointOf};
+ghost use Rattle.sheets.specs.Layout.{variables, termCount};
+ghost use Rattle.checks.specs.Searches.{first};
+ghost use Rattle.checks.specs.WellFormed.{ClaimFacts};
+ghost use Rattle.sharing.specs.Carried.{Carried};
+ghost use Rattle.sharing.specs.Targets.{AimWithin, targetOf};
+ghost use Rattle.sharing.specs.Shifts.{CheckedSheets};
+ghost use Rattle.weighing.specs.Unheld.{pointFor, unheld};
+
+// The point of term i, and after the terms the constant's.
+fn point_for(claim: &[u8], n: usize, t: usize, i: usize) -> Point
+    requires { ⌜ (ClaimFacts (now claim) n t) × (i ≤ t) ⌝ }
+    ensures { λ r. ⌜ r ≡ pointOf (pointFor (now (claim .entry)) n t i) ⌝ }
+{
+    if i < t {
+        return term_point(claim, n, t, i);
+    }
+    Point { exps: [0; 8], n }
+}
+
+// Whether the target at a point is zero.
+fn no_target(claim: &[u8], aim: Aim, p: Point) -> bool
+    requires { ⌜ (ClaimFacts (now claim) (variables (now claim)) (termCount (now claim))) × (AimWithin aim) × (Carried (variables (now claim)) (exponents p)) ⌝ }
+    ensures { λ r. ⌜ r ≡ eqb (natAbs (targetOf (now (claim .entry)) aim (exponents p))) 0 ⌝ }
+{
+    magnitude(target_at(claim, aim, p)) == 0
+}
+
+// The first term whose target is not zero and that no row holds, then the constant.
+pub(crate) fn first_unheld(claim: &[u8], proof: &[u8], aim: Aim) -> Found
+    requires { ⌜ CheckedSheets (now claim) (now proof) aim ⌝ }
+    ensures { λ r. ⌜ r ≡ first (unheld (targetOf (now (claim .entry)) aim) (now (claim .entry)) (now (proof .entry))) (suc (termCount (now (claim .entry)))) ⌝ }
+{
+    let n = variables(claim);
+    let t = term_count(claim);
+    let k = row_count(proof);
+    let mut i = 0;
+    'terms: while i <= t {
+        let p = point_for(claim, n, t, i);
+        if no_target(claim, aim, p) {
+            i += 1;
+            continue 'terms;
+        }
+        let key = key_of(p);
+        let mut j = 0;
+        while j < k {
+            if holds_key(proof, n, k, j, key) {
+                i += 1;
+                continue 'terms;
+            }
+            j += 1;
+        }
+        break;
+    }
+    if i <= t {
+        return Found::At(i);
+    }
+    Found::Nothing
+}
