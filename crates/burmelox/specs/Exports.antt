@@ -2,7 +2,7 @@
 use mathlib.Core.Bool.{cond}
 use Prim.Native.Nat.{ℕ, _+_, _*_}
 use lib.IntN.{ℤ}
-use Rattle.checks.specs.Answers.{Answer, blameless}
+use Rattle.answers.specs.Answers.{Answer, blameless}
 use Rattle.evaluation.specs.Evaluations.{Told, value, refusal}
 
 -- k for an acceptance, number × 65,536 + index for a refusal

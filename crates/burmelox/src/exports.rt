@@ -1,12 +1,12 @@
 // The exported functions.
-use checks::answers::Verdict;
-use checks::answers::numbers_of;
+use answers::answers::Verdict;
+use answers::answers::numbers_of;
 use evaluation::evaluations::Evaluation;
 use evaluation::evaluations::evaluate;
 use judging::check::check;
 ghost use mathlib.Core.Path.{_≡_};
 ghost use lib.ListN.{length};
-ghost use Rattle.checks.specs.Answers.{says, Short};
+ghost use Rattle.answers.specs.Answers.{says, Short};
 ghost use Rattle.judging.specs.Check.{checkAnswer, outputOf};
 ghost use Rattle.evaluation.specs.Evaluations.{evaluationOf};
 ghost use Rattle.burmelox.specs.Exports.{codeOf, toldCode, toldValue};

@@ -9,10 +9,10 @@ use lib.IntN.{pos, natAbs}
 use lib.ListN.{length}
 use borrow.Author.Tests.{ltb-false, leb-true, eqb-true, eqb-false, not-false, lt-ltb}
 use Rattle.integers.proofs.Integers.{abs-zero}
-use Rattle.monomials.specs.Points.{samePoint, risesTo, hasMidpoint, exponentsWithin}
-use Rattle.monomials.proofs.points.Laws.{same-eq, rises-self, rises-trans}
-use Rattle.checks.specs.Answers.{says, Passes}
-use Rattle.checks.specs.Bounds.{greatestExponent, greatestWeight, greatestRows, greatestScale}
+use Rattle.points.specs.Points.{samePoint, risesTo, hasMidpoint, exponentsWithin}
+use Rattle.points.proofs.points.Laws.{same-eq, rises-self, rises-trans}
+use Rattle.answers.specs.Answers.{says, Passes}
+use Rattle.answers.specs.Bounds.{greatestExponent, greatestWeight, greatestRows, greatestScale}
 use Rattle.sheets.specs.Layout.{variables, termCount, rowCount, proofLength, ClaimRoom, ProofRoom}
 use Rattle.sheets.specs.ClaimSheet.{floorOf, termPoint, coefficientOf}
 use Rattle.checks.specs.ClaimChecks as C
@@ -20,13 +20,13 @@ use Rattle.sheets.specs.ProofSheet.{scaleOf, vOf, wOf, tripleOf}
 use Rattle.checks.specs.ProofChecks as P
 use Rattle.checks.specs.WellFormed.{sheetsAnswer, WellFormed, ClaimFacts, Within, ProofFacts}
 use Rattle.sheets.specs.declared.proof_sheet.Triple.{Triple}
-use Rattle.checks.specs.declared.answers.Verdict.{Verdict}
-use Rattle.checks.specs.declared.answers.Verdict.the-variants.{Accepted}
+use Rattle.answers.specs.declared.answers.Verdict.{Verdict}
+use Rattle.answers.specs.declared.answers.Verdict.the-variants.{Accepted}
 use Rattle.checks.specs.declared.claim_checks.TermRule.the-variants as T
 use Rattle.checks.specs.declared.proof_checks.RowRule.the-variants as R
-use Rattle.checks.proofs.answers.Laws.{passes-if, passes-at, passes-then, then-passes, passed}
-use Rattle.checks.proofs.bounds.Laws.{within-bound, bound-within}
-use Rattle.checks.proofs.searches.Laws.{first-nothing}
+use Rattle.answers.proofs.answers.Laws.{passes-if, passes-at, passes-then, then-passes, passed}
+use Rattle.answers.proofs.bounds.Laws.{within-bound, bound-within}
+use Rattle.answers.proofs.searches.Laws.{first-nothing}
 use Rattle.checks.proofs.claim_checks.Laws.{header-counts}
 
 -- ---- tests that fail
@@ -81,13 +81,13 @@ module _ (c : List ℕ) (n t i : ℕ) where
 pub claim-facts : (c : List ℕ) → Passes (C.claimAnswer c) → ClaimFacts c (variables c) (termCount c)
 unfolding C.claimAnswer C.termsAnswer
 claim-facts c h =
-    let p₁ = passes-if _ 1 _ h in
-    let p₂ = passes-if _ 2 _ (p₁ .1) in
-    let p₃ = passes-if _ 3 _ (p₂ .1) in
-    let p₄ = passes-if _ 4 _ (p₃ .1) in
-    let p₅ = passes-at _ 5 _ (p₄ .1) in
-    let p₆ = passes-at _ 6 _ (p₅ .1) in
-    let p₇ = passes-at _ 7 _ (p₆ .1) in
+    let p₁ = passes-if _ 1 _ refl h in
+    let p₂ = passes-if _ 2 _ refl (p₁ .1) in
+    let p₃ = passes-if _ 3 _ refl (p₂ .1) in
+    let p₄ = passes-if _ 4 _ refl (p₃ .1) in
+    let p₅ = passes-at _ 5 _ refl (p₄ .1) in
+    let p₆ = passes-at _ 6 _ refl (p₅ .1) in
+    let p₇ = passes-at _ 7 _ refl (p₆ .1) in
     let counts = header-counts c (not-false _ (p₂ .0)) in
     record {
       some = counts .some;
@@ -144,9 +144,9 @@ pub record Header (s : List ℕ) (n k : ℕ) : Type 0 where
 pub header-facts : (n : ℕ) (s : List ℕ) → Passes (P.headerAnswer n s) → Header s n (rowCount s)
 unfolding P.headerAnswer P.headerRight
 header-facts n s h =
-    let p₈ = passes-if _ 8 _ h in
-    let p₉ = passes-if _ 9 _ (p₈ .1) in
-    let p₁₀ = passes-if _ 10 _ (p₉ .1) in
+    let p₈ = passes-if _ 8 _ refl h in
+    let p₉ = passes-if _ 9 _ refl (p₈ .1) in
+    let p₁₀ = passes-if _ 10 _ refl (p₉ .1) in
     let d = and-eq-true-iff _ _ .0 (not-false _ (p₉ .0)) in
     let e = and-eq-true-iff _ _ .0 (d .0) in
     let f = and-eq-true-iff _ _ .0 (e .0) in
@@ -164,10 +164,10 @@ pub proof-facts : (n : ℕ) (s : List ℕ) → Passes (P.headerAnswer n s) → P
     → ProofFacts s n (rowCount s)
 unfolding P.rowsAnswer
 proof-facts n s g h =
-    let p₁₂ = passes-at _ 12 _ h in
-    let p₁₃ = passes-at _ 13 _ (p₁₂ .1) in
-    let p₁₄ = passes-at _ 14 _ (p₁₃ .1) in
-    let p₁₅ = passes-at _ 15 _ (p₁₄ .1) in
+    let p₁₂ = passes-at _ 12 _ refl h in
+    let p₁₃ = passes-at _ 13 _ refl (p₁₂ .1) in
+    let p₁₄ = passes-at _ 14 _ refl (p₁₃ .1) in
+    let p₁₅ = passes-at _ 15 _ refl (p₁₄ .1) in
     let a = header-facts n s g in
     record {
       same = a .same;

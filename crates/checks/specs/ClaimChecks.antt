@@ -5,10 +5,10 @@ use Prim.Native.Nat.{ℕ, _-_}
 use lib.Dec.{eqb, ltb, leb}
 use lib.IntN.{natAbs}
 use lib.ListN.{length, getD}
-use Rattle.monomials.specs.Points.{risesTo, exponentsWithin}
-use Rattle.checks.specs.Answers.{Answer, accepted, refuseIf, refuseAt}
-use Rattle.checks.specs.Searches.{first}
-use Rattle.checks.specs.Bounds.{greatestExponent, greatestWeight, beyond}
+use Rattle.points.specs.Points.{risesTo, exponentsWithin}
+use Rattle.answers.specs.Answers.{Answer, accepted, refuseIf, refuseAt}
+use Rattle.answers.specs.Searches.{first}
+use Rattle.answers.specs.Bounds.{greatestExponent, greatestWeight, beyond}
 use Rattle.sheets.specs.Layout.{variables, termCount, claimLength}
 use Rattle.sheets.specs.ClaimSheet.{floorOf, termPoint, coefficientOf}
 use Rattle.checks.specs.declared.claim_checks.TermRule.{TermRule}

@@ -5,10 +5,10 @@ use Prim.Native.Nat.{ℕ}
 use lib.Dec.{eqb, ltb, leb}
 use lib.IntN.{natAbs}
 use lib.ListN.{length, getD}
-use Rattle.monomials.specs.Points.{samePoint, hasMidpoint, exponentsWithin}
-use Rattle.checks.specs.Answers.{Answer, accepted, refuseIf, refuseAt}
-use Rattle.checks.specs.Searches.{first}
-use Rattle.checks.specs.Bounds.{greatestExponent, greatestWeight, greatestRows, greatestScale, beyond}
+use Rattle.points.specs.Points.{samePoint, hasMidpoint, exponentsWithin}
+use Rattle.answers.specs.Answers.{Answer, accepted, refuseIf, refuseAt}
+use Rattle.answers.specs.Searches.{first}
+use Rattle.answers.specs.Bounds.{greatestExponent, greatestWeight, greatestRows, greatestScale, beyond}
 use Rattle.sheets.specs.Layout.{variables, rowCount, proofLength}
 use Rattle.sheets.specs.ProofSheet.{scaleOf, vOf, wOf, tripleOf}
 use Rattle.checks.specs.declared.proof_checks.RowRule.{RowRule}

@@ -5,9 +5,9 @@ use mathlib.Core.List.{List}
 use Prim.Native.Nat.{ℕ, suc, _<_, _≤_}
 use lib.IntN.{pos, natAbs}
 use lib.ListN.{length}
-use Rattle.monomials.specs.Points.{samePoint, risesTo, hasMidpoint, exponentsWithin}
-use Rattle.checks.specs.Answers.{Answer, andThen, Passes}
-use Rattle.checks.specs.Bounds.{greatestExponent, greatestWeight, greatestRows, greatestScale}
+use Rattle.points.specs.Points.{samePoint, risesTo, hasMidpoint, exponentsWithin}
+use Rattle.answers.specs.Answers.{Answer, andThen, Passes}
+use Rattle.answers.specs.Bounds.{greatestExponent, greatestWeight, greatestRows, greatestScale}
 use Rattle.sheets.specs.Layout.{variables, rowCount, claimLength, proofLength}
 use Rattle.sheets.specs.ClaimSheet.{floorOf, termPoint, coefficientOf}
 use Rattle.checks.specs.ClaimChecks.{claimAnswer}

@@ -1,6 +1,3 @@
-// Checks of the two sheets by themselves, and the answers that every check gives.
-pub mod answers;
-pub mod bounds;
+// Checks of the two sheets by themselves.
 pub mod claim_checks;
 pub mod proof_checks;
-pub mod searches;

@@ -5,8 +5,9 @@ use native.Mathlib.Omega.{arith}
 use lib.IntN.{ℤ}
 use Rattle.integers.proofs.words.Laws.{Bytes}
 use Rattle.sheets.specs.Layout.{termCount}
-use Rattle.checks.specs.Answers.{Short}
-use Rattle.checks.proofs.Short.{short-accepted, short-if, short-at, short-then, claim-short}
+use Rattle.answers.specs.Answers.{Short}
+use Rattle.answers.proofs.Short.{short-accepted, short-if, short-at, short-then}
+use Rattle.checks.proofs.Short.{claim-short}
 use Rattle.evaluation.specs.Evaluations.{largeAnswer, evaluationAnswer}
 
 pub evaluation-short : (c : List ℕ) (x : List ℤ) → Bytes c → Short (evaluationAnswer c x)

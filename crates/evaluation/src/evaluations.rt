@@ -1,6 +1,6 @@
 // Evaluation of a claim's polynomial at offsets: the exact value, or a refusal.
-use checks::answers::Sheet;
-use checks::answers::Verdict;
+use answers::answers::Sheet;
+use answers::answers::Verdict;
 use checks::claim_checks::check_claim;
 use monomials::powers::Bounded;
 use monomials::powers::term;

@@ -9,21 +9,21 @@ use lib.ListN.{length}
 use lib.Seq.{drop-length}
 use lib.Signed.{_≤ℤ_}
 use Rattle.integers.proofs.words.Laws.{Bytes}
-use Rattle.monomials.specs.Points.{Exponents}
-use Rattle.monomials.specs.Sums.{valueAt}
-use Rattle.monomials.specs.Rows.{Row, slots, Holds}
-use Rattle.monomials.specs.Decomposition.{AddsUp}
-use Rattle.monomials.specs.Targets.{lowered, target}
-use Rattle.monomials.proofs.Floor.{floor}
+use Rattle.points.specs.Points.{Exponents}
+use Rattle.squares.specs.Sums.{valueAt}
+use Rattle.squares.specs.Rows.{Row, slots, Holds}
+use Rattle.squares.specs.Decomposition.{AddsUp}
+use Rattle.squares.specs.Targets.{lowered, target}
+use Rattle.squares.proofs.Floor.{floor}
 use Rattle.sheets.specs.Layout.{variables, rowCount}
 use Rattle.sheets.specs.ClaimSheet.{floorOf, termsOf}
 use Rattle.sheets.specs.ProofSheet.{scaleOf, tripleFor, rowOf, rowsOf}
 use Rattle.sheets.proofs.claim_sheet.Laws.{terms-sized}
 use Rattle.sheets.proofs.proof_sheet.Writing.{row-again, sheet-again}
-use Rattle.checks.specs.Answers.{accepted, Passes}
-use Rattle.checks.specs.Bounds.{greatestWeight}
+use Rattle.answers.specs.Answers.{accepted, Passes}
+use Rattle.answers.specs.Bounds.{greatestWeight}
 use Rattle.checks.specs.WellFormed.{WellFormed, Within}
-use Rattle.checks.proofs.answers.Laws.{passes-then, then-on, accepted-passes}
+use Rattle.answers.proofs.answers.Laws.{passes-then, then-on, accepted-passes}
 use Rattle.sharing.specs.Targets.{aimOf, targetOf}
 use Rattle.sharing.specs.Shifts.{shiftedRow, shiftedRows, CheckedSheets}
 use Rattle.sharing.proofs.targets.Laws.{target-of}

@@ -4,8 +4,9 @@ use Prim.Native.Nat.{ℕ, suc, _≤_}
 use native.Mathlib.Omega.{arith}
 use Rattle.integers.proofs.words.Laws.{Bytes}
 use Rattle.sheets.specs.Layout.{variables, termCount, rowCount}
-use Rattle.checks.specs.Answers.{Short}
-use Rattle.checks.proofs.Short.{short-accepted, short-if, short-at, short-then, claim-short, header-short, rows-counted, rows-short}
+use Rattle.answers.specs.Answers.{Short}
+use Rattle.answers.proofs.Short.{short-accepted, short-if, short-at, short-then}
+use Rattle.checks.proofs.Short.{claim-short, header-short, rows-counted, rows-short}
 use Rattle.judging.specs.Input.{roomAnswer, proofAnswer, inputAnswer}
 use Rattle.weighing.specs.Unheld.{unheldAnswer}
 use Rattle.weighing.specs.Judgements.{firstsTo, judgedAnswer}

@@ -4,8 +4,8 @@ use mathlib.Core.List.{List, _++_}
 use Prim.Native.Nat.{ℕ}
 use lib.IntN.{ℤ}
 use lib.ListN.{length, drop}
-use Rattle.monomials.specs.Points.{Exponents}
-use Rattle.checks.specs.Answers.{Answer, andThen, blameless}
+use Rattle.points.specs.Points.{Exponents}
+use Rattle.answers.specs.Answers.{Answer, andThen, blameless}
 use Rattle.sharing.specs.Targets.{aimOf, targetOf}
 use Rattle.weighing.specs.Exact.{exactProof}
 use Rattle.weighing.specs.Weighed.{weighedAnswer}

@@ -4,7 +4,7 @@ use Prim.Native.Nat.{ℕ}
 use lib.Dec.{ltb}
 use lib.ListN.{length}
 use Rattle.sheets.specs.Layout.{variables, rowCount}
-use Rattle.checks.specs.Answers.{Answer, accepted, refuseIf, andThen}
+use Rattle.answers.specs.Answers.{Answer, accepted, refuseIf, andThen}
 use Rattle.checks.specs.ClaimChecks.{claimAnswer}
 use Rattle.checks.specs.ProofChecks.{headerAnswer, rowsAnswer}
 

@@ -1,12 +1,12 @@
 // The whole check: the verdict on a claim and its proof, and the exact proof in the output.
 use crate::input::check_input;
-use checks::answers::Verdict;
+use answers::answers::Verdict;
 use sharing::targets::aim_of;
 use weighing::exact::write_exact;
 use weighing::weighed::weigh;
 ghost use mathlib.Core.Path.{_≡_};
 ghost use lib.ListN.{length};
-ghost use Rattle.checks.specs.Answers.{says};
+ghost use Rattle.answers.specs.Answers.{says};
 ghost use Rattle.judging.specs.Check.{checkAnswer, outputOf};
 ghost use Rattle.judging.specs.Promises.{Decides, Floors, Keeps};
 

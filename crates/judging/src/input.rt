@@ -1,6 +1,6 @@
 // The checks 1 to 15, in the order of their numbers.
-use checks::answers::Sheet;
-use checks::answers::Verdict;
+use answers::answers::Sheet;
+use answers::answers::Verdict;
 use checks::claim_checks::check_claim;
 use checks::proof_checks::check_header;
 use checks::proof_checks::check_rows;
@@ -9,7 +9,7 @@ use sheets::proof_sheet::row_count;
 ghost use mathlib.Core.Path.{_≡_};
 ghost use Prim.Native.Nat.{_≤_};
 ghost use lib.ListN.{length};
-ghost use Rattle.checks.specs.Answers.{says};
+ghost use Rattle.answers.specs.Answers.{says};
 ghost use Rattle.judging.specs.Input.{roomAnswer, proofAnswer, inputAnswer};
 
 // 11: whether an output has room for what is asked.

@@ -1,5 +1,1 @@
-pub mod Lists
-pub mod Sums
-pub mod Targets
 pub mod Monomials
-pub mod Floor

@@ -1,9 +1,1 @@
-pub mod Lists
-pub mod Points
-pub mod Keys
 pub mod Powers
-pub mod Sums
-pub mod Rows
-pub mod Targets
-pub mod Decomposition
-pub mod Floor

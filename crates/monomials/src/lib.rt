@@ -1,5 +1,2 @@
-// Points, powers and the weights of a row. Formal sums and the floor theorem stand in specs/ and proofs/.
-pub mod keys;
-pub mod points;
+// Exact powers, monomials and terms of absolute value at most 2^56.
 pub mod powers;
-pub mod rows;

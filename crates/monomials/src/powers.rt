@@ -1,12 +1,12 @@
 // Exact powers, monomials and terms of absolute value at most 2^56.
-use crate::points::Point;
-use crate::points::fewer;
 use integers::magnitudes::magnitude;
+use points::points::Point;
+use points::points::fewer;
 ghost use mathlib.Core.Path.{_≡_};
 ghost use Prim.Native.Nat.{_<_};
 ghost use lib.IntN.{pos, _*ℤ_};
 ghost use lib.ListN.{length, getD};
-ghost use Rattle.monomials.specs.Points.{exponents};
+ghost use Rattle.points.specs.Points.{exponents};
 ghost use Rattle.monomials.specs.Powers.{powerOf, monomialOf, within, largeTimes, productOf};
 
 // An exact number, or that its absolute value is over 2^56.

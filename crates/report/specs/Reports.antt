@@ -8,8 +8,8 @@ use Rattle.sheets.specs.Layout.{variables, proofLength}
 use Rattle.sheets.specs.ClaimSheet.{floorOf}
 use Rattle.sheets.specs.ProofSheet.{scaleOf, tripleOf}
 use Rattle.sheets.specs.declared.proof_sheet.Triple.{Triple}
-use Rattle.checks.specs.Answers.{Answer, blameless}
-use Rattle.checks.specs.Bounds.{greatestRows}
+use Rattle.answers.specs.Answers.{Answer, blameless}
+use Rattle.answers.specs.Bounds.{greatestRows}
 use Rattle.report.specs.Text.{ascii}
 use Rattle.report.specs.Lines.{acceptedLine, rowLine, refusedLine}
 

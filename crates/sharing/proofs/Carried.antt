@@ -4,11 +4,11 @@ use mathlib.Core.List.{List}
 use Prim.Native.Nat.{ℕ, _*_, _^_, _<_, _≤_}
 use lib.Dec.{eqb, lit<}
 use lib.ListN.{replicate, length-replicate}
-use Rattle.monomials.specs.Points.{Exponents, samePoint, midpointOf}
-use Rattle.monomials.specs.Keys.{keyOf}
-use Rattle.monomials.proofs.points.Laws.{midpoint-sized, midpoint-within, zeros-within}
-use Rattle.monomials.proofs.keys.Laws.{Below, within-below, key-same, key-low}
-use Rattle.checks.specs.Bounds.{greatestExponent}
+use Rattle.points.specs.Points.{Exponents, samePoint, midpointOf}
+use Rattle.points.specs.Keys.{keyOf}
+use Rattle.points.proofs.points.Laws.{midpoint-sized, midpoint-within, zeros-within}
+use Rattle.points.proofs.keys.Laws.{Below, within-below, key-same, key-low}
+use Rattle.answers.specs.Bounds.{greatestExponent}
 use Rattle.sheets.specs.ClaimSheet.{termPoint}
 use Rattle.sheets.specs.ProofSheet.{vOf, wOf}
 use Rattle.checks.specs.WellFormed.{ClaimFacts, ProofFacts}

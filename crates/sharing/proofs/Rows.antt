@@ -6,16 +6,16 @@ use mathlib.Core.List.{List, []}
 use Prim.Native.Nat.{ℕ, zero, suc, _<_}
 use lib.IntN.{ℤ, pos}
 use lib.ListN.{length}
-use Rattle.monomials.specs.Lists.{table, All}
-use Rattle.monomials.specs.Points.{Exponents, samePoint, midpointOf}
-use Rattle.monomials.specs.Sums.{Sum, coefficient}
-use Rattle.monomials.specs.Rows.{Row, slotsAt, slots}
-use Rattle.monomials.specs.Decomposition.{Placed, Whole, AddsUp}
-use Rattle.monomials.specs.declared.rows.Weights.{Weights}
-use Rattle.monomials.specs.declared.rows.Weights.the-variants.{Pair, Lone}
-use Rattle.monomials.proofs.Lists.{all-table, table-all, table-same}
-use Rattle.monomials.proofs.points.Laws.{midpoint-sized}
-use Rattle.monomials.proofs.rows.Laws.{slots-pair, slots-lone, slots-none, slots-more}
+use Rattle.points.specs.Lists.{table, All}
+use Rattle.points.specs.Points.{Exponents, samePoint, midpointOf}
+use Rattle.squares.specs.Sums.{Sum, coefficient}
+use Rattle.squares.specs.Rows.{Row, slotsAt, slots}
+use Rattle.squares.specs.Decomposition.{Placed, Whole, AddsUp}
+use Rattle.squares.specs.declared.rows.Weights.{Weights}
+use Rattle.squares.specs.declared.rows.Weights.the-variants.{Pair, Lone}
+use Rattle.points.proofs.Lists.{all-table, table-all, table-same}
+use Rattle.points.proofs.points.Laws.{midpoint-sized}
+use Rattle.squares.proofs.rows.Laws.{slots-pair, slots-lone, slots-none, slots-more}
 use Rattle.sheets.specs.Layout.{variables, rowCount}
 use Rattle.sheets.specs.ProofSheet.{vOf, wOf, rowOf, rowsOf, Suits}
 use Rattle.checks.specs.WellFormed.{ProofFacts}

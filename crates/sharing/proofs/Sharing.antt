@@ -9,10 +9,10 @@ use lib.IntN.{ℤ, pos, _+ℤ_, +ℤ-idr, +ℤ-invr}
 use Rattle.integers.specs.Division.{share, shares}
 use Rattle.integers.proofs.Integers.{ring, ints, by-eq}
 use Rattle.integers.proofs.division.Laws.{shares-none, shares-more, shares-sum, share-none}
-use Rattle.monomials.specs.Points.{Exponents, samePoint}
-use Rattle.monomials.specs.Sums.{Sum, coefficient}
-use Rattle.monomials.proofs.Sums.{coefficient-nil, coefficient-cons}
-use Rattle.monomials.proofs.points.Laws.{same-eq}
+use Rattle.points.specs.Points.{Exponents, samePoint}
+use Rattle.squares.specs.Sums.{Sum, coefficient}
+use Rattle.squares.proofs.Sums.{coefficient-nil, coefficient-cons}
+use Rattle.points.proofs.points.Laws.{same-eq}
 use Rattle.sharing.specs.Sharing.{count, errorAt, shiftedWeight, shiftedFrom, shiftedSlots}
 
 -- ---- how many slots are at a point

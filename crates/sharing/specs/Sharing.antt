@@ -4,8 +4,8 @@ use mathlib.Core.List.{[], _∷_, _++_}
 use Prim.Native.Nat.{ℕ, suc}
 use lib.IntN.{ℤ, _+ℤ_, _-ℤ_}
 use Rattle.integers.specs.Division.{share}
-use Rattle.monomials.specs.Points.{Exponents, samePoint}
-use Rattle.monomials.specs.Sums.{Sum, coefficient}
+use Rattle.points.specs.Points.{Exponents, samePoint}
+use Rattle.squares.specs.Sums.{Sum, coefficient}
 
 -- "With c slots": how many slots are at a point
 unfoldable pub count : Exponents → Sum → ℕ

@@ -3,13 +3,13 @@ use mathlib.Core.Path.{_≡_}
 use mathlib.Core.List.{List, [], _∷_, _++_}
 use Prim.Native.Nat.{ℕ}
 use lib.IntN.{ℤ}
-use Rattle.monomials.specs.Lists.{table}
-use Rattle.monomials.specs.Points.{Exponents, pointOf, midpointOf}
-use Rattle.monomials.specs.Sums.{Sum}
-use Rattle.monomials.specs.Rows.{Row, slots}
-use Rattle.monomials.specs.declared.points.Point.{Point}
-use Rattle.monomials.specs.declared.rows.Weights.{Weights}
-use Rattle.monomials.specs.declared.rows.Weights.the-variants.{Pair, Lone}
+use Rattle.points.specs.Lists.{table}
+use Rattle.points.specs.Points.{Exponents, pointOf, midpointOf}
+use Rattle.squares.specs.Sums.{Sum}
+use Rattle.squares.specs.Rows.{Row, slots}
+use Rattle.points.specs.declared.points.Point.{Point}
+use Rattle.squares.specs.declared.rows.Weights.{Weights}
+use Rattle.squares.specs.declared.rows.Weights.the-variants.{Pair, Lone}
 use Rattle.sheets.specs.Layout.{variables, termCount, rowCount}
 use Rattle.sheets.specs.ProofSheet.{vOf, wOf, rowOf, rowsOf}
 use Rattle.checks.specs.WellFormed.{ClaimFacts, ProofFacts}

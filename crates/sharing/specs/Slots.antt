@@ -4,11 +4,11 @@ use mathlib.Core.List.{List, [], _∷_}
 use Prim.Native.Nat.{ℕ, _+_, _*_, _^_, _≤_}
 use lib.Dec.{eqb}
 use lib.IntN.{ℤ, pos, natAbs, _+ℤ_}
-use Rattle.monomials.specs.Lists.{table}
-use Rattle.monomials.specs.Points.{Exponents}
-use Rattle.monomials.specs.Keys.{keyOf}
-use Rattle.monomials.specs.Sums.{Sum, coefficient}
-use Rattle.monomials.specs.Rows.{slots}
+use Rattle.points.specs.Lists.{table}
+use Rattle.points.specs.Points.{Exponents}
+use Rattle.points.specs.Keys.{keyOf}
+use Rattle.squares.specs.Sums.{Sum, coefficient}
+use Rattle.squares.specs.Rows.{slots}
 use Rattle.sheets.specs.ProofSheet.{vOf, wOf, rowOf}
 use Rattle.checks.specs.WellFormed.{ProofFacts}
 use Rattle.sharing.specs.Sharing.{count}

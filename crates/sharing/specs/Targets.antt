@@ -4,16 +4,16 @@ use mathlib.Core.List.{List}
 use Prim.Native.Nat.{ℕ, _≤_}
 use lib.Dec.{eqb}
 use lib.IntN.{ℤ, pos, natAbs, _-ℤ_}
-use Rattle.monomials.specs.Points.{Exponents}
-use Rattle.monomials.specs.Keys.{keyOf}
-use Rattle.monomials.specs.Targets.{lowered, target}
+use Rattle.points.specs.Points.{Exponents}
+use Rattle.points.specs.Keys.{keyOf}
+use Rattle.squares.specs.Targets.{lowered, target}
 use Rattle.sheets.specs.Layout.{variables}
 use Rattle.sheets.specs.ClaimSheet.{floorOf, termPoint, coefficientOf, termsOf}
 use Rattle.sheets.specs.ProofSheet.{scaleOf}
-use Rattle.checks.specs.Bounds.{greatestWeight, greatestScale}
-use Rattle.checks.specs.Searches.{first}
-use Rattle.checks.specs.declared.searches.Found.{Found}
-use Rattle.checks.specs.declared.searches.Found.the-variants.{At, Nothing}
+use Rattle.answers.specs.Bounds.{greatestWeight, greatestScale}
+use Rattle.answers.specs.Searches.{first}
+use Rattle.answers.specs.declared.searches.Found.{Found}
+use Rattle.answers.specs.declared.searches.Found.the-variants.{At, Nothing}
 use Rattle.sharing.specs.declared.targets.Aim.{Aim}
 
 -- a floor and a scale that the sheets can hold

@@ -1,7 +1,7 @@
 // Slots of a proof sheet at one point, each time found by going over the rows.
 use integers::words::read_i32;
-use monomials::keys::key_of;
-use monomials::points::Point;
+use points::keys::key_of;
+use points::points::Point;
 use sheets::proof_sheet::triple_place;
 use sheets::proof_sheet::v_key;
 use sheets::proof_sheet::w_key;
@@ -10,8 +10,8 @@ ghost use Prim.Native.Nat.{_+_, _^_, _<_, _≤_};
 ghost use lib.IntN.{natAbs};
 ghost use lib.ListN.{length};
 ghost use Rattle.integers.specs.Words.{i32At};
-ghost use Rattle.monomials.specs.Points.{exponents};
-ghost use Rattle.checks.specs.Bounds.{greatestWeight};
+ghost use Rattle.points.specs.Points.{exponents};
+ghost use Rattle.answers.specs.Bounds.{greatestWeight};
 ghost use Rattle.sharing.specs.Carried.{Carried};
 ghost use Rattle.sharing.specs.Slots.{CheckedProof, Small, slotsTo, holdsKey, added, tallyOf, holdingOf};
 

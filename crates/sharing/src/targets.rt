@@ -1,8 +1,8 @@
 // Targets: what the weights at a point are to add up to.
-use checks::searches::Found;
-use monomials::keys::key_of;
-use monomials::points::Point;
-use monomials::points::keeps_sign;
+use answers::searches::Found;
+use points::keys::key_of;
+use points::points::Point;
+use points::points::keeps_sign;
 use sheets::claim_sheet::coefficient;
 use sheets::claim_sheet::floor;
 use sheets::claim_sheet::term_count;
@@ -13,11 +13,11 @@ ghost use mathlib.Core.Path.{_≡_};
 ghost use Prim.Native.Nat.{_^_, _<_, _≤_};
 ghost use lib.IntN.{pos, natAbs, _*ℤ_};
 ghost use lib.ListN.{length};
-ghost use Rattle.monomials.specs.Points.{exponents};
-ghost use Rattle.monomials.specs.Targets.{worst};
-ghost use Rattle.checks.specs.Bounds.{greatestWeight, greatestScale};
+ghost use Rattle.points.specs.Points.{exponents};
+ghost use Rattle.squares.specs.Targets.{worst};
+ghost use Rattle.answers.specs.Bounds.{greatestWeight, greatestScale};
 ghost use Rattle.sheets.specs.Layout.{variables, termCount};
-ghost use Rattle.checks.specs.Searches.{first};
+ghost use Rattle.answers.specs.Searches.{first};
 ghost use Rattle.checks.specs.WellFormed.{ClaimFacts};
 ghost use Rattle.sharing.specs.Targets.{aimOf, AimWithin, targetOf, hasKey, loweredBy, loweredAt};
 ghost use Rattle.sharing.specs.Carried.{Carried};

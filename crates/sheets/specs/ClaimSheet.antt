@@ -3,9 +3,9 @@ use mathlib.Core.List.{List}
 use Prim.Native.Nat.{ℕ}
 use lib.IntN.{ℤ}
 use Rattle.integers.specs.Words.{i32At}
-use Rattle.monomials.specs.Lists.{table}
-use Rattle.monomials.specs.Points.{Exponents, bytesAt}
-use Rattle.monomials.specs.Sums.{Sum}
+use Rattle.points.specs.Lists.{table}
+use Rattle.points.specs.Points.{Exponents, bytesAt}
+use Rattle.squares.specs.Sums.{Sum}
 use Rattle.sheets.specs.Layout.{variables, termCount, pointAt, coefficientAt}
 
 -- "Bytes 4 to 7: the floor b, signed"

@@ -6,11 +6,11 @@ use lib.IntN.{pos}
 use mir.Syntax.{w32}
 use mir.Val.{SFits}
 use Rattle.integers.specs.Words.{u32At, i32At, withI32}
-use Rattle.monomials.specs.Lists.{table}
-use Rattle.monomials.specs.Points.{Exponents, bytesAt, pointOf, samePoint}
-use Rattle.monomials.specs.Rows as Formal
-use Rattle.monomials.specs.declared.rows.Weights.{Weights}
-use Rattle.monomials.specs.declared.rows.Weights.the-variants.{Pair, Lone}
+use Rattle.points.specs.Lists.{table}
+use Rattle.points.specs.Points.{Exponents, bytesAt, pointOf, samePoint}
+use Rattle.squares.specs.Rows as Formal
+use Rattle.squares.specs.declared.rows.Weights.{Weights}
+use Rattle.squares.specs.declared.rows.Weights.the-variants.{Pair, Lone}
 use Rattle.sheets.specs.Layout.{variables, rowCount, vAt, wAt, tripleAt}
 use Rattle.sheets.specs.declared.proof_sheet.Row.{Row}
 use Rattle.sheets.specs.declared.proof_sheet.Triple.{Triple}

@@ -2,8 +2,8 @@
 use mathlib.Core.List.{List}
 use Prim.Native.Nat.{ℕ, _<_}
 use lib.IntN.{ℤ}
-use Rattle.monomials.specs.Points.{Exponents}
-use Rattle.monomials.specs.declared.rows.Weights.{Weights}
+use Rattle.points.specs.Points.{Exponents}
+use Rattle.squares.specs.declared.rows.Weights.{Weights}
 use Rattle.sheets.specs.Layout.{variables, rowCount}
 use Rattle.sheets.specs.ProofSheet.{tripleFor, withRows}
 use Rattle.checks.specs.WellFormed.{Within}

@@ -2,10 +2,10 @@
 use mathlib.Core.List.{List}
 use Prim.Native.Nat.{ℕ}
 use lib.IntN.{ℤ}
-use Rattle.monomials.specs.Points.{Exponents}
+use Rattle.points.specs.Points.{Exponents}
 use Rattle.sheets.specs.Layout.{rowCount}
-use Rattle.checks.specs.Answers.{Answer, andThen}
-use Rattle.checks.specs.Bounds.{greatestWeight}
+use Rattle.answers.specs.Answers.{Answer, andThen}
+use Rattle.answers.specs.Bounds.{greatestWeight}
 use Rattle.sharing.specs.Shifts.{shiftedRow}
 use Rattle.weighing.specs.Unheld.{unheldAnswer}
 use Rattle.weighing.specs.Judgements.{firstsTo, judgedAnswer}

@@ -8,7 +8,7 @@ ghost use mathlib.Core.Path.{_≡_};
 ghost use mathlib.Core.List.{_++_};
 ghost use Prim.Native.Nat.{_≤_};
 ghost use lib.ListN.{length, drop};
-ghost use Rattle.checks.specs.Bounds.{greatestWeight};
+ghost use Rattle.answers.specs.Bounds.{greatestWeight};
 ghost use Rattle.sheets.specs.Layout.{variables, rowCount};
 ghost use Rattle.sheets.specs.ProofSheet.{withRows};
 ghost use Rattle.sharing.specs.Targets.{targetOf};

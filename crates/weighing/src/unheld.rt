@@ -1,8 +1,8 @@
 // Check 16: a target that is not zero needs a slot.
-use checks::searches::Found;
+use answers::searches::Found;
 use integers::magnitudes::magnitude;
-use monomials::keys::key_of;
-use monomials::points::Point;
+use points::keys::key_of;
+use points::points::Point;
 use sharing::slots::holds_key;
 use sharing::targets::Aim;
 use sharing::targets::target_at;
@@ -14,9 +14,9 @@ ghost use mathlib.Core.Path.{_≡_};
 ghost use Prim.Native.Nat.{suc, _≤_};
 ghost use lib.Dec.{eqb};
 ghost use lib.IntN.{natAbs};
-ghost use Rattle.monomials.specs.Points.{exponents, pointOf};
+ghost use Rattle.points.specs.Points.{exponents, pointOf};
 ghost use Rattle.sheets.specs.Layout.{variables, termCount};
-ghost use Rattle.checks.specs.Searches.{first};
+ghost use Rattle.answers.specs.Searches.{first};
 ghost use Rattle.checks.specs.WellFormed.{ClaimFacts};
 ghost use Rattle.sharing.specs.Carried.{Carried};
 ghost use Rattle.sharing.specs.Targets.{AimWithin, targetOf};

@@ -1,12 +1,12 @@
 // The checks 16 to 19, in the order of their numbers.
 use crate::judgements::check_judged;
 use crate::unheld::first_unheld;
-use checks::answers::Sheet;
-use checks::answers::Verdict;
-use checks::searches::Found;
+use answers::answers::Sheet;
+use answers::answers::Verdict;
+use answers::searches::Found;
 use sharing::targets::Aim;
 ghost use mathlib.Core.Path.{_≡_};
-ghost use Rattle.checks.specs.Answers.{says};
+ghost use Rattle.answers.specs.Answers.{says};
 ghost use Rattle.sharing.specs.Targets.{targetOf};
 ghost use Rattle.sharing.specs.Shifts.{CheckedSheets};
 ghost use Rattle.weighing.specs.Weighed.{weighedAnswer};

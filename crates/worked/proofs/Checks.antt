@@ -9,29 +9,29 @@ use lib.IntN.{pos}
 use lib.ListN.{length, getD, replicate, getD-replicate, length-replicate, List·getD-eq-default}
 use lib.Seq.{getD-append-add}
 use Rattle.integers.specs.Words.{u32At, i32At}
-use Rattle.monomials.specs.Lists.{table}
-use Rattle.monomials.specs.Points.{bytesAt, every, everyPair, samePoint, risesTo, evenSum, hasMidpoint, exponentsWithin}
-use Rattle.checks.specs.Answers.{says, blames, accepted, refused, refuseIf, refuseAt, blameless, andThen}
-use Rattle.checks.specs.Searches.{first}
-use Rattle.checks.specs.Bounds.{greatestExponent, greatestWeight, beyond}
+use Rattle.points.specs.Lists.{table}
+use Rattle.points.specs.Points.{bytesAt, every, everyPair, samePoint, risesTo, evenSum, hasMidpoint, exponentsWithin}
+use Rattle.answers.specs.Answers.{says, accepted, refused, refuseIf, refuseAt, blameless, andThen}
+use Rattle.answers.specs.Searches.{first}
+use Rattle.answers.specs.Bounds.{greatestExponent, greatestWeight, beyond}
 use Rattle.sheets.specs.Layout.{tripleAt}
 use Rattle.sheets.specs.ClaimSheet.{floorOf, termPoint, coefficientOf}
 use Rattle.checks.specs.ClaimChecks as C
 use Rattle.sheets.specs.ProofSheet.{scaleOf, vOf, wOf, wordsAt, tripleOf}
 use Rattle.checks.specs.ProofChecks as P
 use Rattle.checks.specs.WellFormed.{sheetsAnswer}
-use Rattle.checks.specs.declared.answers.Verdict.the-variants.{Accepted}
+use Rattle.answers.specs.declared.answers.Verdict.the-variants.{Accepted}
 use Rattle.checks.specs.declared.proof_checks.RowRule.the-variants as R
-use Rattle.checks.specs.declared.searches.Found.the-variants.{Nothing}
-use Rattle.checks.proofs.answers.Laws.{passed-at, then-passed}
-use Rattle.checks.proofs.searches.Laws.{nothing-first}
+use Rattle.answers.specs.declared.searches.Found.the-variants.{Nothing}
+use Rattle.answers.proofs.answers.Laws.{passed-at, then-passed}
+use Rattle.answers.proofs.searches.Laws.{nothing-first}
 use Rattle.worked.specs.Sheets.{joined, word, words, claimOf, proofOf, squareWith, square, squareProof, twoTerms, oneRow}
 use Rattle.worked.specs.Checks.{Case, claims, proves, full, manyPoints, manyRows, small, cases, Worked}
 
 small-worked : map (λ (c : Case). sheetsAnswer (c .claim) (c .proof)) small ≡ map (λ (c : Case). c .answer) small
 unfolding
     u32At i32At table bytesAt every everyPair samePoint risesTo evenSum hasMidpoint exponentsWithin
-    blames accepted refused refuseIf refuseAt blameless andThen first beyond floorOf termPoint coefficientOf
+    accepted refused refuseIf refuseAt blameless andThen first beyond floorOf termPoint coefficientOf
     C.headerRight C.breaks C.termsAnswer C.claimAnswer scaleOf vOf wOf wordsAt tripleOf
     P.headerRight P.headerAnswer P.carries P.anyBeyond P.breaks P.rowsAnswer sheetsAnswer
     joined word words claimOf proofOf squareWith square squareProof claims proves twoTerms oneRow full manyPoints manyRows small

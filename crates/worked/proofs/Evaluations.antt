@@ -1,15 +1,15 @@
 -- The cases, computed.
 use mathlib.Core.Path.{refl}
 use Rattle.integers.specs.Words.{u32At, i32At}
-use Rattle.monomials.specs.Lists.{table}
-use Rattle.monomials.specs.Points.{bytesAt, every, risesTo, exponentsWithin}
+use Rattle.points.specs.Lists.{table}
+use Rattle.points.specs.Points.{bytesAt, every, risesTo, exponentsWithin}
 use Rattle.monomials.specs.Powers.{powerOf, monomialOf}
-use Rattle.monomials.specs.Sums.{value}
+use Rattle.squares.specs.Sums.{value}
 use Rattle.sheets.specs.ClaimSheet.{floorOf, termPoint, coefficientOf, termOf, termsOf}
-use Rattle.checks.specs.Answers.{blames, accepted, refused, refuseIf, refuseAt, blameless, andThen}
-use Rattle.checks.specs.Bounds.{beyond}
+use Rattle.answers.specs.Answers.{accepted, refused, refuseIf, refuseAt, blameless, andThen}
+use Rattle.answers.specs.Bounds.{beyond}
 use Rattle.checks.specs.ClaimChecks.{headerRight, breaks, termsAnswer, claimAnswer}
-use Rattle.checks.specs.Searches.{first}
+use Rattle.answers.specs.Searches.{first}
 use Rattle.evaluation.specs.Evaluations.{toldBy, termValue, large, largeAnswer, evaluationAnswer, evaluationOf}
 use Rattle.worked.specs.Sheets.{joined, word, words, claimOf, twoTerms, squareWith, square}
 use Rattle.worked.specs.Evaluations.{at, oneAt, least, greatest, cases, Worked}
@@ -17,7 +17,7 @@ use Rattle.worked.specs.Evaluations.{at, oneAt, least, greatest, cases, 
 pub worked : Worked
 unfolding
     u32At i32At table bytesAt every risesTo exponentsWithin powerOf monomialOf value
-    floorOf termPoint coefficientOf termOf termsOf blames accepted refused refuseIf refuseAt blameless andThen beyond
+    floorOf termPoint coefficientOf termOf termsOf accepted refused refuseIf refuseAt blameless andThen beyond
     joined word words claimOf twoTerms squareWith square headerRight breaks termsAnswer claimAnswer first
     toldBy termValue large largeAnswer evaluationAnswer evaluationOf at oneAt least greatest cases
 worked = refl

@@ -2,16 +2,16 @@
 use mathlib.Core.Path.{refl}
 use Rattle.integers.specs.Words.{u32At, i32At, withBits, withI32}
 use Rattle.integers.specs.Division.{floorDiv, floorMod, share}
-use Rattle.monomials.specs.Lists.{table}
-use Rattle.monomials.specs.Points.{bytesAt, every, everyPair, samePoint, risesTo, midpointOf, evenSum, hasMidpoint, exponentsWithin, keepsSign}
-use Rattle.monomials.specs.Sums.{coefficient}
-use Rattle.monomials.specs.Rows.{slotsAt, slots}
-use Rattle.monomials.specs.Targets.{lowered, worst, target}
+use Rattle.points.specs.Lists.{table}
+use Rattle.points.specs.Points.{bytesAt, every, everyPair, samePoint, risesTo, midpointOf, evenSum, hasMidpoint, exponentsWithin, keepsSign}
+use Rattle.squares.specs.Sums.{coefficient}
+use Rattle.squares.specs.Rows.{slotsAt, slots}
+use Rattle.squares.specs.Targets.{lowered, worst, target}
 use Rattle.sheets.specs.ClaimSheet.{floorOf, termPoint, coefficientOf, termOf, termsOf}
 use Rattle.sheets.specs.ProofSheet.{scaleOf, vOf, wOf, wordsAt, tripleOf, weightsOf, rowOf, rowsOf, tripleFor, withTriple, withWeights, withRows}
-use Rattle.checks.specs.Answers.{accepted, refused, blames, refuseIf, refuseAt, blameless, andThen}
-use Rattle.checks.specs.Searches.{first}
-use Rattle.checks.specs.Bounds.{beyond}
+use Rattle.answers.specs.Answers.{accepted, refused, refuseIf, refuseAt, blameless, andThen}
+use Rattle.answers.specs.Searches.{first}
+use Rattle.answers.specs.Bounds.{beyond}
 use Rattle.checks.specs.ClaimChecks as C
 use Rattle.checks.specs.ProofChecks as P
 use Rattle.sharing.specs.Sharing.{count, errorAt, shiftedWeight}
@@ -32,7 +32,7 @@ unfolding
     u32At i32At withBits withI32 floorDiv floorMod share table bytesAt every everyPair samePoint risesTo midpointOf evenSum
     hasMidpoint exponentsWithin keepsSign coefficient slotsAt slots lowered worst target floorOf termPoint
     coefficientOf termOf termsOf scaleOf vOf wOf wordsAt tripleOf weightsOf rowOf rowsOf tripleFor withTriple
-    withWeights withRows accepted refused blames refuseIf refuseAt blameless andThen first beyond C.headerRight
+    withWeights withRows accepted refused refuseIf refuseAt blameless andThen first beyond C.headerRight
     C.breaks C.termsAnswer C.claimAnswer P.headerRight P.headerAnswer P.carries P.anyBeyond P.breaks P.rowsAnswer
     joined word words claimOf proofOf squareWith square squareProof oneRow count errorAt shiftedWeight aimOf targetOf slotsTo
     shiftedWeights shiftRow slotsBefore shiftedRow shiftedRows roomAnswer proofAnswer inputAnswer pointFor unheldAt

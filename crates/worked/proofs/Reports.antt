@@ -3,7 +3,7 @@ use mathlib.Core.Path.{refl}
 use Rattle.integers.specs.Words.{u32At, i32At}
 use Rattle.sheets.specs.ClaimSheet.{floorOf}
 use Rattle.sheets.specs.ProofSheet.{scaleOf, wordsAt, tripleOf}
-use Rattle.checks.specs.Answers.{blames, accepted, refused, blameless}
+use Rattle.answers.specs.Answers.{accepted, refused, blameless}
 use Rattle.report.specs.Text.{digits, natural, integer, counted, numbered}
 use Rattle.report.specs.Lines.{scaleText, acceptedLine, laterText, weightsText, rowLine, refusedLine}
 use Rattle.report.specs.Reports.{ended, linesOf, rowText, rowsText, firstText, acceptedText, refusedText, carries, reportText}
@@ -12,7 +12,7 @@ use Rattle.worked.specs.Reports.{cases, Worked}
 
 pub worked : Worked
 unfolding
-    u32At i32At floorOf scaleOf wordsAt tripleOf blames accepted refused blameless
+    u32At i32At floorOf scaleOf wordsAt tripleOf accepted refused blameless
     joined word words claimOf proofOf squareWith square squareProof digits natural integer counted numbered
     scaleText acceptedLine laterText weightsText rowLine refusedLine
     ended linesOf rowText rowsText firstText acceptedText refusedText carries reportText cases

@@ -3,7 +3,7 @@ use mathlib.Core.Path.{_≡_}
 use mathlib.Core.List.{List, [], _∷_, map}
 use Prim.Native.Nat.{ℕ, _-_, _^_}
 use lib.IntN.{ℤ, pos, negsuc}
-use Rattle.checks.specs.Answers.{refused}
+use Rattle.answers.specs.Answers.{refused}
 use Rattle.evaluation.specs.Evaluations.{Told, value, refusal, evaluationOf}
 use Rattle.worked.specs.Sheets.{claimOf, twoTerms, square}
 

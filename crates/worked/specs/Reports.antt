@@ -4,7 +4,7 @@ use mathlib.Core.List.{List, [], _∷_, map}
 use Prim.Native.Nat.{ℕ, _-_, _^_}
 use Prim.Native.String.{String}
 use lib.IntN.{pos, negsuc}
-use Rattle.checks.specs.Answers.{Answer, accepted, refused}
+use Rattle.answers.specs.Answers.{Answer, accepted, refused}
 use Rattle.report.specs.Text.{ascii}
 use Rattle.report.specs.Reports.{reportText}
 use Rattle.worked.specs.Sheets.{claimOf, proofOf, square, squareProof}

@@ -6,11 +6,11 @@ use Prim.Native.Nat.{ℕ, _+_, _*_}
 use native.Mathlib.Omega.{arith}
 use lib.IntN.{ℤ}
 use Rattle.integers.proofs.words.Laws.{Bytes}
-use Rattle.checks.specs.Answers.{says, blameless, Short}
-use Rattle.checks.specs.declared.answers.Sheet.{Sheet}
-use Rattle.checks.specs.declared.answers.Verdict.{Verdict}
-use Rattle.checks.specs.declared.answers.Verdict.the-variants as Verdicts
-use Rattle.checks.proofs.answers.Laws.{accepted-number}
+use Rattle.answers.specs.Answers.{says, blameless, Short}
+use Rattle.answers.specs.declared.answers.Sheet.{Sheet}
+use Rattle.answers.specs.declared.answers.Verdict.{Verdict}
+use Rattle.answers.specs.declared.answers.Verdict.the-variants as Verdicts
+use Rattle.answers.proofs.answers.Laws.{accepted-number}
 use Rattle.judging.specs.Check.{checkAnswer}
 use Rattle.judging.proofs.Short.{check-short}
 use Rattle.evaluation.specs.Evaluations.{tells, evaluationOf}

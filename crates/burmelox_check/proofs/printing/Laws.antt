@@ -7,8 +7,8 @@ use lib.ListN.{length, take, drop, length-drop, length-replicate}
 use lib.Seq.{length-take-le, take-all}
 use Rattle.sheets.specs.Layout.{variables, rowCount, ProofRoom}
 use Rattle.sheets.specs.ProofSheet.{scaleOf, tripleOf, tripleFor}
-use Rattle.checks.specs.Answers.{says, Passes}
-use Rattle.checks.specs.declared.answers.Verdict.{Verdict}
+use Rattle.answers.specs.Answers.{says, Passes}
+use Rattle.answers.specs.declared.answers.Verdict.{Verdict}
 use Rattle.sharing.specs.Targets.{aimOf}
 use Rattle.sharing.specs.Shifts.{CheckedSheets}
 use Rattle.sharing.proofs.shifts.Laws.{sheets-checked}

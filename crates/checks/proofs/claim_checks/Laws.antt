@@ -9,15 +9,15 @@ use lib.Dec.{eqb, leb}
 use lib.IntN.{ℤ, natAbs}
 use lib.ListN.{length, getD}
 use borrow.Author.Tests.{eq-eqb, ne-eqb, lt-ltb, le-ltb, le-leb, lt-leb, leb-true, not-false}
-use Rattle.monomials.specs.Points.{exponents, pointOf, risesTo, exponentsWithin}
-use Rattle.monomials.specs.declared.points.Point.{Point}
-use Rattle.monomials.proofs.points.Laws.{exponents-of}
-use Rattle.checks.specs.Answers.{says}
-use Rattle.checks.specs.Bounds.{beyond}
+use Rattle.points.specs.Points.{exponents, pointOf, risesTo, exponentsWithin}
+use Rattle.points.specs.declared.points.Point.{Point}
+use Rattle.points.proofs.points.Laws.{exponents-of}
+use Rattle.answers.specs.Answers.{says}
+use Rattle.answers.specs.Bounds.{beyond}
 use Rattle.sheets.specs.Layout.{variables, termCount, place, ClaimRoom}
 use Rattle.sheets.specs.ClaimSheet.{floorOf, termPoint, coefficientOf}
 use Rattle.checks.specs.ClaimChecks.{headerRight, breaks, termsAnswer}
-use Rattle.checks.specs.declared.answers.Verdict.{Verdict}
+use Rattle.answers.specs.declared.answers.Verdict.{Verdict}
 use Rattle.checks.specs.declared.claim_checks.TermRule.the-variants.{Coefficient, Exponent, Order}
 
 -- ---- 2

@@ -7,10 +7,10 @@ use lib.Dec.{eqb, ltb, leb}
 use lib.IntN.{ℤ, natAbs}
 use lib.ListN.{getD}
 use borrow.Author.Tests.{eq-eqb, ne-eqb, lt-ltb, le-ltb, le-leb, lt-leb, leb-true, leb-false}
-use Rattle.monomials.specs.Points.{exponents, pointOf, samePoint, hasMidpoint, exponentsWithin}
-use Rattle.monomials.specs.declared.points.Point.{Point}
-use Rattle.monomials.proofs.points.Laws.{exponents-of}
-use Rattle.checks.specs.Bounds.{greatestScale, beyond}
+use Rattle.points.specs.Points.{exponents, pointOf, samePoint, hasMidpoint, exponentsWithin}
+use Rattle.points.specs.declared.points.Point.{Point}
+use Rattle.points.proofs.points.Laws.{exponents-of}
+use Rattle.answers.specs.Bounds.{greatestScale, beyond}
 use Rattle.sheets.specs.Layout.{variables, rowCount}
 use Rattle.sheets.specs.ProofSheet.{scaleOf, vOf, wOf, tripleOf}
 use Rattle.checks.specs.ProofChecks.{headerRight, carries, anyBeyond, breaks}

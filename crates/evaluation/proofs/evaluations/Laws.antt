@@ -14,31 +14,31 @@ use mir.Facts.{toZ-ofZ}
 use borrow.Author.Tests.{eq-eqb, ne-eqb, eqb-true, not-false}
 use Rattle.integers.proofs.Integers.{abs-add, fits-within}
 use Rattle.integers.proofs.words.Laws.{Bytes}
-use Rattle.monomials.specs.Lists.{table}
-use Rattle.monomials.specs.Points.{exponents, pointOf}
+use Rattle.points.specs.Lists.{table}
+use Rattle.points.specs.Points.{exponents, pointOf}
 use Rattle.monomials.specs.Powers.{monomialOf, Says, within}
-use Rattle.monomials.specs.Sums.{value, valueAt}
-use Rattle.monomials.specs.declared.points.Point.{Point}
+use Rattle.squares.specs.Sums.{value, valueAt}
+use Rattle.points.specs.declared.points.Point.{Point}
 use Rattle.monomials.specs.declared.powers.Bounded.{Bounded}
 use Rattle.monomials.specs.declared.powers.Bounded.the-variants.{TooLarge, Value as Exact}
-use Rattle.monomials.proofs.Lists.{table-none, table-more}
-use Rattle.monomials.proofs.Sums.{value-nil, value-one, value-append}
-use Rattle.monomials.proofs.points.Laws.{exponents-of}
+use Rattle.points.proofs.Lists.{table-none, table-more}
+use Rattle.squares.proofs.Sums.{value-nil, value-one, value-append}
+use Rattle.points.proofs.points.Laws.{exponents-of}
 use Rattle.monomials.proofs.powers.Laws.{within-says}
 use Rattle.sheets.specs.Layout.{variables, termCount, ClaimRoom}
 use Rattle.sheets.specs.ClaimSheet.{termPoint, coefficientOf, termOf, termsOf}
 use Rattle.sheets.proofs.claim_sheet.Laws.{terms-table, term-point, term-coefficient}
-use Rattle.checks.specs.Answers.{Answer, accepted, says, refuseIf, blameless, Passes, Short}
+use Rattle.answers.specs.Answers.{Answer, accepted, says, refuseIf, blameless, Passes, Short}
 use Rattle.checks.specs.ClaimChecks.{claimAnswer}
-use Rattle.checks.specs.Searches.{first}
-use Rattle.checks.specs.declared.answers.Sheet.{Sheet}
-use Rattle.checks.specs.declared.answers.Sheet.the-variants.{Claim, Offsets}
-use Rattle.checks.specs.declared.answers.Verdict.{Verdict}
-use Rattle.checks.specs.declared.answers.Verdict.the-variants as Verdicts
-use Rattle.checks.specs.declared.searches.Found.the-variants.{At, Nothing}
-use Rattle.checks.proofs.answers.Laws.{passes-if, passes-at, passes-then, then-on, if-on, at-on, accepted-passes, failed, then-refused, passed, then-passed, refused-if, refused-at, large-says, offsets-says}
-use Rattle.checks.proofs.bounds.Laws.{over-bound, within-bound, bound-within}
-use Rattle.checks.proofs.searches.Laws.{first-at, first-on, first-nothing, nothing-first}
+use Rattle.answers.specs.Searches.{first}
+use Rattle.answers.specs.declared.answers.Sheet.{Sheet}
+use Rattle.answers.specs.declared.answers.Sheet.the-variants.{Claim, Offsets}
+use Rattle.answers.specs.declared.answers.Verdict.{Verdict}
+use Rattle.answers.specs.declared.answers.Verdict.the-variants as Verdicts
+use Rattle.answers.specs.declared.searches.Found.the-variants.{At, Nothing}
+use Rattle.answers.proofs.answers.Laws.{passes-if, passes-at, passes-then, then-on, if-on, at-on, accepted-passes, failed, then-refused, passed, then-passed, refused-if, refused-at, refused-says}
+use Rattle.answers.proofs.bounds.Laws.{over-bound, within-bound, bound-within}
+use Rattle.answers.proofs.searches.Laws.{first-at, first-on, first-nothing, nothing-first}
 use Rattle.checks.proofs.WellFormed.{claim-passed, claim-room}
 use Rattle.judging.proofs.Promises.{floor-kept}
 use Rattle.evaluation.proofs.Short.{evaluation-short}
@@ -101,8 +101,8 @@ evaluable : (c : List ℕ) (x : List ℤ) → Passes (evaluationAnswer c x) → 
 unfolding evaluationAnswer largeAnswer large
 evaluable c x h =
     let p = passes-then _ _ h in
-    let q = passes-if _ 20 _ (p .1) in
-    let r = passes-at _ 21 _ (q .1) in
+    let q = passes-if _ 20 _ refl (p .1) in
+    let r = passes-at _ 21 _ refl (q .1) in
     record {
       formed = p .0;
       counted = eqb-true _ _ (not-false _ (q .0));
@@ -178,7 +178,7 @@ module _ (c : List ℕ) (n t : ℕ) (x : List ℤ) where
         let k : Says TooLarge (termValue c n t x i) = subst (λ b. Says b (termValue c n t x i)) (sym er ∙ h) (within-says _) in
         let f = first-at (large c n t x) t i true l none (sym (over-bound _ _ k)) refl in
         told-refused (Claim 21 i) _ _
-        (refused-at (Verdicts.Refused (Claim 21 i)) (At i) (first (large c n t x) t) 21 (accepted 0) f i refl (large-says i))
+        (refused-at (Verdicts.Refused (Claim 21 i)) (At i) (first (large c n t x) t) 21 (accepted 0) f i refl (refused-says _ 21 i refl))
 
     module _ (v : ℤ) (h : r ≡ Exact v) where
       here : Says (Exact v) (termValue c n t x i)
@@ -232,7 +232,7 @@ module _ (c : List ℕ) (x : List ℤ) (v : Verdict) (e : says v ≡ claimAnswer
           let w : not (eqb (length x) (variables c)) ≡ true = rw (← en, ne-eqb _ _ d) in
           told-refused (Offsets 20 0) _ _
           (then-passed v (claimAnswer c) e j h (Verdicts.Refused (Offsets 20 0)) _
-          (refused-if (Verdicts.Refused (Offsets 20 0)) _ 20 _ w (offsets-says 0)))
+          (refused-if (Verdicts.Refused (Offsets 20 0)) _ 20 _ w (refused-says _ 20 0 refl)))
 
       module _ (t : ℕ) (et : t ≡ termCount c) where
         pub terms-room : ClaimRoom c n t

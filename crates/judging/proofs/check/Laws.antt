@@ -6,13 +6,13 @@ use Prim.Native.Nat.{ℕ, _≤_}
 use native.Mathlib.Omega.{arith}
 use lib.ListN.{length, drop}
 use Rattle.integers.proofs.words.Laws.{Bytes}
-use Rattle.checks.specs.Answers.{says, Passes}
-use Rattle.checks.specs.Bounds.{greatestWeight}
+use Rattle.answers.specs.Answers.{says, Passes}
+use Rattle.answers.specs.Bounds.{greatestWeight}
 use Rattle.checks.specs.WellFormed.{WellFormed}
-use Rattle.checks.specs.declared.answers.Sheet.{Sheet}
-use Rattle.checks.specs.declared.answers.Verdict.{Verdict}
-use Rattle.checks.specs.declared.answers.Verdict.the-variants.{Accepted, Refused}
-use Rattle.checks.proofs.answers.Laws.{then-refused, then-passed, passed, failed, accepted-passes}
+use Rattle.answers.specs.declared.answers.Sheet.{Sheet}
+use Rattle.answers.specs.declared.answers.Verdict.{Verdict}
+use Rattle.answers.specs.declared.answers.Verdict.the-variants.{Accepted, Refused}
+use Rattle.answers.proofs.answers.Laws.{then-refused, then-passed, passed, failed, accepted-passes}
 use Rattle.sharing.specs.Targets.{aimOf, targetOf}
 use Rattle.sharing.specs.declared.targets.Aim.{Aim}
 use Rattle.sharing.specs.Shifts.{CheckedSheets}

@@ -6,15 +6,15 @@ use native.Mathlib.Omega.{arith}
 use lib.ListN.{length}
 use borrow.Author.Tests.{lt-ltb, le-ltb, ltb-false}
 use Rattle.sheets.specs.Layout.{variables, rowCount, ProofRoom}
-use Rattle.checks.specs.Answers.{says, Passes}
+use Rattle.answers.specs.Answers.{says, Passes}
 use Rattle.checks.specs.ClaimChecks.{claimAnswer}
 use Rattle.checks.specs.ProofChecks.{headerAnswer, rowsAnswer}
 use Rattle.checks.specs.WellFormed.{WellFormed}
-use Rattle.checks.specs.declared.answers.Sheet.{Sheet}
-use Rattle.checks.specs.declared.answers.Sheet.the-variants.{Output}
-use Rattle.checks.specs.declared.answers.Verdict.{Verdict}
-use Rattle.checks.specs.declared.answers.Verdict.the-variants.{Accepted, Refused}
-use Rattle.checks.proofs.answers.Laws.{refused-if, passed-if, accepted-says, output-says, passes-if, passes-then, then-passes, then-refused, then-passed, passed}
+use Rattle.answers.specs.declared.answers.Sheet.{Sheet}
+use Rattle.answers.specs.declared.answers.Sheet.the-variants.{Output}
+use Rattle.answers.specs.declared.answers.Verdict.{Verdict}
+use Rattle.answers.specs.declared.answers.Verdict.the-variants.{Accepted, Refused}
+use Rattle.answers.proofs.answers.Laws.{refused-if, passed-if, accepted-says, refused-says, passes-if, passes-then, then-passes, then-refused, then-passed, passed}
 use Rattle.checks.proofs.WellFormed.{Header, header-facts, claim-passed, formed, formed-claim, formed-header, formed-rows}
 use Rattle.judging.specs.Input.{roomAnswer, proofAnswer, inputAnswer}
 
@@ -23,7 +23,7 @@ use Rattle.judging.specs.Input.{roomAnswer, proofAnswer, inputAnswer}
 module _ (asked room : ℕ) where
   pub room-short : room < asked → says (Refused (Output 11 0)) ≡ roomAnswer asked room
   unfolding roomAnswer
-  room-short l = refused-if _ _ 11 _ (lt-ltb room asked l) (output-says 0)
+  room-short l = refused-if _ _ 11 _ (lt-ltb room asked l) (refused-says _ 11 0 refl)
 
   pub room-enough : asked ≤ room → says (Accepted 0) ≡ roomAnswer asked room
   unfolding roomAnswer
@@ -31,7 +31,7 @@ module _ (asked room : ℕ) where
 
   pub enough : Passes (roomAnswer asked room) → asked ≤ room
   unfolding roomAnswer
-  enough h = ltb-false room asked (passes-if _ 11 _ h .0)
+  enough h = ltb-false room asked (passes-if _ 11 _ refl h .0)
 
 -- ---- check_proof: v and u are the verdicts on the header and on the room
 

@@ -14,10 +14,10 @@ use mir.Val.{SFits}
 use mir.Facts.{toZ-ofZ}
 use borrow.Author.Tests.{leb-true, leb-false, le-leb, lt-leb, eqb-true, eqb-false, eq-eqb, ne-eqb}
 use Rattle.integers.proofs.Integers.{back, abs-mul, abs-zero, fits-within}
-use Rattle.monomials.specs.Points.{Exponents, exponents}
+use Rattle.points.specs.Points.{Exponents, exponents}
 use Rattle.monomials.specs.Powers.{powerOf, monomialOf, Says, within, largeTimes, productOf}
-use Rattle.monomials.specs.declared.points.Point.{Point}
-use Rattle.monomials.proofs.points.Laws.{exponents-counted}
+use Rattle.points.specs.declared.points.Point.{Point}
+use Rattle.points.proofs.points.Laws.{exponents-counted}
 use Rattle.monomials.specs.declared.powers.Bounded.{Bounded}
 use Rattle.monomials.specs.declared.powers.Bounded.the-variants.{Value, TooLarge}
 

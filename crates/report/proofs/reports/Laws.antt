@@ -17,13 +17,13 @@ use Rattle.sheets.specs.Layout.{variables, place, ProofRoom}
 use Rattle.sheets.specs.ClaimSheet.{floorOf}
 use Rattle.sheets.specs.ProofSheet.{scaleOf, tripleOf}
 use Rattle.sheets.specs.declared.proof_sheet.Triple.{Triple}
-use Rattle.checks.specs.Answers.{Answer, says, accepted, blameless}
-use Rattle.checks.specs.declared.answers.Sheet.{Sheet}
-use Rattle.checks.specs.declared.answers.Verdict.{Verdict}
-use Rattle.checks.specs.declared.answers.Verdict.the-variants.{Accepted, Refused}
+use Rattle.answers.specs.Answers.{Answer, says, accepted, blameless}
+use Rattle.answers.specs.declared.answers.Sheet.{Sheet}
+use Rattle.answers.specs.declared.answers.Verdict.{Verdict}
+use Rattle.answers.specs.declared.answers.Verdict.the-variants.{Accepted, Refused}
 use Rattle.sheets.proofs.claim_sheet.Laws.{floor-fits}
 use Rattle.sheets.proofs.proof_sheet.Laws.{scale-bound, triple-narrow}
-use Rattle.checks.proofs.answers.Laws.{failed, passed, accepted-value, accepted-says, accepted-passes}
+use Rattle.answers.proofs.answers.Laws.{failed, passed, accepted-value, accepted-says, accepted-passes}
 use Rattle.report.specs.Text.{ascii, natural, integer, counted, numbered, Room, Written}
 use Rattle.report.specs.Lines.{scaleText, acceptedLine, laterText, weightsText, rowLine, refusedLine}
 use Rattle.report.specs.Reports.{ended, linesOf, rowText, rowsText, firstText, acceptedText, refusedText, carries, reportText}

@@ -14,22 +14,22 @@ use mir.Facts.{toZ-ofZ}
 use Rattle.integers.specs.Division.{share}
 use Rattle.integers.proofs.Integers.{back, abs-add, abs-neg, fits-within}
 use Rattle.integers.proofs.division.Laws.{share-abs}
-use Rattle.monomials.specs.Points.{Exponents, exponents, pointOf, samePoint, midpointOf}
-use Rattle.monomials.specs.Keys.{keyOf}
-use Rattle.monomials.specs.Sums.{Sum}
-use Rattle.monomials.specs.Rows.{slotsAt, slots}
-use Rattle.monomials.specs.declared.points.Point.{Point}
-use Rattle.monomials.specs.declared.rows.Weights.{Weights}
-use Rattle.monomials.specs.declared.rows.Weights.the-variants.{Pair, Lone}
-use Rattle.monomials.proofs.points.Laws.{exponents-of, same-eq, same-refl}
-use Rattle.monomials.proofs.keys.Laws.{key-midpoint}
-use Rattle.monomials.proofs.rows.Laws.{slots-pair, slots-lone}
+use Rattle.points.specs.Points.{Exponents, exponents, pointOf, samePoint, midpointOf}
+use Rattle.points.specs.Keys.{keyOf}
+use Rattle.squares.specs.Sums.{Sum}
+use Rattle.squares.specs.Rows.{slotsAt, slots}
+use Rattle.points.specs.declared.points.Point.{Point}
+use Rattle.squares.specs.declared.rows.Weights.{Weights}
+use Rattle.squares.specs.declared.rows.Weights.the-variants.{Pair, Lone}
+use Rattle.points.proofs.points.Laws.{exponents-of, same-eq, same-refl}
+use Rattle.points.proofs.keys.Laws.{key-midpoint}
+use Rattle.squares.proofs.rows.Laws.{slots-pair, slots-lone}
 use Rattle.sheets.specs.ProofSheet.{vOf, wOf, tripleOf, rowOf, rowsOf, byValue}
 use Rattle.sheets.specs.declared.proof_sheet.Row.{Row}
 use Rattle.checks.specs.WellFormed.{WellFormed}
 use Rattle.checks.proofs.WellFormed.{claim-formed, proof-formed, proof-room}
 use Rattle.sheets.proofs.proof_sheet.Laws.{lone-of, pair-of, row-v, row-w, value-v, value-w, value-weights, by-value}
-use Rattle.checks.specs.Bounds.{greatestWeight}
+use Rattle.answers.specs.Bounds.{greatestWeight}
 use Rattle.sheets.specs.Layout.{variables, rowCount, ProofRoom}
 use Rattle.sharing.specs.Sharing.{count, errorAt, shiftedWeight}
 use Rattle.sharing.specs.Targets.{aimOf, targetOf}

@@ -17,25 +17,25 @@ use mir.Val.{SFits, Fits}
 use mir.Facts.{toZ-ofZ}
 use Rattle.integers.specs.Words.{i32At}
 use Rattle.integers.proofs.Integers.{back, abs-add, fits-within}
-use Rattle.monomials.specs.Lists.{table, All}
-use Rattle.monomials.specs.Points.{Exponents, exponents, samePoint, midpointOf}
-use Rattle.monomials.specs.Keys.{keyOf}
-use Rattle.monomials.specs.Sums.{Sum, coefficient}
-use Rattle.monomials.specs.Rows.{slotsAt, slots}
-use Rattle.monomials.specs.declared.points.Point.{Point}
-use Rattle.monomials.proofs.Lists.{all-append}
-use Rattle.monomials.proofs.Sums.{coefficient-nil, coefficient-cons}
-use Rattle.monomials.proofs.points.Laws.{same-eq}
-use Rattle.monomials.proofs.keys.Laws.{key-midpoint}
-use Rattle.monomials.proofs.rows.Laws.{slots-pair, slots-lone, slots-none, slots-more}
-use Rattle.checks.specs.Bounds.{greatestWeight}
+use Rattle.points.specs.Lists.{table, All}
+use Rattle.points.specs.Points.{Exponents, exponents, samePoint, midpointOf}
+use Rattle.points.specs.Keys.{keyOf}
+use Rattle.squares.specs.Sums.{Sum, coefficient}
+use Rattle.squares.specs.Rows.{slotsAt, slots}
+use Rattle.points.specs.declared.points.Point.{Point}
+use Rattle.points.proofs.Lists.{all-append}
+use Rattle.squares.proofs.Sums.{coefficient-nil, coefficient-cons}
+use Rattle.points.proofs.points.Laws.{same-eq}
+use Rattle.points.proofs.keys.Laws.{key-midpoint}
+use Rattle.squares.proofs.rows.Laws.{slots-pair, slots-lone, slots-none, slots-more}
+use Rattle.answers.specs.Bounds.{greatestWeight}
 use Rattle.sheets.specs.Layout.{variables, rowCount, tripleAt}
 use Rattle.sheets.specs.ProofSheet.{vOf, wOf, tripleOf, rowOf, rowsOf}
 use Rattle.checks.specs.WellFormed.{Within}
 use Rattle.sheets.proofs.proof_sheet.Laws.{triple-inside, p-there, q-there, r-there, row-lone, row-pair, row-v, row-w, rows-table}
-use Rattle.checks.specs.Searches.{first}
-use Rattle.checks.specs.declared.searches.Found.the-variants.{Nothing}
-use Rattle.checks.proofs.searches.Laws.{first-nothing}
+use Rattle.answers.specs.Searches.{first}
+use Rattle.answers.specs.declared.searches.Found.the-variants.{Nothing}
+use Rattle.answers.proofs.searches.Laws.{first-nothing}
 use Rattle.checks.proofs.WellFormed.{proof-room}
 use Rattle.sharing.specs.Sharing.{count}
 use Rattle.sharing.specs.Carried.{Carried}

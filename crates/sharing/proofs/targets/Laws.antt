@@ -16,26 +16,26 @@ use mir.Syntax.{w64}
 use mir.Val.{SFits, toZ}
 use mir.Facts.{toZ-pos, toZ-ofZ}
 use Rattle.integers.proofs.Integers.{back, abs-add, abs-neg, abs-mul, fits-within, ltZ-true, ltZ-false}
-use Rattle.monomials.specs.Lists.{table}
-use Rattle.monomials.specs.Points.{Exponents, exponents, samePoint, keepsSign}
-use Rattle.monomials.specs.Keys.{keyOf}
-use Rattle.monomials.specs.Sums.{Sum, coefficient}
-use Rattle.monomials.specs.Targets.{lowered, worst, target}
-use Rattle.monomials.specs.declared.points.Point.{Point}
-use Rattle.monomials.proofs.Targets.{worst-kept, worst-negative, worst-positive, target-is, lowered-constant, lowered-other}
-use Rattle.monomials.proofs.Lists.{table-none, table-more}
-use Rattle.monomials.proofs.Sums.{coefficient-nil, coefficient-cons, coefficient-append}
-use Rattle.monomials.proofs.points.Laws.{same-eq}
-use Rattle.monomials.proofs.keys.Laws.{key-zeros}
-use Rattle.checks.specs.Bounds.{greatestWeight, greatestScale}
+use Rattle.points.specs.Lists.{table}
+use Rattle.points.specs.Points.{Exponents, exponents, samePoint, keepsSign}
+use Rattle.points.specs.Keys.{keyOf}
+use Rattle.squares.specs.Sums.{Sum, coefficient}
+use Rattle.squares.specs.Targets.{lowered, worst, target}
+use Rattle.points.specs.declared.points.Point.{Point}
+use Rattle.squares.proofs.Targets.{worst-kept, worst-negative, worst-positive, target-is, lowered-constant, lowered-other}
+use Rattle.points.proofs.Lists.{table-none, table-more}
+use Rattle.squares.proofs.Sums.{coefficient-nil, coefficient-cons, coefficient-append}
+use Rattle.points.proofs.points.Laws.{same-eq}
+use Rattle.points.proofs.keys.Laws.{key-zeros}
+use Rattle.answers.specs.Bounds.{greatestWeight, greatestScale}
 use Rattle.sheets.specs.Layout.{variables, termCount}
-use Rattle.checks.specs.Searches.{first}
+use Rattle.answers.specs.Searches.{first}
 use Rattle.sheets.specs.ClaimSheet.{floorOf, termPoint, coefficientOf, termOf, termsOf}
 use Rattle.sheets.specs.ProofSheet.{scaleOf}
 use Rattle.checks.specs.WellFormed.{ClaimFacts}
-use Rattle.checks.specs.declared.searches.Found.{Found}
-use Rattle.checks.specs.declared.searches.Found.the-variants.{At, Nothing}
-use Rattle.checks.proofs.searches.Laws.{first-none, first-here, first-stays, first-on, first-inside}
+use Rattle.answers.specs.declared.searches.Found.{Found}
+use Rattle.answers.specs.declared.searches.Found.the-variants.{At, Nothing}
+use Rattle.answers.proofs.searches.Laws.{first-none, first-here, first-stays, first-on, first-inside}
 use Rattle.sheets.proofs.claim_sheet.Laws.{terms-table, term-point, term-coefficient}
 use Rattle.checks.proofs.WellFormed.{points-differ}
 use Rattle.sharing.specs.declared.targets.Aim.{Aim}

@@ -10,10 +10,10 @@ use mir.Syntax.{w32}
 use mir.Val.{SFits}
 use Rattle.integers.specs.Words.{i32At}
 use Rattle.integers.proofs.words.Laws.{Bytes, i32-fits}
-use Rattle.monomials.specs.Decomposition.{Sized}
-use Rattle.monomials.proofs.Lists.{all-table}
-use Rattle.monomials.specs.Lists.{table}
-use Rattle.monomials.proofs.points.Laws.{bytes-length}
+use Rattle.squares.specs.Decomposition.{Sized}
+use Rattle.points.proofs.Lists.{all-table}
+use Rattle.points.specs.Lists.{table}
+use Rattle.points.proofs.points.Laws.{bytes-length}
 use Rattle.sheets.specs.Layout.{variables, termCount, place, pointAt, ClaimRoom}
 use Rattle.sheets.specs.ClaimSheet.{floorOf, termPoint, coefficientOf, termOf, termsOf}
 

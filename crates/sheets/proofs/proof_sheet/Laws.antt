@@ -9,14 +9,14 @@ use lib.IntN.{ℤ, pos}
 use lib.ListN.{length}
 use Rattle.integers.specs.Words.{i32At, withI32}
 use Rattle.integers.proofs.words.Laws.{Bytes, u32-bound, i32-fits}
-use Rattle.monomials.proofs.points.Laws.{bytes-length, exponents-of}
-use Rattle.monomials.specs.Lists.{table}
-use Rattle.monomials.specs.Rows as Formal
-use Rattle.monomials.specs.Points.{exponents, pointOf, samePoint, hasMidpoint}
-use Rattle.monomials.specs.Decomposition.{Placed, Whole}
-use Rattle.monomials.specs.declared.points.Point.{Point}
-use Rattle.monomials.specs.declared.rows.Weights.{Weights}
-use Rattle.monomials.specs.declared.rows.Weights.the-variants.{Pair, Lone}
+use Rattle.points.proofs.points.Laws.{bytes-length, exponents-of}
+use Rattle.points.specs.Lists.{table}
+use Rattle.squares.specs.Rows as Formal
+use Rattle.points.specs.Points.{exponents, pointOf, samePoint, hasMidpoint}
+use Rattle.squares.specs.Decomposition.{Placed, Whole}
+use Rattle.points.specs.declared.points.Point.{Point}
+use Rattle.squares.specs.declared.rows.Weights.{Weights}
+use Rattle.squares.specs.declared.rows.Weights.the-variants.{Pair, Lone}
 use Rattle.sheets.specs.Layout.{variables, rowCount, place, vAt, tripleAt, ProofRoom}
 use Rattle.sheets.specs.ProofSheet.{scaleOf, vOf, wOf, wordsAt, tripleOf, weightsOf, rowOf, rowsOf, byValue, tripleFor, Narrow, withTriple}
 use Rattle.sheets.specs.declared.proof_sheet.Row.{Row}

@@ -12,13 +12,13 @@ use lib.IntN.{ℤ, pos}
 use lib.ListN.{length, getD}
 use Rattle.integers.specs.Words.{i32At, withI32}
 use Rattle.integers.proofs.words.Laws.{Bytes, same-bits, written-length, written-before, written-after, written-append, read-before, read-written, written-read}
-use Rattle.monomials.specs.Points.{bytesAt, samePoint}
-use Rattle.monomials.specs.Lists.{table}
-use Rattle.monomials.specs.Rows.{Row}
-use Rattle.monomials.proofs.Lists.{table-same}
-use Rattle.monomials.proofs.points.Laws.{bytes-same}
-use Rattle.monomials.specs.declared.rows.Weights.{Weights}
-use Rattle.monomials.specs.declared.rows.Weights.the-variants.{Pair, Lone}
+use Rattle.points.specs.Points.{bytesAt, samePoint}
+use Rattle.points.specs.Lists.{table}
+use Rattle.squares.specs.Rows.{Row}
+use Rattle.points.proofs.Lists.{table-same}
+use Rattle.points.proofs.points.Laws.{bytes-same}
+use Rattle.squares.specs.declared.rows.Weights.{Weights}
+use Rattle.squares.specs.declared.rows.Weights.the-variants.{Pair, Lone}
 use Rattle.sheets.specs.Layout.{variables, rowCount, place, vAt, wAt, tripleAt, proofLength, ProofRoom}
 use Rattle.sheets.specs.ProofSheet.{scaleOf, vOf, wOf, wordsAt, tripleOf, weightsOf, rowOf, rowsOf, tripleFor, Suits, Narrow, withTriple, withWeights, withRows}
 use Rattle.sheets.specs.declared.proof_sheet.Triple.{Triple}

@@ -8,15 +8,15 @@ use lib.IntN.{ℤ}
 use lib.ListN.{length, take, drop, length-append}
 use lib.Seq.{take-length}
 use Rattle.integers.proofs.Integers.{fits-within}
-use Rattle.monomials.specs.Points.{Exponents}
-use Rattle.monomials.specs.declared.rows.Weights.{Weights}
+use Rattle.points.specs.Points.{Exponents}
+use Rattle.squares.specs.declared.rows.Weights.{Weights}
 use Rattle.sheets.specs.Layout.{variables, rowCount, proofLength, ProofRoom}
 use Rattle.sheets.specs.ProofSheet.{scaleOf, tripleOf, rowsOf, tripleFor, byValue, Narrow, withWeights, withRows}
 use Rattle.sheets.specs.declared.proof_sheet.Row.{Row}
 use Rattle.sheets.specs.declared.proof_sheet.Triple.{Triple}
 use Rattle.sheets.proofs.proof_sheet.Laws.{value-weights}
 use Rattle.sheets.proofs.proof_sheet.Writing.{all-none, all-more, all-length, all-before, all-scale, all-append, all-read, sheet-read}
-use Rattle.checks.specs.Bounds.{greatestWeight}
+use Rattle.answers.specs.Bounds.{greatestWeight}
 use Rattle.checks.specs.WellFormed.{Within}
 use Rattle.checks.proofs.WellFormed.{proof-room}
 use Rattle.sharing.specs.Targets.{targetOf}

@@ -13,27 +13,27 @@ use mir.Syntax.{w64}
 use mir.Val.{SFits}
 use mir.Facts.{toZ-ofZ}
 use Rattle.integers.proofs.Integers.{back, abs-mul, fits-within, ltZ-false, le-ltZ}
-use Rattle.monomials.specs.Rows.{Row}
-use Rattle.monomials.specs.Rows as Formal
-use Rattle.monomials.specs.declared.rows.Weights.{Weights}
-use Rattle.monomials.specs.declared.rows.Weights.the-variants.{Pair, Lone}
+use Rattle.squares.specs.Rows.{Row}
+use Rattle.squares.specs.Rows as Formal
+use Rattle.squares.specs.declared.rows.Weights.{Weights}
+use Rattle.squares.specs.declared.rows.Weights.the-variants.{Pair, Lone}
 use Rattle.sheets.specs.ProofSheet.{tripleFor, byValue}
 use Rattle.sheets.specs.declared.proof_sheet.Triple.{Triple}
 use Rattle.sheets.specs.declared.proof_sheet.Row as Value
 use Rattle.sheets.proofs.proof_sheet.Laws.{for-lone, for-pair, value-weights}
-use Rattle.checks.specs.Answers.{says, accepted, Passes}
-use Rattle.checks.specs.Bounds.{beyond, greatestWeight}
+use Rattle.answers.specs.Answers.{says, accepted, Passes}
+use Rattle.answers.specs.Bounds.{beyond, greatestWeight}
 use Rattle.checks.specs.ProofChecks.{anyBeyond}
 use Rattle.checks.specs.WellFormed.{Within}
-use Rattle.checks.specs.Searches.{first}
-use Rattle.checks.specs.declared.answers.Sheet.the-variants.{Proof}
-use Rattle.checks.specs.declared.answers.Verdict.{Verdict}
-use Rattle.checks.specs.declared.answers.Verdict.the-variants.{Accepted, Refused}
-use Rattle.checks.specs.declared.searches.Found.{Found}
-use Rattle.checks.specs.declared.searches.Found.the-variants.{At, Nothing}
-use Rattle.checks.proofs.answers.Laws.{passes-at, refused-at, passed-at, accepted-says, late-says}
-use Rattle.checks.proofs.bounds.Laws.{within-bound, bound-within}
-use Rattle.checks.proofs.searches.Laws.{first-none, first-here, first-stays, first-on, first-nothing, nothing-first}
+use Rattle.answers.specs.Searches.{first}
+use Rattle.answers.specs.declared.answers.Sheet.the-variants.{Proof}
+use Rattle.answers.specs.declared.answers.Verdict.{Verdict}
+use Rattle.answers.specs.declared.answers.Verdict.the-variants.{Accepted, Refused}
+use Rattle.answers.specs.declared.searches.Found.{Found}
+use Rattle.answers.specs.declared.searches.Found.the-variants.{At, Nothing}
+use Rattle.answers.proofs.answers.Laws.{passes-at, refused-at, passed-at, accepted-says, refused-says}
+use Rattle.answers.proofs.bounds.Laws.{within-bound, bound-within}
+use Rattle.answers.proofs.searches.Laws.{first-none, first-here, first-stays, first-on, first-nothing, nothing-first}
 use Rattle.checks.proofs.WellFormed.{none-beyond, within-none}
 use Rattle.weighing.specs.Judgements.{negative, large, judgePair, judgeLone, judgementOf, numberOf, judgedNumber, judgedAs, kept, noted, firstsTo, judgedAnswer}
 use Rattle.weighing.specs.declared.judgements.Firsts.{Firsts}
@@ -202,20 +202,20 @@ module _ (limit : ℕ) (row : ℕ → Row) where
 module _ (f : Firsts) (k : ℕ) (a : Found) (ea : a ≡ f .beyond) where
   pub chosen-beyond : (i : ℕ) → a ≡ At i → says (Refused (Proof 17 i)) ≡ judgedAnswer f k
   unfolding judgedAnswer
-  chosen-beyond i h = refused-at _ a _ 17 _ ea i h (late-says 17 i (omega arith) (omega arith))
+  chosen-beyond i h = refused-at _ a _ 17 _ ea i h (refused-says _ 17 i refl)
 
   module _ (h : a ≡ Nothing) (b : Found) (eb : b ≡ f .negative) where
     pub chosen-negative : (i : ℕ) → b ≡ At i → says (Refused (Proof 18 i)) ≡ judgedAnswer f k
     unfolding judgedAnswer
     chosen-negative i g =
-        passed-at _ a _ 17 _ ea h (refused-at _ b _ 18 _ eb i g (late-says 18 i (omega arith) (omega arith)))
+        passed-at _ a _ 17 _ ea h (refused-at _ b _ 18 _ eb i g (refused-says _ 18 i refl))
 
     module _ (g : b ≡ Nothing) (d : Found) (ed : d ≡ f .large) where
       pub chosen-large : (i : ℕ) → d ≡ At i → says (Refused (Proof 19 i)) ≡ judgedAnswer f k
       unfolding judgedAnswer
       chosen-large i l =
           passed-at _ a _ 17 _ ea h
-          (passed-at _ b _ 18 _ eb g (refused-at _ d _ 19 _ ed i l (late-says 19 i (omega arith) (omega arith))))
+          (passed-at _ b _ 18 _ eb g (refused-at _ d _ 19 _ ed i l (refused-says _ 19 i refl)))
 
       pub chosen-accepted : d ≡ Nothing → says (Accepted k) ≡ judgedAnswer f k
       unfolding judgedAnswer
@@ -305,9 +305,9 @@ module _ (limit : ℕ) (row : ℕ → Row) (k : ℕ) where
       → Within limit (tripleFor (row i .weights)) × Formal.Holds (row i .weights)
   unfolding judgedAnswer firstsTo judgedAs judgedNumber
   judged-passed h i l =
-      let a = passes-at _ 17 _ h in
-      let b = passes-at _ 18 _ (a .1) in
-      let d = passes-at _ 19 _ (b .1) in
+      let a = passes-at _ 17 _ refl h in
+      let b = passes-at _ 18 _ refl (a .1) in
+      let d = passes-at _ 19 _ refl (b .1) in
       judged-holds limit (row i .weights)
       (numbered _ (first-nothing _ k (a .0) i l) (first-nothing _ k (b .0) i l) (first-nothing _ k (d .0) i l))
 

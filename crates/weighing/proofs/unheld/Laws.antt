@@ -10,27 +10,27 @@ use lib.IntN.{ℤ, pos, natAbs}
 use lib.ListN.{length, replicate, length-replicate}
 use borrow.Author.Tests.{eq-eqb, ne-eqb, lt-ltb, le-ltb, ltb-true, eqb-true}
 use Rattle.integers.proofs.Integers.{abs-zero}
-use Rattle.monomials.specs.Lists.{All}
-use Rattle.monomials.specs.Points.{Exponents, exponents, pointOf, samePoint}
-use Rattle.monomials.specs.Keys.{keyOf}
-use Rattle.monomials.specs.Sums.{coefficient}
-use Rattle.monomials.specs.Rows.{slots}
-use Rattle.monomials.specs.declared.points.Point.{Point}
-use Rattle.monomials.proofs.points.Laws.{same-eq, exponents-of, zeros-point}
-use Rattle.monomials.proofs.Lists.{all-table}
-use Rattle.monomials.proofs.Sums.{coefficient-none}
-use Rattle.monomials.proofs.Targets.{target-zero, lowered-other}
+use Rattle.points.specs.Lists.{All}
+use Rattle.points.specs.Points.{Exponents, exponents, pointOf, samePoint}
+use Rattle.points.specs.Keys.{keyOf}
+use Rattle.squares.specs.Sums.{coefficient}
+use Rattle.squares.specs.Rows.{slots}
+use Rattle.points.specs.declared.points.Point.{Point}
+use Rattle.points.proofs.points.Laws.{same-eq, exponents-of, zeros-point}
+use Rattle.points.proofs.Lists.{all-table}
+use Rattle.squares.proofs.Sums.{coefficient-none}
+use Rattle.squares.proofs.Targets.{target-zero, lowered-other}
 use Rattle.sheets.specs.Layout.{variables, termCount, rowCount}
 use Rattle.sheets.specs.ClaimSheet.{termPoint, termOf, termsOf}
 use Rattle.sheets.proofs.claim_sheet.Laws.{terms-table, term-point, point-length}
 use Rattle.sheets.specs.ProofSheet.{rowsOf}
-use Rattle.checks.specs.Answers.{Passes}
-use Rattle.checks.specs.Searches.{first}
+use Rattle.answers.specs.Answers.{Passes}
+use Rattle.answers.specs.Searches.{first}
 use Rattle.checks.specs.WellFormed.{ClaimFacts}
-use Rattle.checks.specs.declared.searches.Found.the-variants.{At, Nothing}
-use Rattle.checks.specs.declared.answers.Verdict.the-variants.{Accepted}
-use Rattle.checks.proofs.answers.Laws.{passes-at, passed-at, accepted-says, passed}
-use Rattle.checks.proofs.searches.Laws.{first-at, first-on, first-end, first-nothing, nothing-first}
+use Rattle.answers.specs.declared.searches.Found.the-variants.{At, Nothing}
+use Rattle.answers.specs.declared.answers.Verdict.the-variants.{Accepted}
+use Rattle.answers.proofs.answers.Laws.{passes-at, passed-at, accepted-says, passed}
+use Rattle.answers.proofs.searches.Laws.{first-at, first-on, first-end, first-nothing, nothing-first}
 use Rattle.sharing.specs.Carried.{Carried}
 use Rattle.sharing.specs.Sharing.{count}
 use Rattle.sharing.specs.Targets.{targetOf}
@@ -187,7 +187,7 @@ module _ (c s : List ℕ) (a : Aim) where
   module _ (h : Passes (unheldAnswer τ c s)) where
     listed : (i : ℕ) → i < suc (termCount c) → unheldAt τ s (pointFor c (variables c) (termCount c) i) ≡ false
     unfolding unheldAnswer unheld
-    listed = first-nothing _ (suc (termCount c)) (passes-at _ 16 _ h .0)
+    listed = first-nothing _ (suc (termCount c)) (passes-at _ 16 _ refl h .0)
 
     listed-constant : unheldAt τ s (replicate (variables c) 0) ≡ false
     unfolding pointFor

@@ -4,17 +4,17 @@ use mathlib.Core.List.{List}
 use Prim.Native.Nat.{ℕ, suc}
 use native.Mathlib.Omega.{arith}
 use lib.IntN.{ℤ}
-use Rattle.monomials.specs.Points.{Exponents}
+use Rattle.points.specs.Points.{Exponents}
 use Rattle.sheets.specs.Layout.{termCount, rowCount}
-use Rattle.checks.specs.Answers.{says}
-use Rattle.checks.specs.Bounds.{greatestWeight}
-use Rattle.checks.specs.Searches.{first}
-use Rattle.checks.specs.declared.answers.Sheet.the-variants.{Proof}
-use Rattle.checks.specs.declared.answers.Verdict.{Verdict}
-use Rattle.checks.specs.declared.answers.Verdict.the-variants.{Accepted, Refused}
-use Rattle.checks.specs.declared.searches.Found.{Found}
-use Rattle.checks.specs.declared.searches.Found.the-variants.{At, Nothing}
-use Rattle.checks.proofs.answers.Laws.{refused-at, passed-at, accepted-says, late-says, then-refused, then-passed}
+use Rattle.answers.specs.Answers.{says}
+use Rattle.answers.specs.Bounds.{greatestWeight}
+use Rattle.answers.specs.Searches.{first}
+use Rattle.answers.specs.declared.answers.Sheet.the-variants.{Proof}
+use Rattle.answers.specs.declared.answers.Verdict.{Verdict}
+use Rattle.answers.specs.declared.answers.Verdict.the-variants.{Accepted, Refused}
+use Rattle.answers.specs.declared.searches.Found.{Found}
+use Rattle.answers.specs.declared.searches.Found.the-variants.{At, Nothing}
+use Rattle.answers.proofs.answers.Laws.{refused-at, passed-at, accepted-says, refused-says, then-refused, then-passed}
 use Rattle.sharing.specs.Shifts.{shiftedRow}
 use Rattle.weighing.specs.Unheld.{unheld, unheldAnswer}
 use Rattle.weighing.specs.Judgements.{firstsTo, judgedAnswer}
@@ -26,7 +26,7 @@ module _ (τ : Exponents → ℤ) (c s : List ℕ) (f : Found) (e : f ≡ first 
   pub weighed-unheld : (i : ℕ) → f ≡ At i → says (Refused (Proof 16 i)) ≡ weighedAnswer τ c s
   unfolding weighedAnswer unheldAnswer
   weighed-unheld i h =
-      then-refused _ _ (refused-at _ f _ 16 _ e i h (late-says 16 i (omega arith) (omega arith))) (Proof 16 i) refl _
+      then-refused _ _ (refused-at _ f _ 16 _ e i h (refused-says _ 16 i refl)) (Proof 16 i) refl _
 
   pub weighed-judged : (v : Verdict) → f ≡ Nothing
       → says v ≡ judgedAnswer (firstsTo greatestWeight (shiftedRow τ s) (rowCount s)) (rowCount s)

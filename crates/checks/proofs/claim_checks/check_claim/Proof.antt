@@ -1,8 +1,7 @@
 use borrow.Author.Tests.{lt-ltb, le-ltb}
 use mir.Facts.{toZ-ofZ}
-use Rattle.checks.specs.Answers.{blames}
 use Rattle.checks.specs.ClaimChecks.{claimAnswer}
-use Rattle.checks.proofs.answers.Laws.{refused-if, passed-if, tested, claim-says}
+use Rattle.answers.proofs.answers.Laws.{refused-if, passed-if, tested, refused-says}
 use Rattle.sheets.proofs.layout.Laws.{length-other, length-same, claim-asked}
 use Rattle.checks.proofs.claim_checks.Laws.{terms-room, floor-judged, terms-judged}
 use borrow.Author.Needs.{needs}
@@ -10,17 +9,17 @@ use Rattle.checks.proofs.claim_checks.check_claim.Statement.{statement}
 use Rattle.checks.proofs.claim_checks.check_claim.Tie as tie
 
 returns : tie.Need-returns
-unfolding claimAnswer blames
-returns c = refused-if _ _ 1 _ (search lt-ltb) (search claim-says)
+unfolding claimAnswer
+returns c = refused-if _ _ 1 _ (search lt-ltb) (search refused-says)
 
 header-wrong-requires : tie.Need-header-wrong-requires
 header-wrong-requires c κs = search needs
 
 returns-2 : tie.Need-returns-2
-unfolding claimAnswer blames
+unfolding claimAnswer
 returns-2 c =
     passed-if _ _ 1 _ (search le-ltb)
-    (refused-if _ _ 2 _ (search tested) (search claim-says))
+    (refused-if _ _ 2 _ (search tested) (search refused-says))
 
 variables-requires : tie.Need-variables-requires
 variables-requires c κs = search needs
@@ -35,11 +34,11 @@ place-of-requires : tie.Need-place-of-requires
 place-of-requires c κs = search needs
 
 returns-3 : tie.Need-returns-3
-unfolding claimAnswer blames
+unfolding claimAnswer
 returns-3 c =
     passed-if _ _ 1 _ (search le-ltb)
     (passed-if _ _ 2 _ (search tested)
-    (refused-if _ _ 3 _ (length-other _ _ _ (c .if3 .taken) (search claim-asked)) (search claim-says)))
+    (refused-if _ _ 3 _ (length-other _ _ _ (c .if3 .taken) (search claim-asked)) (search refused-says)))
 
 floor-requires : tie.Need-floor-requires
 floor-requires c κs = search needs
@@ -48,12 +47,12 @@ is-beyond-requires : tie.Need-is-beyond-requires
 is-beyond-requires c κs = search needs
 
 returns-4 : tie.Need-returns-4
-unfolding claimAnswer blames
+unfolding claimAnswer
 returns-4 c =
     passed-if _ _ 1 _ (search le-ltb)
     (passed-if _ _ 2 _ (search tested)
     (passed-if _ _ 3 _ (search (length-same, claim-asked))
-    (refused-if _ _ 4 _ (search (floor-judged, toZ-ofZ)) (search claim-says))))
+    (refused-if _ _ 4 _ (search (floor-judged, toZ-ofZ)) (search refused-says))))
 
 check-terms-requires : tie.Need-check-terms-requires
 check-terms-requires c κs = search terms-room

@@ -1,6 +1,5 @@
-use Rattle.checks.specs.Answers.{blames}
 use Rattle.checks.specs.ClaimChecks.{termsAnswer}
-use Rattle.checks.proofs.answers.Laws.{refused-at, passed-at, accepted-says, claim-says}
+use Rattle.answers.proofs.answers.Laws.{refused-at, passed-at, accepted-says, refused-says}
 use borrow.Author.Needs.{needs}
 use Rattle.checks.proofs.claim_checks.check_terms.Statement.{statement}
 use Rattle.checks.proofs.claim_checks.check_terms.Tie as tie
@@ -12,8 +11,8 @@ enum-known-i : tie.Need-enum-known-i
 enum-known-i c = search needs
 
 returns : tie.Need-returns
-unfolding termsAnswer blames
-returns c = search (refused-at, passed-at, claim-says)
+unfolding termsAnswer
+returns c = search (refused-at, passed-at, refused-says)
 
 enum-told : tie.Need-enum-told
 enum-told c = search needs
@@ -25,8 +24,8 @@ enum-known-i-2 : tie.Need-enum-known-i-2
 enum-known-i-2 c = search needs
 
 returns-2 : tie.Need-returns-2
-unfolding termsAnswer blames
-returns-2 c = search (refused-at, passed-at, claim-says)
+unfolding termsAnswer
+returns-2 c = search (refused-at, passed-at, refused-says)
 
 enum-told-2 : tie.Need-enum-told-2
 enum-told-2 c = search needs
@@ -38,8 +37,8 @@ enum-known-i-3 : tie.Need-enum-known-i-3
 enum-known-i-3 c = search needs
 
 returns-3 : tie.Need-returns-3
-unfolding termsAnswer blames
-returns-3 c = search (refused-at, passed-at, claim-says)
+unfolding termsAnswer
+returns-3 c = search (refused-at, passed-at, refused-says)
 
 enum-told-3 : tie.Need-enum-told-3
 enum-told-3 c = search needs

@@ -1,24 +1,23 @@
 use borrow.Author.Tests.{lt-ltb, le-ltb}
-use Rattle.checks.specs.Answers.{blames}
 use Rattle.checks.specs.ProofChecks.{headerAnswer}
-use Rattle.checks.proofs.answers.Laws.{refused-if, passed-if, tested, accepted-says, proof-says}
+use Rattle.answers.proofs.answers.Laws.{refused-if, passed-if, tested, accepted-says, refused-says}
 use Rattle.sheets.proofs.layout.Laws.{length-other, length-same, proof-asked}
 use borrow.Author.Needs.{needs}
 use Rattle.checks.proofs.proof_checks.check_header.Statement.{statement}
 use Rattle.checks.proofs.proof_checks.check_header.Tie as tie
 
 returns : tie.Need-returns
-unfolding headerAnswer blames
-returns c = refused-if _ _ 8 _ (search lt-ltb) (search proof-says)
+unfolding headerAnswer
+returns c = refused-if _ _ 8 _ (search lt-ltb) (search refused-says)
 
 header-wrong-requires : tie.Need-header-wrong-requires
 header-wrong-requires c κs = search needs
 
 returns-2 : tie.Need-returns-2
-unfolding headerAnswer blames
+unfolding headerAnswer
 returns-2 c =
     passed-if _ _ 8 _ (search le-ltb)
-    (refused-if _ _ 9 _ (search tested) (search proof-says))
+    (refused-if _ _ 9 _ (search tested) (search refused-says))
 
 row-count-requires : tie.Need-row-count-requires
 row-count-requires c κs = search needs
@@ -36,11 +35,11 @@ place-of-requires : tie.Need-place-of-requires
 place-of-requires c κs = search needs
 
 returns-3 : tie.Need-returns-3
-unfolding headerAnswer blames
+unfolding headerAnswer
 returns-3 c =
     passed-if _ _ 8 _ (search le-ltb)
     (passed-if _ _ 9 _ (search tested)
-    (refused-if _ _ 10 _ (length-other _ _ _ (c .if3 .taken) (search proof-asked)) (search proof-says)))
+    (refused-if _ _ 10 _ (length-other _ _ _ (c .if3 .taken) (search proof-asked)) (search refused-says)))
 
 returns-4 : tie.Need-returns-4
 unfolding headerAnswer

@@ -5,9 +5,9 @@ use lib.IntN.{natAbs}
 use mir.Syntax.{w64}
 use mir.Val.{ofZ}
 use mir.Facts.{toZ-ofZ}
-use Rattle.checks.specs.Searches.{first}
-use Rattle.checks.specs.declared.searches.Found.the-variants.{Nothing}
-use Rattle.checks.proofs.searches.Laws.{first-none}
+use Rattle.answers.specs.Searches.{first}
+use Rattle.answers.specs.declared.searches.Found.the-variants.{Nothing}
+use Rattle.answers.proofs.searches.Laws.{first-none}
 use Rattle.evaluation.specs.Evaluations.{large, sumTo}
 use Rattle.evaluation.proofs.evaluations.Laws.{sum-start, small-start, large-here, none-more, small-more, sum-fits, sum-next, summed-all}
 use Rattle.evaluation.proofs.evaluations.summed.Statement.{statement}

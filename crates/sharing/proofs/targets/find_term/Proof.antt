@@ -1,9 +1,9 @@
 use borrow.Author.Needs.{needs}
 use Prim.Native.Nat.{_≤_, _-_}
 use mathlib.Core.Path.{_≡_}
-use Rattle.checks.specs.Searches.{first}
-use Rattle.checks.specs.declared.searches.Found.the-variants.{Nothing}
-use Rattle.checks.proofs.searches.Laws.{first-none, first-at, first-on, first-end}
+use Rattle.answers.specs.Searches.{first}
+use Rattle.answers.specs.declared.searches.Found.the-variants.{Nothing}
+use Rattle.answers.proofs.searches.Laws.{first-none, first-at, first-on, first-end}
 use Rattle.sharing.specs.Targets.{hasKey}
 use Rattle.sharing.proofs.targets.find_term.Statement.{statement}
 use Rattle.sharing.proofs.targets.find_term.Tie as tie

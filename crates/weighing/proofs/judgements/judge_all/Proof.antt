@@ -1,7 +1,7 @@
 use borrow.Author.Needs.{needs}
 use Prim.Native.Nat.{_≤_, _-_}
 use mathlib.Core.Path.{_≡_}
-use Rattle.checks.specs.Bounds.{greatestWeight}
+use Rattle.answers.specs.Bounds.{greatestWeight}
 use Rattle.sharing.specs.Targets.{targetOf}
 use Rattle.sharing.specs.Shifts.{shiftedRow}
 use Rattle.weighing.specs.Judgements.{firstsTo}

@@ -6,10 +6,10 @@ use mathlib.Core.Logic.{⊎-elim}
 use native.Mathlib.Omega.{arith}
 use lib.Dec.{eqb}
 use lib.IntN.{natAbs}
-use Rattle.monomials.specs.Keys.{keyOf}
-use Rattle.checks.specs.Searches.{first}
-use Rattle.checks.specs.declared.searches.Found.the-variants.{Nothing}
-use Rattle.checks.proofs.searches.Laws.{first-none, first-on}
+use Rattle.points.specs.Keys.{keyOf}
+use Rattle.answers.specs.Searches.{first}
+use Rattle.answers.specs.declared.searches.Found.the-variants.{Nothing}
+use Rattle.answers.proofs.searches.Laws.{first-none, first-on}
 use Rattle.sharing.specs.Targets.{targetOf}
 use Rattle.sharing.specs.Slots.{holdsKey}
 use Rattle.weighing.specs.Unheld.{pointFor, unheld}

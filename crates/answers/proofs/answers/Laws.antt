@@ -1,0 +1,139 @@
+-- Laws of answers: what it says of each check that all are passed, and the ways through checks one after another.
+use mathlib.Core.Path.{_≡_, refl, sym, _∙_}
+use mathlib.Core.Bool.{Bool, true, false, cond, false≢true}
+use Prim.Native.Nat.{ℕ}
+use Rattle.answers.specs.Answers.{Answer, refusal, says, blames, accepted, refused, refuseIf, refuseAt, faultless, blameless, andThen, Passes}
+use Rattle.answers.specs.declared.answers.Sheet.{Sheet}
+use Rattle.answers.specs.declared.answers.Sheet.the-variants.{Claim, Proof, Output, Offsets, Range, Limits, Page, Profile, Buffer, Table, Site}
+use Rattle.answers.specs.declared.answers.Verdict.{Verdict}
+use Rattle.answers.specs.declared.answers.Verdict.the-variants.{Accepted, Refused}
+use Rattle.answers.specs.declared.searches.Found.{Found}
+use Rattle.answers.specs.declared.searches.Found.the-variants.{At, Nothing}
+
+-- a number that blames a sheet is no acceptance's
+abbrev pub Blames : ℕ → Type 0
+Blames number = faultless (blames number) ≡ false
+
+refused-blames : (number index : ℕ) → Blames number → blameless (refused number index) ≡ false
+unfolding blameless refused
+refused-blames number index h = h
+
+pub passes-if : (b : Bool) (number : ℕ) (later : Answer) → Blames number → Passes (refuseIf b number later)
+    → (b ≡ false) × Passes later
+unfolding refuseIf
+passes-if true number later n h = absurd (false≢true (sym (refused-blames number 0 n) ∙ h))
+passes-if false number later n h = (refl, h)
+
+pub passes-at : (f : Found) (number : ℕ) (later : Answer) → Blames number → Passes (refuseAt f number later)
+    → (f ≡ Nothing) × Passes later
+unfolding refuseAt
+passes-at (At i) number later n h = absurd (false≢true (sym (refused-blames number i n) ∙ h))
+passes-at Nothing number later n h = (refl, h)
+
+pub passes-then : (a later : Answer) → Passes (andThen a later) → Passes a × Passes later
+unfolding andThen
+passes-then a later h = go (blameless a) refl h
+  where
+    go : (b : Bool) → blameless a ≡ b → blameless (cond b later a) ≡ true → Passes a × Passes later
+    go true e k = (e, k)
+    go false e k = absurd (false≢true (sym e ∙ k))
+
+pub then-passes : (a later : Answer) → Passes a → Passes later → Passes (andThen a later)
+unfolding andThen
+then-passes a later h k = rw h k
+
+pub then-on : (a later : Answer) → Passes a → andThen a later ≡ later
+unfolding andThen
+then-on a later h = rw h
+
+pub if-on : (b : Bool) (number : ℕ) (later : Answer) → b ≡ false → refuseIf b number later ≡ later
+unfolding refuseIf
+if-on b number later h = rw h
+
+pub at-on : (f : Found) (number : ℕ) (later : Answer) → f ≡ Nothing → refuseAt f number later ≡ later
+unfolding refuseAt
+at-on f number later h = rw h
+
+pub accepted-passes : (a : Answer) (k : ℕ) → a ≡ accepted k → Passes a
+unfolding blameless accepted
+accepted-passes a k e = rw e
+
+-- v is the verdict on the checks before, r on those after
+module _ (v : Verdict) (a : Answer) (e : says v ≡ a) where
+  module _ (x : Sheet) (h : v ≡ Refused x) where
+    pub failed : blameless a ≡ false
+    unfolding says blameless
+    failed = rw (← e, h) (go x)
+      where
+        go : (x : Sheet) → blameless (says (Refused x)) ≡ false
+        go (Claim number index) = refl
+        go (Proof number index) = refl
+        go (Output number index) = refl
+        go (Offsets number index) = refl
+        go (Range number index) = refl
+        go (Limits number index) = refl
+        go (Page number index) = refl
+        go (Profile number index) = refl
+        go (Buffer number index) = refl
+        go (Table number index) = refl
+        go (Site number index) = refl
+
+    pub then-refused : (later : Answer) → says v ≡ andThen a later
+    unfolding andThen
+    then-refused later = rw failed e
+
+  module _ (k : ℕ) (h : v ≡ Accepted k) where
+    pub passed : Passes a
+    unfolding blameless says accepted
+    passed = rw (← e, h)
+
+    pub then-passed : (r : Verdict) (later : Answer) → says r ≡ later → says r ≡ andThen a later
+    unfolding andThen
+    then-passed r later q = rw passed q
+
+-- ---- the ways through a chain of checks
+
+module _ (v : Verdict) (wrong : Bool) (number : ℕ) (later : Answer) where
+  pub refused-if : wrong ≡ true → says v ≡ refused number 0 → says v ≡ refuseIf wrong number later
+  unfolding refuseIf
+  refused-if h k = rw h k
+
+  pub passed-if : wrong ≡ false → says v ≡ later → says v ≡ refuseIf wrong number later
+  unfolding refuseIf
+  passed-if h k = rw h k
+
+-- r is what a test's function answered
+pub tested : (wrong b r : Bool) → r ≡ wrong → r ≡ b → wrong ≡ b
+tested wrong b r e h = sym e ∙ h
+
+-- f is what a search answered
+module _ (v : Verdict) (f found : Found) (number : ℕ) (later : Answer) (e : f ≡ found) where
+  pub refused-at : (i : ℕ) → f ≡ At i → says v ≡ refused number i → says v ≡ refuseAt found number later
+  unfolding refuseAt
+  refused-at i h k = rw (← e, h) k
+
+  pub passed-at : f ≡ Nothing → says v ≡ later → says v ≡ refuseAt found number later
+  unfolding refuseAt
+  passed-at h k = rw (← e, h) k
+
+-- ---- what a verdict says
+
+pub accepted-says : (k : ℕ) → says (Accepted k) ≡ accepted k
+unfolding says
+accepted-says k = refl
+
+-- a refusal, where its sheet is the one that its number blames
+pub refused-says : (x : Sheet) (number index : ℕ)
+    → refusal x ≡ record { number = number; blamed = blames number; value = index }
+    → says (Refused x) ≡ refused number index
+unfolding says refused
+refused-says x number index h = h
+
+pub accepted-value : (k : ℕ) → says (Accepted k) .value ≡ k
+unfolding says accepted
+accepted-value k = refl
+
+pub accepted-number : (v : Verdict) → Passes (says v) → says v .number ≡ 0
+unfolding says accepted
+accepted-number (Accepted k) h = refl
+accepted-number (Refused x) h = absurd (false≢true (sym (failed (Refused x) _ refl x refl) ∙ h))

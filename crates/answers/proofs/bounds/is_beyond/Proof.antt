@@ -1,0 +1,14 @@
+use mir.Facts.{toZ-ofZ}
+use Rattle.answers.proofs.bounds.Laws.{beyond-is}
+use borrow.Author.Needs.{needs}
+use Rattle.answers.proofs.bounds.is_beyond.Statement.{statement}
+use Rattle.answers.proofs.bounds.is_beyond.Tie as tie
+
+magnitude-requires : tie.Need-magnitude-requires
+magnitude-requires c κs = search needs
+
+returns : tie.Need-returns
+returns c = search (beyond-is, toZ-ofZ)
+
+pub is-beyond-spec : {M : Type 1} → statement M
+is-beyond-spec = tie.close (tie.spec magnitude-requires returns)

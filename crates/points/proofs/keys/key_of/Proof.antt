@@ -1,0 +1,60 @@
+use borrow.Author.Needs.{needs}
+use Prim.Native.Nat.{_≤_, _<_, _^_, _-_, _*_}
+use mathlib.Core.Path.{_≡_}
+use lib.ListN.{length}
+use Rattle.points.proofs.keys.Laws.{keyFrom, from-none, from-on, from-first, from-low, from-lower, times-fits, plus-fits}
+use Rattle.points.proofs.keys.key_of.Statement.{statement}
+use Rattle.points.proofs.keys.key_of.Tie as tie
+
+abbrev Inv-loop : tie.InvT-loop
+Inv-loop x i₀ key₀ i key = (i ≤ i₀) × (i₀ ≤ 8) × (length x ≡ 8) × (key ≡ keyFrom x i₀ i) × (key < 2 ^ (8 * (8 - i)))
+
+abbrev μ-loop : tie.MeasureT-loop
+μ-loop x i₀ key₀ i key = i
+
+variables-requires : tie.Need-variables-requires Inv-loop μ-loop
+variables-requires c κs = search needs
+
+loop-holds : tie.Need-loop-holds Inv-loop μ-loop
+loop-holds c = search (needs, from-none, from-low)
+
+sub-i : tie.Need-sub-i Inv-loop μ-loop
+sub-i c = search needs
+
+mul-key : tie.Need-mul-key Inv-loop μ-loop
+mul-key c = search times-fits
+
+array-read-wide : tie.Need-array-read-wide Inv-loop μ-loop
+array-read-wide c = search needs
+
+wide-requires : tie.Need-wide-requires Inv-loop μ-loop
+wide-requires c κs = search needs
+
+add-key : tie.Need-add-key Inv-loop μ-loop
+add-key c = search plus-fits
+
+loop-less : tie.Need-loop-less Inv-loop μ-loop
+loop-less c = search needs
+
+loop-again : tie.Need-loop-again Inv-loop μ-loop
+loop-again c = search (needs, from-on, from-lower)
+
+returns : tie.Need-returns Inv-loop μ-loop
+returns c = search from-first
+
+pub key-of-spec : {M : Type 1} → statement M
+key-of-spec =
+    tie.close
+    (tie.spec
+    Inv-loop
+    μ-loop
+    variables-requires
+    loop-holds
+    sub-i
+    mul-key
+    array-read-wide
+    wide-requires
+    add-key
+    loop-less
+    loop-again
+    returns)

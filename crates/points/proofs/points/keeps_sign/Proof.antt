@@ -1,0 +1,58 @@
+use borrow.Author.Needs.{needs}
+use Prim.Native.Nat.{_-_, _≤_}
+use mathlib.Core.Path.{_≡_}
+use Prim.Native.Nat.{_%_}
+use lib.Dec.{eqb}
+use lib.ListN.{length}
+use borrow.Author.Tests.{eq-eqb, ne-eqb}
+use Rattle.points.specs.Points.{keepsSign}
+use Rattle.points.proofs.points.Laws.{Passed, passed-none, passed-on, every-stops, every-ends}
+use Rattle.points.proofs.points.keeps_sign.Statement.{statement}
+use Rattle.points.proofs.points.keeps_sign.Tie as tie
+
+abbrev Inv-loop : tie.InvT-loop
+Inv-loop n x i₀ i = (i ≤ n) × (length x ≡ 8) × Passed (λ a b. eqb (a % 2) 0) x x i
+
+abbrev μ-loop : tie.MeasureT-loop
+μ-loop n x i₀ i = n - i
+
+variables-requires : tie.Need-variables-requires Inv-loop μ-loop
+variables-requires c κs = search needs
+
+loop-holds : tie.Need-loop-holds Inv-loop μ-loop
+loop-holds c = search (needs, passed-none)
+
+array-read-if1 : tie.Need-array-read-if1 Inv-loop μ-loop
+array-read-if1 c = search needs
+
+returns : tie.Need-returns Inv-loop μ-loop
+unfolding keepsSign
+returns c = search (every-stops, ne-eqb)
+
+add-i : tie.Need-add-i Inv-loop μ-loop
+add-i c = search needs
+
+loop-less : tie.Need-loop-less Inv-loop μ-loop
+loop-less c = search needs
+
+loop-again : tie.Need-loop-again Inv-loop μ-loop
+loop-again c = search (needs, passed-on, eq-eqb)
+
+returns-2 : tie.Need-returns-2 Inv-loop μ-loop
+unfolding keepsSign
+returns-2 c = search every-ends
+
+pub keeps-sign-spec : {M : Type 1} → statement M
+keeps-sign-spec =
+    tie.close
+    (tie.spec
+    Inv-loop
+    μ-loop
+    variables-requires
+    loop-holds
+    array-read-if1
+    returns
+    add-i
+    loop-less
+    loop-again
+    returns-2)

@@ -1,0 +1,55 @@
+use borrow.Author.Needs.{needs}
+use Prim.Native.Nat.{_+_, _-_, _≤_}
+use mathlib.Core.Path.{_≡_}
+use lib.ListN.{getD}
+use Rattle.points.specs.Lists.{table}
+use Rattle.points.specs.Points.{bytesAt}
+use Rattle.points.proofs.points.Laws.{padded, filled-none, filled-on, filled-end}
+use Rattle.points.proofs.points.point_at.Statement.{statement}
+use Rattle.points.proofs.points.point_at.Tie as tie
+
+abbrev Inv-loop : tie.InvT-loop
+Inv-loop s at n exps₀ i₀ exps i = (i ≤ n) × (exps ≡ padded (table (λ j. getD s (at + j) 0) i))
+
+abbrev μ-loop : tie.MeasureT-loop
+μ-loop s at n exps₀ i₀ exps i = n - i
+
+loop-holds : tie.Need-loop-holds Inv-loop μ-loop
+loop-holds c = search (needs, filled-none)
+
+add-exps : tie.Need-add-exps Inv-loop μ-loop
+add-exps c = search needs
+
+shared-slice-read-exps : tie.Need-shared-slice-read-exps Inv-loop μ-loop
+shared-slice-read-exps c = search needs
+
+array-write-exps : tie.Need-array-write-exps Inv-loop μ-loop
+array-write-exps c = search needs
+
+add-i : tie.Need-add-i Inv-loop μ-loop
+add-i c = search needs
+
+loop-less : tie.Need-loop-less Inv-loop μ-loop
+loop-less c = search needs
+
+loop-again : tie.Need-loop-again Inv-loop μ-loop
+loop-again c = search (needs, filled-on)
+
+returns : tie.Need-returns Inv-loop μ-loop
+unfolding bytesAt
+returns c = search filled-end
+
+pub point-at-spec : {M : Type 1} → statement M
+point-at-spec =
+    tie.close
+    (tie.spec
+    Inv-loop
+    μ-loop
+    loop-holds
+    add-exps
+    shared-slice-read-exps
+    array-write-exps
+    add-i
+    loop-less
+    loop-again
+    returns)

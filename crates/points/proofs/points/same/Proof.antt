@@ -1,0 +1,70 @@
+use borrow.Author.Needs.{needs}
+use Prim.Native.Nat.{_-_, _≤_}
+use mathlib.Core.Path.{_≡_}
+use lib.Dec.{eqb}
+use lib.ListN.{length}
+use borrow.Author.Tests.{eq-eqb, ne-eqb}
+use Rattle.points.specs.Points.{samePoint}
+use Rattle.points.proofs.points.Laws.{Passed, passed-none, passed-on, pair-fewer, pair-stops, pair-ends}
+use Rattle.points.proofs.points.same.Statement.{statement}
+use Rattle.points.proofs.points.same.Tie as tie
+
+abbrev Inv-loop : tie.InvT-loop
+Inv-loop n x y i₀ i = (i ≤ n) × (length x ≡ 8) × (length y ≡ 8) × Passed eqb x y i
+
+abbrev μ-loop : tie.MeasureT-loop
+μ-loop n x y i₀ i = n - i
+
+variables-requires : tie.Need-variables-requires Inv-loop μ-loop
+variables-requires c κs = search needs
+
+variables-requires-2 : tie.Need-variables-requires-2 Inv-loop μ-loop
+variables-requires-2 c κs = search needs
+
+returns : tie.Need-returns Inv-loop μ-loop
+unfolding samePoint
+returns c = search (needs, pair-fewer)
+
+loop-holds : tie.Need-loop-holds Inv-loop μ-loop
+loop-holds c = search (needs, passed-none)
+
+array-read-if2 : tie.Need-array-read-if2 Inv-loop μ-loop
+array-read-if2 c = search needs
+
+array-read-if2-2 : tie.Need-array-read-if2-2 Inv-loop μ-loop
+array-read-if2-2 c = search needs
+
+returns-2 : tie.Need-returns-2 Inv-loop μ-loop
+unfolding samePoint
+returns-2 c = search (pair-stops, ne-eqb)
+
+add-i : tie.Need-add-i Inv-loop μ-loop
+add-i c = search needs
+
+loop-less : tie.Need-loop-less Inv-loop μ-loop
+loop-less c = search needs
+
+loop-again : tie.Need-loop-again Inv-loop μ-loop
+loop-again c = search (needs, passed-on, eq-eqb)
+
+returns-3 : tie.Need-returns-3 Inv-loop μ-loop
+unfolding samePoint
+returns-3 c = search pair-ends
+
+pub same-spec : {M : Type 1} → statement M
+same-spec =
+    tie.close
+    (tie.spec
+    Inv-loop
+    μ-loop
+    variables-requires
+    variables-requires-2
+    returns
+    loop-holds
+    array-read-if2
+    array-read-if2-2
+    returns-2
+    add-i
+    loop-less
+    loop-again
+    returns-3)

@@ -1,0 +1,66 @@
+-- Points: the exponents of a monomial, one for each variable, and what is asked of them.
+use mathlib.Core.Bool.{Bool, true, false, cond, _&&_}
+use mathlib.Core.List.{List, [], _∷_, _++_}
+use Prim.Native.Nat.{ℕ, _+_, _-_, _/_, _%_}
+use lib.Dec.{eqb, ltb, leb}
+use lib.ListN.{length, getD, take, replicate}
+use Rattle.points.specs.Lists.{table}
+use Rattle.points.specs.declared.points.Point.{Point}
+
+abbrev pub Exponents : Type 0
+Exponents = List ℕ
+
+-- the exponents of a point by value: what stands in its first n places
+unfoldable pub exponents : Point → Exponents
+exponents p = take (p .n) (p .exps)
+
+-- the point by value with given exponents, zeros after them
+unfoldable pub pointOf : Exponents → Point
+pointOf α = record { exps = α ++ replicate (8 - length α) 0; n = length α }
+
+-- "points, each of n exponent bytes": the n bytes from a place on
+unfoldable pub bytesAt : List ℕ → ℕ → ℕ → Exponents
+bytesAt s at n = table (λ i. getD s (at + i) 0) n
+
+-- a test holds of every exponent
+unfoldable pub every : (ℕ → Bool) → Exponents → Bool
+every p [] = true
+every p (a ∷ v) = p a && every p v
+
+-- a test holds of every two exponents of one variable, and the variables are as many
+unfoldable pub everyPair : (ℕ → ℕ → Bool) → Exponents → Exponents → Bool
+everyPair p [] [] = true
+everyPair p [] (b ∷ w) = false
+everyPair p (a ∷ v) [] = false
+everyPair p (a ∷ v) (b ∷ w) = p a b && everyPair p v w
+
+-- the same exponents
+unfoldable pub samePoint : Exponents → Exponents → Bool
+samePoint v w = everyPair eqb v w
+
+-- "Points rise strictly, compared by the first variable first": w is above v
+unfoldable pub risesTo : Exponents → Exponents → Bool
+risesTo [] w = false
+risesTo (a ∷ v) [] = false
+risesTo (a ∷ v) (b ∷ w) = cond (ltb a b) true (cond (ltb b a) false (risesTo v w))
+
+-- "every v + w coordinate is even"
+unfoldable pub evenSum : ℕ → ℕ → Bool
+evenSum a b = eqb ((a + b) % 2) 0
+
+unfoldable pub hasMidpoint : Exponents → Exponents → Bool
+hasMidpoint v w = everyPair evenSum v w
+
+-- "u is the midpoint"
+unfoldable pub midpointOf : Exponents → Exponents → Exponents
+midpointOf [] w = []
+midpointOf (a ∷ v) [] = []
+midpointOf (a ∷ v) (b ∷ w) = (a + b) / 2 ∷ midpointOf v w
+
+-- a monomial with these exponents is never negative: "every exponent is even"
+unfoldable pub keepsSign : Exponents → Bool
+keepsSign α = every (λ e. eqb (e % 2) 0) α
+
+-- no exponent is over the limit
+unfoldable pub exponentsWithin : ℕ → Exponents → Bool
+exponentsWithin limit α = every (λ e. leb e limit) α

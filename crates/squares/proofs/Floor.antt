@@ -1,0 +1,104 @@
+-- The floor theorem's proof. Its statement is specs/Floor.antt.
+-- First for any worth φ of points, no less than 0 at those that keep their sign; then for monomials at whole numbers.
+use mathlib.Core.Path.{_≡_, sym, _∙_, ap}
+use mathlib.Core.Bool.{true}
+use mathlib.Core.List.{List, [], _∷_}
+use Prim.Native.Nat.{ℕ, _*_, _<_}
+use native.Mathlib.Decide.{ℕ-discrete}
+use native.Mathlib.Omega.{arith}
+use lib.IntN.{ℤ, pos, negℤ, _+ℤ_, _*ℤ_}
+use lib.ListN.{length, length-replicate}
+use lib.Signed.{_≤ℤ_}
+use Rattle.integers.proofs.Integers.{ring, by-le, read-le, ≤ℤ-trans, nonneg-cancel}
+use Rattle.points.specs.Points.{Exponents, keepsSign}
+use Rattle.monomials.specs.Powers.{monomialOf}
+use Rattle.squares.specs.Sums.{Sum, coefficient, value, valueAt}
+use Rattle.squares.specs.Rows.{Row, slotsAt, slots}
+use Rattle.squares.specs.Targets.{lowered, worst, target}
+use Rattle.points.specs.Lists.{All}
+use Rattle.squares.specs.Decomposition.{Sized, Whole, Placed, AddsUp}
+use Rattle.squares.specs.Floor.{Floor}
+use Rattle.squares.specs.declared.rows.Weights.{Weights}
+use Rattle.squares.specs.declared.rows.Weights.the-variants.{Pair, Lone}
+use Rattle.points.proofs.points.Laws.{midpoint-sized}
+use Rattle.points.proofs.Lists.{all-append}
+use Rattle.squares.proofs.Targets.{worst-zero, worst-scaled, worst-below, target-zero}
+use Rattle.squares.proofs.Sums.{scaled, coefficient-scaled, value-scaled, dominate, coefficient-none}
+use Rattle.monomials.proofs.Monomials.{monomial-sign, monomial-mean, monomial-constant}
+use Rattle.squares.proofs.rows.Laws.{Mean, absolute, rows-nonneg}
+
+-- ---- any worth of points
+
+-- weights that are the target at every point are worth no more, at absolute values, than S times g
+module _ (φ : Exponents → ℤ) (signs : (α : Exponents) → keepsSign α ≡ true → pos 0 ≤ℤ φ α) where
+  pub target-bounds : (S : ℕ) (g M : Sum) → ((α : Exponents) → coefficient α M ≡ target S g α)
+      → value (absolute φ) M ≤ℤ (pos S *ℤ value φ g)
+  unfolding target
+  target-bounds S g M e =
+      rw (← (value-scaled (pos S) φ g))
+      (dominate φ (absolute φ) (λ α. worst (keepsSign α)) (λ α. worst-zero (keepsSign α))
+      (λ α c. worst-below (keepsSign α) c (φ α) (signs α)) (scaled (pos S) g) M
+      (λ α. e α ∙ sym (worst-scaled (keepsSign α) S (coefficient α g))
+      ∙ ap (worst (keepsSign α)) (sym (coefficient-scaled (pos S) α g))))
+
+-- ---- points of n exponents are enough
+
+-- weights that add up at every point of n exponents add up at every point
+pub everywhere : (n S : ℕ) (b : ℤ) (f M : Sum) → Sized n f → Sized n M → AddsUp n (target S (lowered n b f)) M
+    → (α : Exponents) → coefficient α M ≡ target S (lowered n b f) α
+unfolding lowered
+everywhere n S b f M sf sm e α = go (ℕ-discrete (length α) n)
+  where
+    go : Dec (length α ≡ n) → coefficient α M ≡ target S (lowered n b f) α
+    go (yes k) = e α k
+    go (no d) =
+        let none : coefficient α (lowered n b f) ≡ pos 0 = coefficient-none (λ β. length β ≡ n) α _ (length-replicate n 0, sf) d in
+        coefficient-none (λ β. length β ≡ n) α M sm d ∙ sym (target-zero S (lowered n b f) α none)
+
+slots-sized : (n : ℕ) (v w : Exponents) (s : Weights) → length v ≡ n → length w ≡ n → Sized n (slotsAt v w s)
+unfolding slotsAt
+slots-sized n v w (Pair p q r) h k = (h, (k, (midpoint-sized v w n h k, tt)))
+slots-sized n v w (Lone p) h k = (h, tt)
+
+pub rows-sized : (n : ℕ) (rows : List Row) → All (Placed n) rows → Sized n (slots rows)
+unfolding slots
+rows-sized n [] t = tt
+rows-sized n (a ∷ rows) t =
+    all-append (λ t. length (t .0) ≡ n) (slotsAt (a .v) (a .w) (a .weights)) (slots rows)
+    (slots-sized n (a .v) (a .w) (a .weights) (t .0 .v-length) (t .0 .w-length)) (rows-sized n rows (t .1))
+
+-- ---- the floor, for any slots that are worth at least 0 at absolute values
+
+module _ (φ : Exponents → ℤ) (signs : (α : Exponents) → keepsSign α ≡ true → pos 0 ≤ℤ φ α) where
+  pub worth-floor : (n S : ℕ) (b : ℤ) (f M : Sum) → 0 < S → Sized n f → Sized n M
+      → AddsUp n (target S (lowered n b f)) M → pos 0 ≤ℤ value (absolute φ) M → pos 0 ≤ℤ value φ (lowered n b f)
+  worth-floor n S b f M s sf sm e h =
+      nonneg-cancel S (value φ (lowered n b f)) s
+      (≤ℤ-trans h (target-bounds φ signs S (lowered n b f) M (everywhere n S b f M sf sm e)))
+
+-- ---- monomials at whole numbers
+
+means : (x : List ℤ) (v w : Exponents) (s : Weights) → Whole v w s → Mean (monomialOf x) v w s
+means x v w (Pair p q r) t = monomial-mean x v w t
+means x v w (Lone p) t = tt
+
+all-means : (x : List ℤ) (n : ℕ) (rows : List Row) → All (Placed n) rows
+    → All (λ a. Mean (monomialOf x) (a .v) (a .w) (a .weights)) rows
+all-means x n [] t = tt
+all-means x n (a ∷ rows) t = (means x (a .v) (a .w) (a .weights) (t .0 .whole), all-means x n rows (t .1))
+
+-- f − b is not negative, so b is at most f
+raise : (b v : ℤ) → pos 0 ≤ℤ (negℤ b *ℤ pos 1 +ℤ v) → b ≤ℤ v
+raise b v h = let s = simp ring at (read-le h) in by-le (simp ring (omega arith))
+
+pub slots-floor : (n S : ℕ) (b : ℤ) (f M : Sum) → 0 < S → Sized n f → Sized n M
+    → AddsUp n (target S (lowered n b f)) M → (x : List ℤ) → pos 0 ≤ℤ value (absolute (monomialOf x)) M → b ≤ℤ valueAt x f
+unfolding lowered value
+slots-floor n S b f M s sf sm e x h =
+    raise b (valueAt x f)
+    (rw (monomial-constant x n) at (worth-floor (monomialOf x) (monomial-sign x) n S b f M s sf sm e h))
+
+pub floor : Floor
+floor n S b f rows d x =
+    slots-floor n S b f (slots rows) (d .scale) (d .sized) (rows-sized n rows (d .placed)) (d .adds-up) x
+    (rows-nonneg (monomialOf x) rows (all-means x n rows (d .placed)) (d .hold))

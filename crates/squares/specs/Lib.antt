@@ -1,0 +1,5 @@
+pub mod Sums
+pub mod Rows
+pub mod Targets
+pub mod Decomposition
+pub mod Floor
