@@ -5,7 +5,7 @@ use Prim.Native.Nat.{ℕ}
 use Prim.Native.String.{String}
 use lib.IntN.{pos, negsuc}
 use lib.ListN.{take}
-use Rattle.report.specs.Text.{ascii}
+use Rattle.text.specs.Text.{ascii}
 use Rattle.worked.specs.Sheets.{claimOf, squareWith, square, squareProof, motzkin, motzkinProof}
 use Rattle.burmelox_check.specs.Printing.{programText}
 

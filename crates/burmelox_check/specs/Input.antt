@@ -5,7 +5,7 @@ use Prim.Native.Nat.{ℕ}
 use lib.Dec.{leb}
 use lib.ListN.{length, take, drop}
 use Rattle.sheets.specs.Layout.{variables, termCount, claimLength}
-use Rattle.checks.specs.ClaimChecks.{headerRight}
+use Rattle.claims.specs.ClaimChecks.{headerRight}
 
 -- "A program reads at most 8,192 bytes of standard input"
 abbrev pub greatestInput : ℕ

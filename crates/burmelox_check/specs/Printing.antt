@@ -10,7 +10,7 @@ use Rattle.sheets.specs.ProofSheet.{scaleOf, tripleFor}
 use Rattle.answers.specs.Answers.{blameless, Passes}
 use Rattle.weighing.specs.Exact.{weightsFor}
 use Rattle.judging.specs.Check.{targetsOf, checkAnswer, outputOf}
-use Rattle.report.specs.Lines.{acceptedLine}
+use Rattle.text.specs.Lines.{acceptedLine}
 use Rattle.report.specs.Reports.{ended, linesOf, refusedText, reportText}
 use Rattle.burmelox_check.specs.Input.{claimPart, proofPart}
 

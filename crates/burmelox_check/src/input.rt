@@ -1,5 +1,5 @@
 // The input's two sheets: where the claim ends and the proof begins.
-use checks::claim_checks::header_wrong;
+use claims::claim_checks::header_wrong;
 use sheets::claim_sheet::term_count;
 use sheets::layout::place_of;
 use sheets::layout::variables;

@@ -5,7 +5,7 @@ use report::reports::LONGEST;
 use report::reports::report_text;
 ghost use Prim.Native.Nat.{_≤_};
 ghost use lib.ListN.{length};
-ghost use Rattle.report.specs.Text.{Written};
+ghost use Rattle.text.specs.Text.{Written};
 ghost use Rattle.burmelox_check.specs.Input.{greatestInput};
 ghost use Rattle.burmelox_check.specs.Printing.{sheetsText, programText, PrintsLines};
 

@@ -1,3 +1,2 @@
-pub mod ClaimChecks
 pub mod ProofChecks
-pub mod WellFormed
+pub mod Input

@@ -1,18 +1,20 @@
 -- Checks of the proof: refusals 8 to 10 of its header, and 12 to 15 of its rows.
-use mathlib.Core.Bool.{Bool, not, _&&_, _||_}
+use mathlib.Core.Path.{_≡_}
+use mathlib.Core.Bool.{Bool, true, not, _&&_, _||_}
 use mathlib.Core.List.{List}
-use Prim.Native.Nat.{ℕ}
+use Prim.Native.Nat.{ℕ, _<_, _≤_}
 use lib.Dec.{eqb, ltb, leb}
-use lib.IntN.{natAbs}
+use lib.IntN.{pos, natAbs}
 use lib.ListN.{length, getD}
 use Rattle.points.specs.Points.{samePoint, hasMidpoint, exponentsWithin}
 use Rattle.answers.specs.Answers.{Answer, accepted, refuseIf, refuseAt}
 use Rattle.answers.specs.Searches.{first}
 use Rattle.answers.specs.Bounds.{greatestExponent, greatestWeight, greatestRows, greatestScale, beyond}
-use Rattle.sheets.specs.Layout.{variables, rowCount, proofLength}
+use Rattle.sheets.specs.Layout.{variables, rowCount, shapeOf, proofLength}
 use Rattle.sheets.specs.ProofSheet.{scaleOf, vOf, wOf, tripleOf}
 use Rattle.checks.specs.declared.proof_checks.RowRule.{RowRule}
 use Rattle.checks.specs.declared.proof_checks.RowRule.the-variants.{Exponent, Midpoint, Unused, Weight}
+use Rattle.sheets.specs.declared.layout.Shape.{Shape}
 use Rattle.sheets.specs.declared.proof_sheet.Triple.{Triple}
 
 -- "Byte 0: n, as in the claim. Byte 1: zero. Bytes 2 and 3: k, rows, 0 to 256. Bytes 4 to 7: the scale S, 1 to 2^20"
@@ -26,7 +28,7 @@ unfoldable pub headerAnswer : ℕ → List ℕ → Answer
 headerAnswer n s =
     refuseIf (ltb (length s) 8) 8
     (refuseIf (not (headerRight greatestRows n s)) 9
-    (refuseIf (not (eqb (length s) (proofLength (variables s) (rowCount s)))) 10
+    (refuseIf (not (eqb (length s) (proofLength (shapeOf s)))) 10
     (accepted 0)))
 
 -- "q or r not zero"
@@ -39,17 +41,38 @@ anyBeyond limit x = beyond limit (x .p) || beyond limit (x .q) || beyond limit (
 
 -- row i breaks a rule: "exponent over" the limit, "no whole midpoint", "lone row, q or r not zero", "proposed weight
 -- beyond" the limit
-unfoldable pub breaks : RowRule → List ℕ → ℕ → ℕ → ℕ → Bool
-breaks (Exponent limit) s n k i = not (exponentsWithin limit (vOf s n i)) || not (exponentsWithin limit (wOf s n i))
-breaks Midpoint s n k i = not (hasMidpoint (vOf s n i) (wOf s n i))
-breaks Unused s n k i = samePoint (vOf s n i) (wOf s n i) && carries (tripleOf s n k i)
-breaks (Weight limit) s n k i = anyBeyond limit (tripleOf s n k i)
+unfoldable pub breaks : RowRule → List ℕ → Shape → ℕ → Bool
+breaks (Exponent limit) s shape i = not (exponentsWithin limit (vOf s shape i)) || not (exponentsWithin limit (wOf s shape i))
+breaks Midpoint s shape i = not (hasMidpoint (vOf s shape i) (wOf s shape i))
+breaks Unused s shape i = samePoint (vOf s shape i) (wOf s shape i) && carries (tripleOf s shape i)
+breaks (Weight limit) s shape i = anyBeyond limit (tripleOf s shape i)
 
 -- 12 to 15
-unfoldable pub rowsAnswer : List ℕ → ℕ → ℕ → Answer
-rowsAnswer s n k =
-    refuseAt (first (breaks (Exponent greatestExponent) s n k) k) 12
-    (refuseAt (first (breaks Midpoint s n k) k) 13
-    (refuseAt (first (breaks Unused s n k) k) 14
-    (refuseAt (first (breaks (Weight greatestWeight) s n k) k) 15
+unfoldable pub rowsAnswer : List ℕ → Shape → Answer
+rowsAnswer s shape =
+    refuseAt (first (breaks (Exponent greatestExponent) s shape) (shape .k)) 12
+    (refuseAt (first (breaks Midpoint s shape) (shape .k)) 13
+    (refuseAt (first (breaks Unused s shape) (shape .k)) 14
+    (refuseAt (first (breaks (Weight greatestWeight) s shape) (shape .k)) 15
     (accepted 0))))
+
+-- three numbers within ± a limit
+pub record Within (limit : ℕ) (x : Triple) : Type 0 where
+  pub p-within : natAbs (x .p) ≤ limit
+  pub q-within : natAbs (x .q) ≤ limit
+  pub r-within : natAbs (x .r) ≤ limit
+
+-- a proof that passes 8 to 10 and 12 to 15, beside a claim that passes 1 to 7
+pub record ProofFacts (s : List ℕ) (shape : Shape) : Type 0 where
+  pub some : 1 ≤ shape .n
+  pub few : shape .n ≤ 8
+  pub rows : shape .k ≤ greatestRows
+  pub scaled : 1 ≤ scaleOf s
+  pub scale : scaleOf s ≤ greatestScale
+  pub sized : length s ≡ proofLength shape
+  pub v-within : (i : ℕ) → i < shape .k → exponentsWithin greatestExponent (vOf s shape i) ≡ true
+  pub w-within : (i : ℕ) → i < shape .k → exponentsWithin greatestExponent (wOf s shape i) ≡ true
+  pub whole : (i : ℕ) → i < shape .k → hasMidpoint (vOf s shape i) (wOf s shape i) ≡ true
+  pub unused : (i : ℕ) → i < shape .k → samePoint (vOf s shape i) (wOf s shape i) ≡ true
+      → (tripleOf s shape i .q ≡ pos 0) × (tripleOf s shape i .r ≡ pos 0)
+  pub weights-within : (i : ℕ) → i < shape .k → Within greatestWeight (tripleOf s shape i)

@@ -1,3 +1,3 @@
-// Checks of the two sheets by themselves.
-pub mod claim_checks;
+// Checks of the proof sheet, and of both sheets in the order of their numbers: refusals 1 to 15.
+pub mod input;
 pub mod proof_checks;

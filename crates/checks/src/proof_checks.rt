@@ -11,14 +11,16 @@ use integers::magnitudes::magnitude;
 use points::points::exponents_within;
 use points::points::has_midpoint;
 use points::points::same;
-use sheets::layout::place_of;
+use sheets::layout::Shape;
 use sheets::layout::variables;
 use sheets::proof_sheet::Triple;
+use sheets::proof_sheet::proof_length;
 use sheets::proof_sheet::row_count;
 use sheets::proof_sheet::row_triple;
 use sheets::proof_sheet::row_v;
 use sheets::proof_sheet::row_w;
 use sheets::proof_sheet::scale;
+use sheets::proof_sheet::shape_of;
 ghost use mathlib.Core.Path.{_≡_};
 ghost use mathlib.Core.Bool.{not};
 ghost use Prim.Native.Nat.{_<_, _≤_};
@@ -72,30 +74,29 @@ pub fn check_header(proof: &[u8], n: usize) -> Verdict
     if header_wrong(proof, n, GREATEST_ROWS) {
         return Verdict::Refused(Sheet::Proof(9, 0));
     }
-    let k = row_count(proof);
-    if proof.len() != place_of(8, k, 2 * variables(proof) + 12) {
+    if proof.len() != proof_length(shape_of(proof)) {
         return Verdict::Refused(Sheet::Proof(10, 0));
     }
     Verdict::Accepted(0)
 }
 
 // 12: whether row i has an exponent over the limit.
-fn exponent_wrong(proof: &[u8], n: usize, k: usize, i: usize, limit: u8) -> bool
-    requires { ⌜ (ProofRoom (now proof) n k) × (i < k) ⌝ }
-    ensures { λ r. ⌜ r ≡ breaks (Exponent limit) (now (proof .entry)) n k i ⌝ }
+fn exponent_wrong(proof: &[u8], shape: Shape, i: usize, limit: u8) -> bool
+    requires { ⌜ (ProofRoom (now proof) shape) × (i < shape .k) ⌝ }
+    ensures { λ r. ⌜ r ≡ breaks (Exponent limit) (now (proof .entry)) shape i ⌝ }
 {
-    if exponents_within(row_v(proof, n, k, i), limit) {
-        return !exponents_within(row_w(proof, n, k, i), limit);
+    if exponents_within(row_v(proof, shape, i), limit) {
+        return !exponents_within(row_w(proof, shape, i), limit);
     }
     true
 }
 
 // 13: whether row i has no whole midpoint.
-fn midpoint_wrong(proof: &[u8], n: usize, k: usize, i: usize) -> bool
-    requires { ⌜ (ProofRoom (now proof) n k) × (i < k) ⌝ }
-    ensures { λ r. ⌜ r ≡ breaks Midpoint (now (proof .entry)) n k i ⌝ }
+fn midpoint_wrong(proof: &[u8], shape: Shape, i: usize) -> bool
+    requires { ⌜ (ProofRoom (now proof) shape) × (i < shape .k) ⌝ }
+    ensures { λ r. ⌜ r ≡ breaks Midpoint (now (proof .entry)) shape i ⌝ }
 {
-    !has_midpoint(row_v(proof, n, k, i), row_w(proof, n, k, i))
+    !has_midpoint(row_v(proof, shape, i), row_w(proof, shape, i))
 }
 
 // Whether q or r is not zero.
@@ -109,12 +110,12 @@ fn carries_more(x: Triple) -> bool
 }
 
 // 14: whether row i is lone, and q or r is not zero.
-fn unused_wrong(proof: &[u8], n: usize, k: usize, i: usize) -> bool
-    requires { ⌜ (ProofRoom (now proof) n k) × (i < k) ⌝ }
-    ensures { λ r. ⌜ r ≡ breaks Unused (now (proof .entry)) n k i ⌝ }
+fn unused_wrong(proof: &[u8], shape: Shape, i: usize) -> bool
+    requires { ⌜ (ProofRoom (now proof) shape) × (i < shape .k) ⌝ }
+    ensures { λ r. ⌜ r ≡ breaks Unused (now (proof .entry)) shape i ⌝ }
 {
-    if same(row_v(proof, n, k, i), row_w(proof, n, k, i)) {
-        return carries_more(row_triple(proof, n, k, i));
+    if same(row_v(proof, shape, i), row_w(proof, shape, i)) {
+        return carries_more(row_triple(proof, shape, i));
     }
     false
 }
@@ -133,26 +134,26 @@ pub fn any_beyond(x: Triple, limit: u64) -> bool
 }
 
 // Whether row i breaks a rule.
-fn row_wrong(rule: RowRule, proof: &[u8], n: usize, k: usize, i: usize) -> bool
-    requires { ⌜ (ProofRoom (now proof) n k) × (i < k) ⌝ }
-    ensures { λ r. ⌜ r ≡ breaks rule (now (proof .entry)) n k i ⌝ }
+fn row_wrong(rule: RowRule, proof: &[u8], shape: Shape, i: usize) -> bool
+    requires { ⌜ (ProofRoom (now proof) shape) × (i < shape .k) ⌝ }
+    ensures { λ r. ⌜ r ≡ breaks rule (now (proof .entry)) shape i ⌝ }
 {
     match rule {
-        RowRule::Exponent(limit) => exponent_wrong(proof, n, k, i, limit),
-        RowRule::Midpoint => midpoint_wrong(proof, n, k, i),
-        RowRule::Unused => unused_wrong(proof, n, k, i),
-        RowRule::Weight(limit) => any_beyond(row_triple(proof, n, k, i), limit),
+        RowRule::Exponent(limit) => exponent_wrong(proof, shape, i, limit),
+        RowRule::Midpoint => midpoint_wrong(proof, shape, i),
+        RowRule::Unused => unused_wrong(proof, shape, i),
+        RowRule::Weight(limit) => any_beyond(row_triple(proof, shape, i), limit),
     }
 }
 
 // The first row that breaks a rule.
-fn first_row(rule: RowRule, proof: &[u8], n: usize, k: usize) -> Found
-    requires { ⌜ ProofRoom (now proof) n k ⌝ }
-    ensures { λ r. ⌜ r ≡ first (breaks rule (now (proof .entry)) n k) k ⌝ }
+fn first_row(rule: RowRule, proof: &[u8], shape: Shape) -> Found
+    requires { ⌜ ProofRoom (now proof) shape ⌝ }
+    ensures { λ r. ⌜ r ≡ first (breaks rule (now (proof .entry)) shape) (shape .k) ⌝ }
 {
     let mut i = 0;
-    while i < k {
-        if row_wrong(rule, proof, n, k, i) {
+    while i < shape.k {
+        if row_wrong(rule, proof, shape, i) {
             return Found::At(i);
         }
         i += 1;
@@ -161,20 +162,20 @@ fn first_row(rule: RowRule, proof: &[u8], n: usize, k: usize) -> Found
 }
 
 // The checks 12 to 15, each over all rows before the next.
-pub fn check_rows(proof: &[u8], n: usize, k: usize) -> Verdict
-    requires { ⌜ ProofRoom (now proof) n k ⌝ }
-    ensures { λ r. ⌜ says r ≡ rowsAnswer (now (proof .entry)) n k ⌝ }
+pub fn check_rows(proof: &[u8], shape: Shape) -> Verdict
+    requires { ⌜ ProofRoom (now proof) shape ⌝ }
+    ensures { λ r. ⌜ says r ≡ rowsAnswer (now (proof .entry)) shape ⌝ }
 {
-    if let Found::At(i) = first_row(RowRule::Exponent(GREATEST_EXPONENT), proof, n, k) {
+    if let Found::At(i) = first_row(RowRule::Exponent(GREATEST_EXPONENT), proof, shape) {
         return Verdict::Refused(Sheet::Proof(12, i));
     }
-    if let Found::At(i) = first_row(RowRule::Midpoint, proof, n, k) {
+    if let Found::At(i) = first_row(RowRule::Midpoint, proof, shape) {
         return Verdict::Refused(Sheet::Proof(13, i));
     }
-    if let Found::At(i) = first_row(RowRule::Unused, proof, n, k) {
+    if let Found::At(i) = first_row(RowRule::Unused, proof, shape) {
         return Verdict::Refused(Sheet::Proof(14, i));
     }
-    if let Found::At(i) = first_row(RowRule::Weight(GREATEST_WEIGHT), proof, n, k) {
+    if let Found::At(i) = first_row(RowRule::Weight(GREATEST_WEIGHT), proof, shape) {
         return Verdict::Refused(Sheet::Proof(15, i));
     }
     Verdict::Accepted(0)

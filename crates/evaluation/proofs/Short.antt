@@ -7,7 +7,7 @@ use Rattle.integers.proofs.words.Laws.{Bytes}
 use Rattle.sheets.specs.Layout.{termCount}
 use Rattle.answers.specs.Answers.{Short}
 use Rattle.answers.proofs.Short.{short-accepted, short-if, short-at, short-then}
-use Rattle.checks.proofs.Short.{claim-short}
+use Rattle.claims.proofs.claim_checks.Facts.{claim-short}
 use Rattle.evaluation.specs.Evaluations.{largeAnswer, evaluationAnswer}
 
 pub evaluation-short : (c : List ℕ) (x : List ℤ) → Bytes c → Short (evaluationAnswer c x)

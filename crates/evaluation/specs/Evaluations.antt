@@ -14,7 +14,7 @@ use Rattle.sheets.specs.Layout.{variables, termCount}
 use Rattle.sheets.specs.ClaimSheet.{floorOf, termPoint, coefficientOf, termOf, termsOf}
 use Rattle.answers.specs.Answers.{Answer, accepted, says, refuseIf, refuseAt, blameless, andThen, Passes}
 use Rattle.answers.specs.Bounds.{beyond}
-use Rattle.checks.specs.ClaimChecks.{claimAnswer}
+use Rattle.claims.specs.ClaimChecks.{claimAnswer}
 use Rattle.answers.specs.Searches.{first}
 use Rattle.answers.specs.declared.answers.Verdict.the-variants as Verdicts
 use Rattle.judging.specs.Check.{checkAnswer}

@@ -1,7 +1,7 @@
 // Evaluation of a claim's polynomial at offsets: the exact value, or a refusal.
 use answers::answers::Sheet;
 use answers::answers::Verdict;
-use checks::claim_checks::check_claim;
+use claims::claim_checks::check_claim;
 use monomials::powers::Bounded;
 use monomials::powers::term;
 use sheets::claim_sheet::coefficient;

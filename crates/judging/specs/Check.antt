@@ -6,10 +6,10 @@ use lib.IntN.{ℤ}
 use lib.ListN.{length, drop}
 use Rattle.points.specs.Points.{Exponents}
 use Rattle.answers.specs.Answers.{Answer, andThen, blameless}
-use Rattle.sharing.specs.Targets.{aimOf, targetOf}
+use Rattle.targets.specs.Targets.{aimOf, targetOf}
 use Rattle.weighing.specs.Exact.{exactProof}
 use Rattle.weighing.specs.Weighed.{weighedAnswer}
-use Rattle.judging.specs.Input.{inputAnswer}
+use Rattle.checks.specs.Input.{inputAnswer}
 
 -- the targets with the claim's floor and the proof's scale
 unfoldable pub targetsOf : List ℕ → List ℕ → Exponents → ℤ

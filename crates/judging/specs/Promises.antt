@@ -15,7 +15,7 @@ use Rattle.sheets.specs.ClaimSheet.{floorOf, termsOf}
 use Rattle.sheets.specs.ProofSheet.{rowsOf}
 use Rattle.answers.specs.Answers.{accepted, says}
 use Rattle.answers.specs.Bounds.{greatestWeight}
-use Rattle.checks.specs.WellFormed.{WellFormed}
+use Rattle.checks.specs.Input.{WellFormed}
 use Rattle.answers.specs.declared.answers.Verdict.{Verdict}
 use Rattle.sharing.specs.Shifts.{shiftedRows}
 use Rattle.weighing.specs.Exact.{exactProof, AllWithin}

@@ -1,7 +1,7 @@
 // The whole check: the verdict on a claim and its proof, and the exact proof in the output.
-use crate::input::check_input;
 use answers::answers::Verdict;
-use sharing::targets::aim_of;
+use checks::input::check_input;
+use targets::targets::aim_of;
 use weighing::exact::write_exact;
 use weighing::weighed::weigh;
 ghost use mathlib.Core.Path.{_≡_};

@@ -1,3 +1,2 @@
-// Judging: refusal 11, the whole check and its promises.
+// Judging: the whole check of a claim and its proof, and its promises.
 pub mod check;
-pub mod input;

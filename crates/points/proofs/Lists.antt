@@ -13,6 +13,14 @@ pub all-append : {A : Type 0} (P : A → Type 0) (L M : List A) → All P L → 
 all-append P [] M s t = t
 all-append P (a ∷ L) M s t = (s .0, all-append P L M (s .1) t)
 
+pub all-map : {A : Type 0} (P Q : A → Type 0) (L : List A) → ((a : A) → P a → Q a) → All P L → All Q L
+all-map P Q [] f h = tt
+all-map P Q (a ∷ L) f h = (f a (h .0), all-map P Q L f (h .1))
+
+pub all-both : {A : Type 0} (P Q R : A → Type 0) (L : List A) → ((a : A) → P a → Q a → R a) → All P L → All Q L → All R L
+all-both P Q R [] f h k = tt
+all-both P Q R (a ∷ L) f h k = (f a (h .0) (k .0), all-both P Q R L f (h .1) (k .1))
+
 append-all : {A : Type 0} (P : A → Type 0) (L M : List A) → All P (L ++ M) → All P L × All P M
 append-all P [] M h = (tt, h)
 append-all P (a ∷ L) M h = let k = append-all P L M (h .1) in ((h .0, k .0), k .1)

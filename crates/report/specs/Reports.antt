@@ -7,11 +7,12 @@ use lib.ListN.{length}
 use Rattle.sheets.specs.Layout.{variables, proofLength}
 use Rattle.sheets.specs.ClaimSheet.{floorOf}
 use Rattle.sheets.specs.ProofSheet.{scaleOf, tripleOf}
+use Rattle.sheets.specs.declared.layout.Shape.{Shape}
 use Rattle.sheets.specs.declared.proof_sheet.Triple.{Triple}
 use Rattle.answers.specs.Answers.{Answer, blameless}
 use Rattle.answers.specs.Bounds.{greatestRows}
-use Rattle.report.specs.Text.{ascii}
-use Rattle.report.specs.Lines.{acceptedLine, rowLine, refusedLine}
+use Rattle.text.specs.Text.{ascii}
+use Rattle.text.specs.Lines.{acceptedLine, rowLine, refusedLine}
 
 -- "Every line ends with a line feed."
 unfoldable pub ended : List ℕ → List ℕ
@@ -22,19 +23,23 @@ unfoldable pub linesOf : (ℕ → Triple) → ℕ → List ℕ
 linesOf x zero = []
 linesOf x (suc i) = linesOf x i ++ ended (rowLine i (x i))
 
--- row i of a proof of n variables and k rows, and the first i rows
-unfoldable pub rowText : List ℕ → ℕ → ℕ → ℕ → List ℕ
-rowText s n k i = ended (rowLine i (tripleOf s n k i))
+-- row i of a proof, and the first i rows
+unfoldable pub rowText : List ℕ → Shape → ℕ → List ℕ
+rowText s shape i = ended (rowLine i (tripleOf s shape i))
 
-unfoldable pub rowsText : List ℕ → ℕ → ℕ → ℕ → List ℕ
-rowsText s n k i = linesOf (tripleOf s n k) i
+unfoldable pub rowsText : List ℕ → Shape → ℕ → List ℕ
+rowsText s shape i = linesOf (tripleOf s shape) i
+
+-- a proof's shape where k rows are accepted
+abbrev pub shapeWith : List ℕ → ℕ → Shape
+shapeWith s k = record { n = variables s; k = k }
 
 -- an acceptance of k rows: the first line, and all lines
 unfoldable pub firstText : List ℕ → List ℕ → ℕ → List ℕ
 firstText c s k = ended (acceptedLine k (scaleOf s) (floorOf c))
 
 unfoldable pub acceptedText : List ℕ → List ℕ → ℕ → List ℕ
-acceptedText c s k = firstText c s k ++ rowsText s (variables s) k k
+acceptedText c s k = firstText c s k ++ rowsText s (shapeWith s k) k
 
 -- a refusal: its one line
 unfoldable pub refusedText : ℕ → ℕ → List ℕ
@@ -44,7 +49,7 @@ refusedText number index = ended (refusedLine number index)
 unfoldable pub carries : List ℕ → List ℕ → ℕ → Bool
 carries c s k =
     leb 8 (length c) && leb 8 (length s) && leb (variables s) 8 && leb k greatestRows
-    && leb (proofLength (variables s) k) (length s)
+    && leb (proofLength (shapeWith s k)) (length s)
 
 -- the report of what a verdict says; an acceptance that the sheets do not carry, which is no check's verdict, has none
 unfoldable pub reportText : List ℕ → List ℕ → Answer → List ℕ

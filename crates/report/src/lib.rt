@@ -1,4 +1,2 @@
-// The verdict and the rows of an exact proof as lines of text, into a lent buffer.
-pub mod lines;
+// The report of a verdict, with the rows of its exact proof, into a lent buffer.
 pub mod reports;
-pub mod text;

@@ -1,47 +1,48 @@
 // Reports: what the program prints for a verdict.
-use crate::lines::accepted_line;
-use crate::lines::refused_line;
-use crate::lines::row_line;
-use crate::text::put_byte;
 use answers::answers::Verdict;
 use answers::answers::numbers_of;
 use answers::bounds::GREATEST_ROWS;
 use sheets::claim_sheet::floor;
-use sheets::layout::place_of;
+use sheets::layout::Shape;
 use sheets::layout::variables;
+use sheets::proof_sheet::proof_length;
 use sheets::proof_sheet::row_triple;
 use sheets::proof_sheet::scale;
+use text::lines::accepted_line;
+use text::lines::refused_line;
+use text::lines::row_line;
+use text::text::put_byte;
 ghost use mathlib.Core.Path.{_≡_};
 ghost use mathlib.Core.Bool.{true};
 ghost use Prim.Native.Nat.{_<_, _≤_};
 ghost use lib.ListN.{length};
 ghost use Rattle.sheets.specs.Layout.{ProofRoom};
 ghost use Rattle.answers.specs.Answers.{says};
-ghost use Rattle.report.specs.Text.{Room, Written};
+ghost use Rattle.text.specs.Text.{Room, Written};
 ghost use Rattle.report.specs.Reports.{rowText, rowsText, carries, firstText, acceptedText, refusedText, reportText};
 
 // The longest report: 53 bytes for the first line, and 50 for each of 256 rows.
 pub const LONGEST: usize = 12853;
 
 // The line of row i.
-fn row_text(proof: &[u8], n: usize, k: usize, i: usize, out: &mut [u8], at: usize) -> usize
-    requires { ⌜ (ProofRoom (now proof) n k) × (i < k) × (Room (now out) at (rowText (now proof) n k i)) ⌝ }
-    ensures { λ r. ⌜ Written (now (out .entry)) at (rowText (now (proof .entry)) n k i) (now (out .exit)) r ⌝ }
+fn row_text(proof: &[u8], shape: Shape, i: usize, out: &mut [u8], at: usize) -> usize
+    requires { ⌜ (ProofRoom (now proof) shape) × (i < shape .k) × (Room (now out) at (rowText (now proof) shape i)) ⌝ }
+    ensures { λ r. ⌜ Written (now (out .entry)) at (rowText (now (proof .entry)) shape i) (now (out .exit)) r ⌝ }
 {
-    let x = row_triple(proof, n, k, i);
+    let x = row_triple(proof, shape, i);
     let row = row_line(i as u64, x, out, at);
     put_byte(b'\n', out, row)
 }
 
 // The lines of all rows.
-fn rows_text(proof: &[u8], n: usize, k: usize, out: &mut [u8], at: usize) -> usize
-    requires { ⌜ (ProofRoom (now proof) n k) × (Room (now out) at (rowsText (now proof) n k k)) ⌝ }
-    ensures { λ r. ⌜ Written (now (out .entry)) at (rowsText (now (proof .entry)) n k k) (now (out .exit)) r ⌝ }
+fn rows_text(proof: &[u8], shape: Shape, out: &mut [u8], at: usize) -> usize
+    requires { ⌜ (ProofRoom (now proof) shape) × (Room (now out) at (rowsText (now proof) shape (shape .k))) ⌝ }
+    ensures { λ r. ⌜ Written (now (out .entry)) at (rowsText (now (proof .entry)) shape (shape .k)) (now (out .exit)) r ⌝ }
 {
     let mut end = at;
     let mut i = 0;
-    while i < k {
-        end = row_text(proof, n, k, i, out, end);
+    while i < shape.k {
+        end = row_text(proof, shape, i, out, end);
         i += 1;
     }
     end
@@ -62,7 +63,15 @@ fn accepted_text(claim: &[u8], proof: &[u8], k: usize, out: &mut [u8], at: usize
     ensures { λ r. ⌜ Written (now (out .entry)) at (acceptedText (now (claim .entry)) (now (proof .entry)) k) (now (out .exit)) r ⌝ }
 {
     let rows = first_text(claim, proof, k, out, at);
-    rows_text(proof, variables(proof), k, out, rows)
+    rows_text(
+        proof,
+        Shape {
+            n: variables(proof),
+            k,
+        },
+        out,
+        rows,
+    )
 }
 
 // The line of a refusal.
@@ -91,7 +100,7 @@ fn carries(claim: &[u8], proof: &[u8], k: usize) -> bool
     if GREATEST_ROWS < k {
         return false;
     }
-    place_of(8, k, 2 * n + 12) <= proof.len()
+    proof_length(Shape { n, k }) <= proof.len()
 }
 
 // The report of a verdict on a claim, with its exact proof where it is accepted; the answer is where the text ends. An

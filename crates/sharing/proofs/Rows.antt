@@ -1,55 +1,61 @@
 -- Laws of shifted rows, for the crates above: their slots are the shifted slots, so that the weights add up to the target
 -- at every held point and to 0 at any other; rows keep their points; and a proof whose weights add up stays as it is.
-use mathlib.Core.Path.{_≡_, refl, _∙_, ap, ap₂}
+use mathlib.Core.Path.{_≡_, refl, sym, _∙_, ap, ap₂}
 use mathlib.Core.Bool.{Bool, true, false}
-use mathlib.Core.List.{List, []}
-use Prim.Native.Nat.{ℕ, zero, suc, _<_}
+use mathlib.Core.List.{List, _++_, append-nil, append-assoc}
+use Prim.Native.Nat.{ℕ, _<_}
 use lib.IntN.{ℤ, pos}
 use lib.ListN.{length}
 use Rattle.points.specs.Lists.{table, All}
 use Rattle.points.specs.Points.{Exponents, samePoint, midpointOf}
+use Rattle.points.proofs.Lists.{all-table, table-all, table-same}
+use Rattle.points.proofs.points.Laws.{midpoint-sized}
 use Rattle.squares.specs.Sums.{Sum, coefficient}
-use Rattle.squares.specs.Rows.{Row, slotsAt, slots}
+use Rattle.squares.specs.Rows.{Row, slotsAt, slotsOf, slots}
 use Rattle.squares.specs.Decomposition.{Placed, Whole, AddsUp}
 use Rattle.squares.specs.declared.rows.Weights.{Weights}
 use Rattle.squares.specs.declared.rows.Weights.the-variants.{Pair, Lone}
-use Rattle.points.proofs.Lists.{all-table, table-all, table-same}
-use Rattle.points.proofs.points.Laws.{midpoint-sized}
-use Rattle.squares.proofs.rows.Laws.{slots-pair, slots-lone, slots-none, slots-more}
-use Rattle.sheets.specs.Layout.{variables, rowCount}
+use Rattle.squares.proofs.rows.Laws.{slots-pair, slots-lone}
+use Rattle.sheets.specs.Layout.{variables, rowCount, shapeOf}
 use Rattle.sheets.specs.ProofSheet.{vOf, wOf, rowOf, rowsOf, Suits}
-use Rattle.checks.specs.WellFormed.{ProofFacts}
 use Rattle.sheets.proofs.proof_sheet.Laws.{row-placed, row-lone, row-pair, row-v, row-w, v-length, w-length, rows-table}
+use Rattle.checks.specs.ProofChecks.{ProofFacts}
 use Rattle.sharing.specs.Sharing.{count, shiftedWeight, shiftedFrom, shiftedSlots}
 use Rattle.sharing.specs.Slots.{slotsTo}
-use Rattle.sharing.specs.Shifts.{shiftedWeights, shiftRow, slotsBefore, shiftedRow, shiftedRows}
+use Rattle.sharing.specs.Shifts.{rankOf, shiftedWeights, shiftRow, slotsBefore, shiftedRow, shiftedRows}
+use Rattle.sharing.proofs.Sharing.{count-append, from-nil, from-cons, shifted-adds, shifted-unheld, weight-stays, gathered-shifted}
 use Rattle.sharing.proofs.slots.Laws.{all-slots}
-use Rattle.sharing.proofs.Sharing.{from-nil, from-cons, from-append, shifted-adds, shifted-unheld, weight-stays}
 
 -- ---- slots
+
+-- those before a slot's row and those of its own row before it are all that come before it
+ranks : (α : Exponents) (before own : Sum) → rankOf α before own ≡ count α (before ++ own)
+unfolding rankOf
+ranks α before own = sym (count-append α before own)
 
 -- of one row
 row-slots : (τ : Exponents → ℤ) (L before : Sum) (v w : Exponents) (a : Weights)
     → slotsAt v w (shiftedWeights τ L before v w a) ≡ shiftedFrom τ L before (slotsAt v w a)
 unfolding shiftedWeights
 row-slots τ L before v w (Pair p q r) =
-    rw (slots-pair v w p q r, from-cons, from-cons, from-cons, from-nil) (slots-pair v w _ _ _)
-row-slots τ L before v w (Lone p) = rw (slots-lone v w p, from-cons, from-nil) (slots-lone v w _)
+    rw (slots-pair v w p q r, from-cons, from-cons, from-cons, from-nil)
+    (rw (slots-pair v w _ _ _, ranks, ranks, ranks, append-nil, append-assoc))
+row-slots τ L before v w (Lone p) =
+    rw (slots-lone v w p, from-cons, from-nil) (rw (slots-lone v w _, ranks, append-nil))
 
 module _ (τ : Exponents → ℤ) (s : List ℕ) where
-  -- of the first rows
-  first-slots : (i : ℕ) → slots (table (shiftedRow τ s) i) ≡ shiftedFrom τ (slots (rowsOf s)) [] (slotsBefore s i)
-  unfolding slotsBefore slotsTo shiftedRow shiftRow
-  first-slots zero = rw (slots-none, slots-none, from-nil)
-  first-slots (suc i) =
-      rw (slots-more (shiftedRow τ s) i, slots-more (rowOf s (variables s) (rowCount s)) i)
-      (rw (from-append, first-slots i, row-slots))
+  abbrev L : Sum
+  L = slots (rowsOf s)
 
-  pub shifted-slots : slots (shiftedRows τ s) ≡ shiftedSlots τ (slots (rowsOf s))
-  unfolding shiftedRows shiftedSlots slotsBefore
+  each-shifted : (i : ℕ) → slotsOf (shiftedRow τ s i) ≡ shiftedFrom τ L (slotsBefore s i) (slotsOf (rowOf s (shapeOf s) i))
+  unfolding shiftedRow shiftRow
+  each-shifted i = let a = rowOf s (shapeOf s) i in row-slots τ L (slotsBefore s i) (a .v) (a .w) (a .weights)
+
+  pub shifted-slots : slots (shiftedRows τ s) ≡ shiftedSlots τ L
+  unfolding shiftedRows slotsBefore slotsTo
   shifted-slots =
-      first-slots (rowCount s)
-      ∙ ap (shiftedFrom τ (slots (rowsOf s)) []) (all-slots s (variables s) (rowCount s) refl refl)
+      gathered-shifted slotsOf (rowOf s (shapeOf s)) τ (shiftedRow τ s) L (rowCount s) (all-slots s (shapeOf s) refl)
+      each-shifted
 
   -- at a held point the weights add up to the target, and at any other to 0
   pub held-adds : (α : Exponents) → 0 < count α (slots (rowsOf s)) → coefficient α (slots (shiftedRows τ s)) ≡ τ α
@@ -68,27 +74,27 @@ whole-stays τ L before v w (Lone p) h = tt
 
 -- a row keeps its points, and a lone row stays lone
 module _ (τ : Exponents → ℤ) (s : List ℕ) (i : ℕ) where
-  keeps-v : shiftedRow τ s i .v ≡ vOf s (variables s) i
+  keeps-v : shiftedRow τ s i .v ≡ vOf s (shapeOf s) i
   unfolding shiftedRow shiftRow
-  keeps-v = row-v s (variables s) (rowCount s) i
+  keeps-v = row-v s (shapeOf s) i
 
-  keeps-w : shiftedRow τ s i .w ≡ wOf s (variables s) i
+  keeps-w : shiftedRow τ s i .w ≡ wOf s (shapeOf s) i
   unfolding shiftedRow shiftRow
-  keeps-w = row-w s (variables s) (rowCount s) i
+  keeps-w = row-w s (shapeOf s) i
 
-  pub keeps-kind : Suits (samePoint (vOf s (variables s) i) (wOf s (variables s) i)) (shiftedRow τ s i .weights)
+  pub keeps-kind : Suits (samePoint (vOf s (shapeOf s) i) (wOf s (shapeOf s) i)) (shiftedRow τ s i .weights)
   unfolding shiftedRow shiftRow shiftedWeights
-  keeps-kind = go (samePoint (vOf s (variables s) i) (wOf s (variables s) i)) refl
+  keeps-kind = go (samePoint (vOf s (shapeOf s) i) (wOf s (shapeOf s) i)) refl
     where
-      go : (b : Bool) → samePoint (vOf s (variables s) i) (wOf s (variables s) i) ≡ b
+      go : (b : Bool) → samePoint (vOf s (shapeOf s) i) (wOf s (shapeOf s) i) ≡ b
           → Suits b (shiftedRow τ s i .weights)
-      go true e = rw (row-lone s (variables s) (rowCount s) i e) tt
-      go false e = rw (row-pair s (variables s) (rowCount s) i e) tt
+      go true e = rw (row-lone s (shapeOf s) i e) tt
+      go false e = rw (row-pair s (shapeOf s) i e) tt
 
-  keeps-place : (n : ℕ) → Placed n (rowOf s (variables s) (rowCount s) i) → Placed n (shiftedRow τ s i)
+  keeps-place : (n : ℕ) → Placed n (rowOf s (shapeOf s) i) → Placed n (shiftedRow τ s i)
   unfolding shiftedRow shiftRow
   keeps-place n h =
-      let a : Row = rowOf s (variables s) (rowCount s) i in
+      let a : Row = rowOf s (shapeOf s) i in
       record {
         v-length = h .v-length;
         w-length = h .w-length;
@@ -96,13 +102,13 @@ module _ (τ : Exponents → ℤ) (s : List ℕ) (i : ℕ) where
       }
 
   with-points : shiftedRow τ s i
-      ≡ record { v = vOf s (variables s) i; w = wOf s (variables s) i; weights = shiftedRow τ s i .weights }
+      ≡ record { v = vOf s (shapeOf s) i; w = wOf s (shapeOf s) i; weights = shiftedRow τ s i .weights }
   with-points =
       ap₂ (λ (v w : Exponents). record { v = v; w = w; weights = shiftedRow τ s i .weights }) keeps-v keeps-w
 
 -- every row, with its points as the sheet has them
 pub rows-are : (τ : Exponents → ℤ) (s : List ℕ) → shiftedRows τ s
-    ≡ table (λ i. record { v = vOf s (variables s) i; w = wOf s (variables s) i; weights = shiftedRow τ s i .weights })
+    ≡ table (λ i. record { v = vOf s (shapeOf s) i; w = wOf s (shapeOf s) i; weights = shiftedRow τ s i .weights })
     (rowCount s)
 unfolding shiftedRows
 rows-are τ s = table-same (shiftedRow τ s) _ (rowCount s) (λ i l. with-points τ s i)
@@ -117,17 +123,17 @@ module _ (τ : Exponents → ℤ) (s : List ℕ) (P : Row → Type 0) where
   unfolding shiftedRows
   rows-each h = table-all (shiftedRow τ s) P (rowCount s) h
 
-pub rows-stay-placed : (τ : Exponents → ℤ) (s : List ℕ) → ProofFacts s (variables s) (rowCount s)
+pub rows-stay-placed : (τ : Exponents → ℤ) (s : List ℕ) → ProofFacts s (shapeOf s)
     → All (Placed (variables s)) (shiftedRows τ s)
 rows-stay-placed τ s f =
     rows-all τ s (Placed (variables s))
-    (λ i l. keeps-place τ s i (variables s) (row-placed s (variables s) (rowCount s) i (f .whole i l)))
+    (λ i l. keeps-place τ s i (variables s) (row-placed s (shapeOf s) i (f .whole i l)))
 
 -- where the proposed weights add up at every point of n exponents, the shifted row is the proposed one
 module _ (τ : Exponents → ℤ) (s : List ℕ) (exact : AddsUp (variables s) τ (slots (rowsOf s))) where
-  stays : (before : Sum) (α : Exponents) (x : ℤ) → length α ≡ variables s
-      → shiftedWeight τ (slots (rowsOf s)) before α x ≡ x
-  stays before α x l = weight-stays τ (slots (rowsOf s)) before α x (exact α l)
+  stays : (rank : ℕ) (α : Exponents) (x : ℤ) → length α ≡ variables s
+      → shiftedWeight τ (slots (rowsOf s)) rank α x ≡ x
+  stays rank α x l = weight-stays τ (slots (rowsOf s)) rank α x (exact α l)
 
   weights-stay : (before : Sum) (v w : Exponents) (a : Weights) → length v ≡ variables s → length w ≡ variables s
       → shiftedWeights τ (slots (rowsOf s)) before v w a ≡ a
@@ -136,15 +142,15 @@ module _ (τ : Exponents → ℤ) (s : List ℕ) (exact : AddsUp (variables s) �
       rw (stays _ v p lv, stays _ w q lw, stays _ (midpointOf v w) r (midpoint-sized v w (variables s) lv lw))
   weights-stay before v w (Lone p) lv lw = rw (stays _ v p lv)
 
-  pub row-stays : (i : ℕ) → shiftedRow τ s i ≡ rowOf s (variables s) (rowCount s) i
+  pub row-stays : (i : ℕ) → shiftedRow τ s i ≡ rowOf s (shapeOf s) i
   unfolding shiftedRow shiftRow
   row-stays i =
-      let a : Row = rowOf s (variables s) (rowCount s) i in
-      rw (weights-stay (slotsBefore s i) (a .v) (a .w) (a .weights) (rw row-v (v-length s (variables s) (rowCount s) i))
-      (rw row-w (w-length s (variables s) (rowCount s) i)))
+      let a : Row = rowOf s (shapeOf s) i in
+      rw (weights-stay (slotsBefore s i) (a .v) (a .w) (a .weights) (rw row-v (v-length s (shapeOf s) i))
+      (rw row-w (w-length s (shapeOf s) i)))
 
   pub rows-stay : shiftedRows τ s ≡ rowsOf s
   unfolding shiftedRows
   rows-stay =
-      table-same (shiftedRow τ s) (rowOf s (variables s) (rowCount s)) (rowCount s) (λ i l. row-stays i)
-      ∙ rows-table s (variables s) (rowCount s) refl refl
+      table-same (shiftedRow τ s) (rowOf s (shapeOf s)) (rowCount s) (λ i l. row-stays i)
+      ∙ rows-table s (shapeOf s) refl

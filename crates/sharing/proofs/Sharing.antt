@@ -1,17 +1,19 @@
--- Laws of sharing, on a list of slots alone: where a point has a slot the shifted weights add up to its target, where it
+-- Laws of sharing, on a list of slots alone, gathered from rows whatever a row is: where a point has a slot the shifted weights add up to its target, where it
 -- has none to 0, and weights that add up stay as they are.
-use mathlib.Core.Path.{_≡_, refl, _∙_}
+use mathlib.Core.Path.{_≡_, refl, _∙_, ap}
 use mathlib.Core.Bool.{Bool, true, false, cond}
 use mathlib.Core.List.{[], _∷_, _++_, append-nil, append-assoc}
-use Prim.Native.Nat.{ℕ, suc, _+_, _<_}
+use Prim.Native.Nat.{ℕ, zero, suc, _+_, _-_, _<_, _≤_}
 use native.Mathlib.Omega.{arith}
 use lib.IntN.{ℤ, pos, _+ℤ_, +ℤ-idr, +ℤ-invr}
 use Rattle.integers.specs.Division.{share, shares}
 use Rattle.integers.proofs.Integers.{ring, ints, by-eq}
 use Rattle.integers.proofs.division.Laws.{shares-none, shares-more, shares-sum, share-none}
 use Rattle.points.specs.Points.{Exponents, samePoint}
-use Rattle.squares.specs.Sums.{Sum, coefficient}
+use Rattle.points.specs.Lists.{table}
+use Rattle.squares.specs.Sums.{Sum, gathered, coefficient}
 use Rattle.squares.proofs.Sums.{coefficient-nil, coefficient-cons}
+use Rattle.squares.proofs.Gathered.{gathered-none, gathered-more}
 use Rattle.points.proofs.points.Laws.{same-eq}
 use Rattle.sharing.specs.Sharing.{count, errorAt, shiftedWeight, shiftedFrom, shiftedSlots}
 
@@ -63,7 +65,7 @@ from-nil τ L before = refl
 
 pub from-cons : (τ : Exponents → ℤ) (L before : Sum) (t : Exponents × ℤ) (rest : Sum)
     → shiftedFrom τ L before (t ∷ rest)
-    ≡ (t .0, shiftedWeight τ L before (t .0) (t .1)) ∷ shiftedFrom τ L (before ++ (t ∷ [])) rest
+    ≡ (t .0, shiftedWeight τ L (count (t .0) before) (t .0) (t .1)) ∷ shiftedFrom τ L (before ++ (t ∷ [])) rest
 unfolding shiftedFrom
 from-cons τ L before t rest = refl
 
@@ -95,7 +97,7 @@ module _ (τ : Exponents → ℤ) (L : Sum) (α : Exponents) where
     where
       go : (b : Bool) → samePoint α (t .0) ≡ b → (z : ℤ)
           → z ≡ coefficient α rest +ℤ got (count α (before ++ (t ∷ []))) (count α rest)
-          → cond b (shiftedWeight τ L before (t .0) (t .1) +ℤ z) z
+          → cond b (shiftedWeight τ L (count (t .0) before) (t .0) (t .1) +ℤ z) z
           ≡ cond b (t .1 +ℤ coefficient α rest) (coefficient α rest)
           +ℤ got (count α before) (cond b (suc (count α rest)) (count α rest))
       go true h z ih =
@@ -114,7 +116,40 @@ module _ (τ : Exponents → ℤ) (L : Sum) (α : Exponents) where
 
 -- ---- weights that add up stay
 
-pub weight-stays : (τ : Exponents → ℤ) (L before : Sum) (α : Exponents) (x : ℤ) → coefficient α L ≡ τ α
-    → shiftedWeight τ L before α x ≡ x
+pub weight-stays : (τ : Exponents → ℤ) (L : Sum) (rank : ℕ) (α : Exponents) (x : ℤ) → coefficient α L ≡ τ α
+    → shiftedWeight τ L rank α x ≡ x
 unfolding shiftedWeight errorAt
-weight-stays τ L before α x e = rw (e, +ℤ-invr, share-none, +ℤ-idr)
+weight-stays τ L rank α x e = rw (e, +ℤ-invr, share-none, +ℤ-idr)
+
+-- ---- slots gathered from rows, whatever a row is
+
+module _ {A : Type 0} (own : A → Sum) (row : ℕ → A) where
+  abbrev to : ℕ → Sum
+  to i = gathered own (table row i)
+
+  -- more rows have at least as many slots at a point
+  grows : (α : Exponents) (i d : ℕ) → count α (to i) ≤ count α (to (i + d))
+  grows α i zero = let e : i + 0 ≡ i = omega arith in rw e (omega arith)
+  grows α i (suc d) =
+      let e : i + suc d ≡ suc (i + d) = omega arith in
+      rw (e, gathered-more own row (i + d), count-append) (omega (arith, grows α i d))
+
+  -- those of the rows before a row and its own are among all
+  pub row-counted : (α : Exponents) (i k : ℕ) → i < k → count α (to i) + count α (own (row i)) ≤ count α (to k)
+  row-counted α i k l =
+      let e : suc i + (k - suc i) ≡ k = omega arith in
+      let g : count α (to (suc i)) ≤ count α (to k) = rw e at (grows α (suc i) (k - suc i)) in
+      let m = ap (count α) (gathered-more own row i) ∙ count-append α (to i) (own (row i)) in
+      omega (arith, g, m)
+
+  -- where `shifted` gives rows whose slots are those of `row` shifted, the slots of all its rows are all slots L shifted
+  module _ (τ : Exponents → ℤ) (shifted : ℕ → A) (L : Sum) (k : ℕ) (all : to k ≡ L)
+      (each : (i : ℕ) → own (shifted i) ≡ shiftedFrom τ L (to i) (own (row i))) where
+    first-shifted : (i : ℕ) → gathered own (table shifted i) ≡ shiftedFrom τ L [] (to i)
+    first-shifted zero = rw (gathered-none own shifted, gathered-none own row, from-nil)
+    first-shifted (suc i) =
+        rw (gathered-more own shifted i, gathered-more own row i, from-append, first-shifted i, each i)
+
+    pub gathered-shifted : gathered own (table shifted k) ≡ shiftedSlots τ L
+    unfolding shiftedSlots
+    gathered-shifted = first-shifted k ∙ rw all

@@ -16,15 +16,15 @@ count α (t ∷ L) = cond (samePoint α (t .0)) (suc (count α L)) (count α L)
 unfoldable pub errorAt : (Exponents → ℤ) → Sum → Exponents → ℤ
 errorAt τ L α = τ α -ℤ coefficient α L
 
--- the weight x of a slot at α with its share, which goes by the slot's rank among those at α: how many are before it
-unfoldable pub shiftedWeight : (Exponents → ℤ) → Sum → Sum → Exponents → ℤ → ℤ
-shiftedWeight τ L before α x = x +ℤ share (errorAt τ L α) (count α L) (count α before)
+-- the weight x of a slot at α with its share, which goes by the slot's rank: how many slots at α come before it
+unfoldable pub shiftedWeight : (Exponents → ℤ) → Sum → ℕ → Exponents → ℤ → ℤ
+shiftedWeight τ L rank α x = x +ℤ share (errorAt τ L α) (count α L) rank
 
 -- of all slots L, the last ones shifted; `before` are those before them
 unfoldable pub shiftedFrom : (Exponents → ℤ) → Sum → Sum → Sum → Sum
 shiftedFrom τ L before [] = []
 shiftedFrom τ L before (t ∷ last) =
-    (t .0, shiftedWeight τ L before (t .0) (t .1)) ∷ shiftedFrom τ L (before ++ (t ∷ [])) last
+    (t .0, shiftedWeight τ L (count (t .0) before) (t .0) (t .1)) ∷ shiftedFrom τ L (before ++ (t ∷ [])) last
 
 -- every slot with its shifted weight
 unfoldable pub shiftedSlots : (Exponents → ℤ) → Sum → Sum

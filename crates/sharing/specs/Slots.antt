@@ -10,32 +10,27 @@ use Rattle.points.specs.Keys.{keyOf}
 use Rattle.squares.specs.Sums.{Sum, coefficient}
 use Rattle.squares.specs.Rows.{slots}
 use Rattle.sheets.specs.ProofSheet.{vOf, wOf, rowOf}
-use Rattle.checks.specs.WellFormed.{ProofFacts}
+use Rattle.sheets.specs.declared.layout.Shape.{Shape}
 use Rattle.sharing.specs.Sharing.{count}
 use Rattle.sharing.specs.declared.slots.Holding.{Holding}
 use Rattle.sharing.specs.declared.slots.Tally.{Tally}
 
--- a proof of n variables and k rows that passes its checks
-pub record CheckedProof (s : List ℕ) (n k : ℕ) : Type 0 where
-  pub some : 1 ≤ n
-  pub few : n ≤ 8
-  pub facts : ProofFacts s n k
+-- the slots of the first i rows
+unfoldable pub slotsTo : List ℕ → Shape → ℕ → Sum
+slotsTo s shape i = slots (table (rowOf s shape) i)
 
--- the slots of the first i rows, in a proof of n variables and k rows
-unfoldable pub slotsTo : List ℕ → ℕ → ℕ → ℕ → Sum
-slotsTo s n k i = slots (table (rowOf s n k) i)
-
--- the sum of the weights at a point, its count of slots, and how many of these are before
-unfoldable pub holdingOf : Exponents → Sum → Sum → Holding
-holdingOf α L before = record { sum = coefficient α L; count = count α L; rank = count α before }
+-- the sum of the weights at a point, its count of slots, and a slot's rank there: those before its row, and so many of its
+-- own row
+unfoldable pub holdingOf : Exponents → Sum → Sum → ℕ → Holding
+holdingOf α L before own = record { sum = coefficient α L; count = count α L; rank = count α before + own }
 
 -- ---- the same by keys, as the code counts: `tally-sum`, `tally-count`, `key-held` and `keys-unheld` of
 -- proofs/slots/Laws.antt show that it is the same
 
 -- row i has a slot at the point with a key: v, w, or the midpoint, where twice the key is the sum of their keys
-unfoldable pub holdsKey : List ℕ → ℕ → ℕ → ℕ → Bool
-holdsKey s n key i =
-    eqb key (keyOf (vOf s n i)) || eqb key (keyOf (wOf s n i)) || eqb (keyOf (vOf s n i) + keyOf (wOf s n i)) (key * 2)
+unfoldable pub holdsKey : List ℕ → Shape → ℕ → ℕ → Bool
+holdsKey s shape key i =
+    eqb key (keyOf (vOf s shape i)) || eqb key (keyOf (wOf s shape i)) || eqb (keyOf (vOf s shape i) + keyOf (wOf s shape i)) (key * 2)
 
 -- a tally that leaves room for more
 pub record Small (a : Tally) : Type 0 where

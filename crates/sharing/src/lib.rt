@@ -1,4 +1,3 @@
-// Targets and sharing: what the weights at a point are to add up to, and the weights shifted until they do.
+// Sharing the error: the slots at a point, and the weights shifted until they add up to the target.
 pub mod shifts;
 pub mod slots;
-pub mod targets;

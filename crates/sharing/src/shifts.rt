@@ -1,18 +1,17 @@
 // Shifted weights: each slot's weight with its share of the error at its point.
 use crate::slots::Holding;
 use crate::slots::held;
-use crate::targets::Aim;
-use crate::targets::target_at;
 use integers::division::share;
 use points::points::Point;
 use points::points::midpoint;
-use sheets::layout::variables;
 use sheets::proof_sheet::Row;
 use sheets::proof_sheet::row_at;
-use sheets::proof_sheet::row_count;
+use sheets::proof_sheet::shape_of;
 use squares::rows::Weights;
+use targets::targets::Aim;
+use targets::targets::target_at;
 ghost use mathlib.Core.Path.{_≡_};
-ghost use Prim.Native.Nat.{_<_, _≤_, _^_};
+ghost use Prim.Native.Nat.{_+_, _<_, _≤_, _^_};
 ghost use lib.IntN.{natAbs, _+ℤ_, _-ℤ_};
 ghost use Rattle.integers.specs.Division.{share};
 ghost use Rattle.points.specs.Points.{exponents};
@@ -21,8 +20,8 @@ ghost use Rattle.answers.specs.Bounds.{greatestWeight};
 ghost use Rattle.sheets.specs.Layout.{variables, rowCount};
 ghost use Rattle.sheets.specs.ProofSheet.{rowsOf, byValue};
 ghost use Rattle.sharing.specs.Sharing.{count, shiftedWeight};
-ghost use Rattle.sharing.specs.Targets.{targetOf};
-ghost use Rattle.sharing.specs.Carried.{Carried};
+ghost use Rattle.targets.specs.Targets.{targetOf};
+ghost use Rattle.targets.specs.Carried.{Carried};
 ghost use Rattle.sharing.specs.Shifts.{CheckedSheets, IsRow, slotsBefore, shiftedRow};
 
 // A weight with its share of the error.
@@ -33,16 +32,16 @@ fn moved(x: i64, target: i64, h: Holding) -> i64
     x + share(target - h.sum, h.count, h.rank)
 }
 
-// The weight x of a slot of row i at p, shifted.
-fn shifted(claim: &[u8], proof: &[u8], aim: Aim, i: usize, p: Point, x: i64) -> i64
-    requires { ⌜ (CheckedSheets (now claim) (now proof) aim) × (i < rowCount (now proof)) × (Carried (variables (now claim)) (exponents p)) × (natAbs x ≤ greatestWeight) × (0 < count (exponents p) (slots (rowsOf (now proof)))) ⌝ }
-    ensures { λ r. ⌜ r ≡ shiftedWeight (targetOf (now (claim .entry)) aim) (slots (rowsOf (now (proof .entry)))) (slotsBefore (now (proof .entry)) i) (exponents p) x ⌝ }
+// The weight x of a slot of row i at p, shifted; so many slots of the row are before it there.
+fn shifted(claim: &[u8], proof: &[u8], aim: Aim, i: usize, own: u32, p: Point, x: i64) -> i64
+    requires { ⌜ (CheckedSheets (now claim) (now proof) aim) × (i < rowCount (now proof)) × (Carried (variables (now claim)) (exponents p)) × (natAbs x ≤ greatestWeight) × (count (exponents p) (slotsBefore (now proof) i) + own < count (exponents p) (slots (rowsOf (now proof)))) ⌝ }
+    ensures { λ r. ⌜ r ≡ shiftedWeight (targetOf (now (claim .entry)) aim) (slots (rowsOf (now (proof .entry)))) (count (exponents p) (slotsBefore (now (proof .entry)) i) + own) (exponents p) x ⌝ }
 {
-    let h = held(proof, variables(proof), row_count(proof), i, p);
+    let h = held(proof, shape_of(proof), i, own, p);
     moved(x, target_at(claim, aim, p), h)
 }
 
-// The weights of row i, shifted; v and w are its points.
+// The weights of row i, shifted; v and w are its points. A row holds a point at most once.
 fn shifted_weights(
     claim: &[u8],
     proof: &[u8],
@@ -57,11 +56,11 @@ fn shifted_weights(
 {
     match weights {
         Weights::Pair(p, q, r) => Weights::Pair(
-            shifted(claim, proof, aim, i, v, p),
-            shifted(claim, proof, aim, i, w, q),
-            shifted(claim, proof, aim, i, midpoint(v, w), r),
+            shifted(claim, proof, aim, i, 0, v, p),
+            shifted(claim, proof, aim, i, 0, w, q),
+            shifted(claim, proof, aim, i, 0, midpoint(v, w), r),
         ),
-        Weights::Lone(p) => Weights::Lone(shifted(claim, proof, aim, i, v, p)),
+        Weights::Lone(p) => Weights::Lone(shifted(claim, proof, aim, i, 0, v, p)),
     }
 }
 
@@ -70,7 +69,7 @@ pub fn shifted_row(claim: &[u8], proof: &[u8], aim: Aim, i: usize) -> Row
     requires { ⌜ (CheckedSheets (now claim) (now proof) aim) × (i < rowCount (now proof)) ⌝ }
     ensures { λ r. ⌜ r ≡ byValue (shiftedRow (targetOf (now (claim .entry)) aim) (now (proof .entry)) i) ⌝ }
 {
-    let row = row_at(proof, variables(proof), row_count(proof), i);
+    let row = row_at(proof, shape_of(proof), i);
     let v = row.v;
     let w = row.w;
     let weights = row.weights;

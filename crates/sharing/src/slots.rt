@@ -2,6 +2,7 @@
 use integers::words::read_i32;
 use points::keys::key_of;
 use points::points::Point;
+use sheets::layout::Shape;
 use sheets::proof_sheet::triple_place;
 use sheets::proof_sheet::v_key;
 use sheets::proof_sheet::w_key;
@@ -12,8 +13,10 @@ ghost use lib.ListN.{length};
 ghost use Rattle.integers.specs.Words.{i32At};
 ghost use Rattle.points.specs.Points.{exponents};
 ghost use Rattle.answers.specs.Bounds.{greatestWeight};
-ghost use Rattle.sharing.specs.Carried.{Carried};
-ghost use Rattle.sharing.specs.Slots.{CheckedProof, Small, slotsTo, holdsKey, added, tallyOf, holdingOf};
+ghost use Rattle.checks.specs.ProofChecks.{ProofFacts};
+ghost use Rattle.targets.specs.Carried.{Carried};
+ghost use Rattle.sharing.specs.Sharing.{count};
+ghost use Rattle.sharing.specs.Slots.{Small, slotsTo, holdsKey, added, tallyOf, holdingOf};
 
 // What the slots at a point weigh together, and how many they are.
 pub struct Tally {
@@ -21,7 +24,7 @@ pub struct Tally {
     pub count: u32,
 }
 
-// The same of all rows, with the number of slots that come before a row.
+// The same of all rows, with the number of slots that come before one of them.
 pub struct Holding {
     pub sum: i64,
     pub count: u32,
@@ -43,13 +46,13 @@ fn add_if(hit: bool, proof: &[u8], at: usize, a: Tally) -> Tally
 }
 
 // The slots of one row more: a pair's midpoint has the key where twice the key is the sum of its ends' keys.
-fn add_row(proof: &[u8], n: usize, k: usize, i: usize, key: u64, a: Tally) -> Tally
-    requires { ⌜ (CheckedProof (now proof) n k) × (i < k) × (key < 2 ^ 63) × (a ≡ tallyOf key (slotsTo (now proof) n k i)) ⌝ }
-    ensures { λ r. ⌜ r ≡ tallyOf key (slotsTo (now (proof .entry)) n k (i + 1)) ⌝ }
+fn add_row(proof: &[u8], shape: Shape, i: usize, key: u64, a: Tally) -> Tally
+    requires { ⌜ (ProofFacts (now proof) shape) × (i < shape .k) × (key < 2 ^ 63) × (a ≡ tallyOf key (slotsTo (now proof) shape i)) ⌝ }
+    ensures { λ r. ⌜ r ≡ tallyOf key (slotsTo (now (proof .entry)) shape (i + 1)) ⌝ }
 {
-    let v = v_key(proof, n, k, i);
-    let w = w_key(proof, n, k, i);
-    let at = triple_place(n, k, i);
+    let v = v_key(proof, shape, i);
+    let w = w_key(proof, shape, i);
+    let at = triple_place(shape, i);
     let b = add_if(key == v, proof, at, a);
     if v == w {
         return b;
@@ -59,41 +62,41 @@ fn add_row(proof: &[u8], n: usize, k: usize, i: usize, key: u64, a: Tally) -> Ta
 }
 
 // From the slots of the first rows to those of more.
-fn scan(proof: &[u8], n: usize, k: usize, from: usize, to: usize, key: u64, a: Tally) -> Tally
-    requires { ⌜ (CheckedProof (now proof) n k) × (from ≤ to) × (to ≤ k) × (key < 2 ^ 63) × (a ≡ tallyOf key (slotsTo (now proof) n k from)) ⌝ }
-    ensures { λ r. ⌜ r ≡ tallyOf key (slotsTo (now (proof .entry)) n k to) ⌝ }
+fn scan(proof: &[u8], shape: Shape, from: usize, to: usize, key: u64, a: Tally) -> Tally
+    requires { ⌜ (ProofFacts (now proof) shape) × (from ≤ to) × (to ≤ shape .k) × (key < 2 ^ 63) × (a ≡ tallyOf key (slotsTo (now proof) shape from)) ⌝ }
+    ensures { λ r. ⌜ r ≡ tallyOf key (slotsTo (now (proof .entry)) shape to) ⌝ }
 {
     let mut b = a;
     let mut i = from;
     while i < to {
-        b = add_row(proof, n, k, i, key, b);
+        b = add_row(proof, shape, i, key, b);
         i += 1;
     }
     b
 }
 
-// What the slots at a point are, seen from row i.
-pub(crate) fn held(proof: &[u8], n: usize, k: usize, i: usize, p: Point) -> Holding
-    requires { ⌜ (CheckedProof (now proof) n k) × (i < k) × (Carried n (exponents p)) ⌝ }
-    ensures { λ r. ⌜ r ≡ holdingOf (exponents p) (slotsTo (now (proof .entry)) n k k) (slotsTo (now (proof .entry)) n k i) ⌝ }
+// What the slots at a point are, seen from one of row i that has so many of its own row's before it there.
+pub(crate) fn held(proof: &[u8], shape: Shape, i: usize, own: u32, p: Point) -> Holding
+    requires { ⌜ (ProofFacts (now proof) shape) × (i < shape .k) × (Carried (shape .n) (exponents p)) × (count (exponents p) (slotsTo (now proof) shape i) + own < count (exponents p) (slotsTo (now proof) shape (shape .k))) ⌝ }
+    ensures { λ r. ⌜ r ≡ holdingOf (exponents p) (slotsTo (now (proof .entry)) shape (shape .k)) (slotsTo (now (proof .entry)) shape i) own ⌝ }
 {
     let key = key_of(p);
-    let before = scan(proof, n, k, 0, i, key, Tally { sum: 0, count: 0 });
-    let all = scan(proof, n, k, i, k, key, before);
+    let before = scan(proof, shape, 0, i, key, Tally { sum: 0, count: 0 });
+    let all = scan(proof, shape, i, shape.k, key, before);
     Holding {
         sum: all.sum,
         count: all.count,
-        rank: before.count,
+        rank: before.count + own,
     }
 }
 
 // Whether row i has a slot at the point with a key.
-pub fn holds_key(proof: &[u8], n: usize, k: usize, i: usize, key: u64) -> bool
-    requires { ⌜ (CheckedProof (now proof) n k) × (i < k) × (key < 2 ^ 63) ⌝ }
-    ensures { λ r. ⌜ r ≡ holdsKey (now (proof .entry)) n key i ⌝ }
+pub fn holds_key(proof: &[u8], shape: Shape, i: usize, key: u64) -> bool
+    requires { ⌜ (ProofFacts (now proof) shape) × (i < shape .k) × (key < 2 ^ 63) ⌝ }
+    ensures { λ r. ⌜ r ≡ holdsKey (now (proof .entry)) shape key i ⌝ }
 {
-    let v = v_key(proof, n, k, i);
-    let w = w_key(proof, n, k, i);
+    let v = v_key(proof, shape, i);
+    let w = w_key(proof, shape, i);
     if key == v {
         return true;
     }

@@ -2,6 +2,7 @@
 use mathlib.Core.List.{List}
 use Prim.Native.Nat.{ℕ, _+_, _*_, _≤_}
 use lib.ListN.{length, getD}
+use Rattle.sheets.specs.declared.layout.Shape.{Shape}
 
 -- entries of one size stand one after another: where entry i begins
 abbrev pub place : ℕ → ℕ → ℕ → ℕ
@@ -33,18 +34,22 @@ claimLength n t = place 8 t (n + 4)
 abbrev pub rowCount : List ℕ → ℕ
 rowCount s = getD s 2 0 + getD s 3 0 * 256
 
-abbrev pub vAt : ℕ → ℕ → ℕ
-vAt n i = place 8 i (2 * n)
+-- n and k, by which its parts are found
+abbrev pub shapeOf : List ℕ → Shape
+shapeOf s = record { n = variables s; k = rowCount s }
 
-abbrev pub wAt : ℕ → ℕ → ℕ
-wAt n i = vAt n i + n
+abbrev pub vAt : Shape → ℕ → ℕ
+vAt shape i = place 8 i (2 * shape .n)
 
-abbrev pub tripleAt : ℕ → ℕ → ℕ → ℕ
-tripleAt n k i = place (place 8 k (2 * n)) i 12
+abbrev pub wAt : Shape → ℕ → ℕ
+wAt shape i = vAt shape i + shape .n
+
+abbrev pub tripleAt : Shape → ℕ → ℕ
+tripleAt shape i = place (place 8 (shape .k) (2 * shape .n)) i 12
 
 -- "The length is 8 + k × (2n + 12)"
-abbrev pub proofLength : ℕ → ℕ → ℕ
-proofLength n k = place 8 k (2 * n + 12)
+abbrev pub proofLength : Shape → ℕ
+proofLength shape = place 8 (shape .k) (2 * shape .n + 12)
 
 -- ---- bytes that have room for a sheet, as the functions that read or write its parts ask
 
@@ -53,7 +58,7 @@ pub record ClaimRoom (c : List ℕ) (n t : ℕ) : Type 0 where
   pub terms : t ≤ 64
   pub long : claimLength n t ≤ length c
 
-pub record ProofRoom (s : List ℕ) (n k : ℕ) : Type 0 where
-  pub few : n ≤ 8
-  pub rows : k ≤ 256
-  pub long : proofLength n k ≤ length s
+pub record ProofRoom (s : List ℕ) (shape : Shape) : Type 0 where
+  pub few : shape .n ≤ 8
+  pub rows : shape .k ≤ 256
+  pub long : proofLength shape ≤ length s

@@ -1,17 +1,18 @@
--- The proof sheet: its scale and its rows, as the bytes give them, and weights written back.
+-- The proof sheet: its scale and its rows, as the bytes give them.
 use mathlib.Core.Bool.{Bool, true, false, cond}
 use mathlib.Core.List.{List}
-use Prim.Native.Nat.{ℕ, zero, suc, _+_}
+use Prim.Native.Nat.{ℕ, _+_}
 use lib.IntN.{pos}
 use mir.Syntax.{w32}
 use mir.Val.{SFits}
-use Rattle.integers.specs.Words.{u32At, i32At, withI32}
+use Rattle.integers.specs.Words.{u32At, i32At}
 use Rattle.points.specs.Lists.{table}
 use Rattle.points.specs.Points.{Exponents, bytesAt, pointOf, samePoint}
 use Rattle.squares.specs.Rows as Formal
 use Rattle.squares.specs.declared.rows.Weights.{Weights}
 use Rattle.squares.specs.declared.rows.Weights.the-variants.{Pair, Lone}
-use Rattle.sheets.specs.Layout.{variables, rowCount, vAt, wAt, tripleAt}
+use Rattle.sheets.specs.Layout.{rowCount, shapeOf, vAt, wAt, tripleAt}
+use Rattle.sheets.specs.declared.layout.Shape.{Shape}
 use Rattle.sheets.specs.declared.proof_sheet.Row.{Row}
 use Rattle.sheets.specs.declared.proof_sheet.Triple.{Triple}
 
@@ -19,40 +20,38 @@ use Rattle.sheets.specs.declared.proof_sheet.Triple.{Triple}
 unfoldable pub scaleOf : List ℕ → ℕ
 scaleOf s = u32At s 4
 
--- "two points v and w" of row i, in a proof of n variables and k rows
-unfoldable pub vOf : List ℕ → ℕ → ℕ → Exponents
-vOf s n i = bytesAt s (vAt n i) n
+-- "two points v and w" of row i
+unfoldable pub vOf : List ℕ → Shape → ℕ → Exponents
+vOf s shape i = bytesAt s (vAt shape i) (shape .n)
 
-unfoldable pub wOf : List ℕ → ℕ → ℕ → Exponents
-wOf s n i = bytesAt s (wAt n i) n
+unfoldable pub wOf : List ℕ → Shape → ℕ → Exponents
+wOf s shape i = bytesAt s (wAt shape i) (shape .n)
 
 -- the triple from a place on: "p, q, r, each signed 32-bit"
 unfoldable pub wordsAt : List ℕ → ℕ → Triple
 wordsAt s at = record { p = i32At s at; q = i32At s (at + 4); r = i32At s (at + 8) }
 
-unfoldable pub tripleOf : List ℕ → ℕ → ℕ → ℕ → Triple
-tripleOf s n k i = wordsAt s (tripleAt n k i)
+unfoldable pub tripleOf : List ℕ → Shape → ℕ → Triple
+tripleOf s shape i = wordsAt s (tripleAt shape i)
 
 -- "its one slot is p at v"; otherwise "its three slots are p at v, q at w and r at u"
 unfoldable pub weightsOf : Bool → Triple → Weights
 weightsOf lone x = cond lone (Lone (x .p)) (Pair (x .p) (x .q) (x .r))
 
 -- "A row is lone when v equals w": row i
-unfoldable pub rowOf : List ℕ → ℕ → ℕ → ℕ → Formal.Row
-rowOf s n k i = record {
-  v = vOf s n i;
-  w = wOf s n i;
-  weights = weightsOf (samePoint (vOf s n i) (wOf s n i)) (tripleOf s n k i);
+unfoldable pub rowOf : List ℕ → Shape → ℕ → Formal.Row
+rowOf s shape i = record {
+  v = vOf s shape i;
+  w = wOf s shape i;
+  weights = weightsOf (samePoint (vOf s shape i) (wOf s shape i)) (tripleOf s shape i);
 }
 
 unfoldable pub rowsOf : List ℕ → List Formal.Row
-rowsOf s = table (rowOf s (variables s) (rowCount s)) (rowCount s)
+rowsOf s = table (rowOf s (shapeOf s)) (rowCount s)
 
 -- a row with points by value
 unfoldable pub byValue : Formal.Row → Row
 byValue a = record { v = pointOf (a .v); w = pointOf (a .w); weights = a .weights }
-
--- ---- weights written back
 
 -- the triple of a row's weights: of a lone row "q and r are zero"
 unfoldable pub tripleFor : Weights → Triple
@@ -71,16 +70,3 @@ pub record Narrow (x : Triple) : Type 0 where
   pub p-fits : SFits w32 (x .p)
   pub q-fits : SFits w32 (x .q)
   pub r-fits : SFits w32 (x .r)
-
--- the bytes with a triple from a place on
-unfoldable pub withTriple : List ℕ → ℕ → Triple → List ℕ
-withTriple s at x = withI32 (withI32 (withI32 s at (x .p)) (at + 4) (x .q)) (at + 8) (x .r)
-
--- the bytes with row i's weights
-unfoldable pub withWeights : List ℕ → ℕ → ℕ → ℕ → Weights → List ℕ
-withWeights s n k i a = withTriple s (tripleAt n k i) (tripleFor a)
-
--- the bytes with the weights of the first rows, given by an index
-unfoldable pub withRows : (ℕ → Weights) → List ℕ → ℕ → ℕ → ℕ → List ℕ
-withRows weights s n k zero = s
-withRows weights s n k (suc i) = withWeights (withRows weights s n k i) n k i (weights i)

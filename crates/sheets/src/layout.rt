@@ -4,6 +4,12 @@ ghost use Prim.Native.Nat.{_≤_};
 ghost use lib.ListN.{length};
 ghost use Rattle.sheets.specs.Layout.{place, variables};
 
+// A proof sheet's variables and rows, by which its parts are found.
+pub struct Shape {
+    pub n: usize,
+    pub k: usize,
+}
+
 // Where entry i begins, of entries of one size that stand one after another.
 pub fn place_of(from: usize, i: usize, size: usize) -> usize
     requires { ⌜ (from ≤ 16777216) × (i ≤ 65535) × (size ≤ 1023) ⌝ }

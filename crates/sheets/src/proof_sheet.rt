@@ -1,21 +1,22 @@
-// The proof sheet's fields: its scale and its rows by value, and weights written back.
+// The proof sheet's fields: its shape, its scale and its rows by value.
+use crate::layout::Shape;
 use crate::layout::count;
 use crate::layout::place_of;
+use crate::layout::variables;
 use integers::words::read_i32;
 use integers::words::read_u32;
-use integers::words::write_i32;
 use points::keys::key_at;
 use points::points::Point;
 use points::points::point_at;
 use points::points::same;
 use squares::rows::Weights;
 ghost use mathlib.Core.Path.{_≡_};
-ghost use Prim.Native.Nat.{_+_, _<_, _≤_};
+ghost use Prim.Native.Nat.{_<_, _≤_};
 ghost use lib.ListN.{length};
 ghost use Rattle.points.specs.Points.{pointOf};
 ghost use Rattle.points.specs.Keys.{keyOf};
-ghost use Rattle.sheets.specs.Layout.{rowCount, vAt, tripleAt, ProofRoom};
-ghost use Rattle.sheets.specs.ProofSheet.{scaleOf, vOf, wOf, tripleOf, weightsOf, rowOf, byValue, tripleFor, Narrow, withTriple, withWeights};
+ghost use Rattle.sheets.specs.Layout.{rowCount, shapeOf, vAt, tripleAt, proofLength, ProofRoom};
+ghost use Rattle.sheets.specs.ProofSheet.{scaleOf, vOf, wOf, tripleOf, weightsOf, rowOf, byValue, tripleFor};
 
 // A row's three numbers, as the sheet has them.
 pub struct Triple {
@@ -39,6 +40,25 @@ pub fn row_count(proof: &[u8]) -> usize
     count(proof[2]) + count(proof[3]) * 256
 }
 
+// n and k.
+pub fn shape_of(proof: &[u8]) -> Shape
+    requires { ⌜ 8 ≤ length (now proof) ⌝ }
+    ensures { λ r. ⌜ (r ≡ shapeOf (now (proof .entry))) × (r .n ≤ 255) × (r .k ≤ 65535) ⌝ }
+{
+    Shape {
+        n: variables(proof),
+        k: row_count(proof),
+    }
+}
+
+// How long a proof is.
+pub fn proof_length(shape: Shape) -> usize
+    requires { ⌜ (shape .n ≤ 255) × (shape .k ≤ 65535) ⌝ }
+    ensures { λ r. ⌜ r ≡ proofLength shape ⌝ }
+{
+    place_of(8, shape.k, 2 * shape.n + 12)
+}
+
 // The scale S.
 pub fn scale(proof: &[u8]) -> u64
     requires { ⌜ 8 ≤ length (now proof) ⌝ }
@@ -48,59 +68,59 @@ pub fn scale(proof: &[u8]) -> u64
 }
 
 // Where the points of row i begin.
-fn row_place(n: usize, k: usize, i: usize) -> usize
-    requires { ⌜ (n ≤ 8) × (k ≤ 256) × (i < k) ⌝ }
-    ensures { λ r. ⌜ (r ≡ vAt n i) × (r ≤ 4088) ⌝ }
+fn row_place(shape: Shape, i: usize) -> usize
+    requires { ⌜ (shape .n ≤ 8) × (shape .k ≤ 256) × (i < shape .k) ⌝ }
+    ensures { λ r. ⌜ (r ≡ vAt shape i) × (r ≤ 4088) ⌝ }
 {
-    place_of(8, i, 2 * n)
+    place_of(8, i, 2 * shape.n)
 }
 
 // The first point of row i.
-pub fn row_v(proof: &[u8], n: usize, k: usize, i: usize) -> Point
-    requires { ⌜ (ProofRoom (now proof) n k) × (i < k) ⌝ }
-    ensures { λ r. ⌜ r ≡ pointOf (vOf (now (proof .entry)) n i) ⌝ }
+pub fn row_v(proof: &[u8], shape: Shape, i: usize) -> Point
+    requires { ⌜ (ProofRoom (now proof) shape) × (i < shape .k) ⌝ }
+    ensures { λ r. ⌜ r ≡ pointOf (vOf (now (proof .entry)) shape i) ⌝ }
 {
-    point_at(proof, row_place(n, k, i), n)
+    point_at(proof, row_place(shape, i), shape.n)
 }
 
 // The second point of row i.
-pub fn row_w(proof: &[u8], n: usize, k: usize, i: usize) -> Point
-    requires { ⌜ (ProofRoom (now proof) n k) × (i < k) ⌝ }
-    ensures { λ r. ⌜ r ≡ pointOf (wOf (now (proof .entry)) n i) ⌝ }
+pub fn row_w(proof: &[u8], shape: Shape, i: usize) -> Point
+    requires { ⌜ (ProofRoom (now proof) shape) × (i < shape .k) ⌝ }
+    ensures { λ r. ⌜ r ≡ pointOf (wOf (now (proof .entry)) shape i) ⌝ }
 {
-    point_at(proof, row_place(n, k, i) + n, n)
+    point_at(proof, row_place(shape, i) + shape.n, shape.n)
 }
 
 // The key of row i's first point.
-pub fn v_key(proof: &[u8], n: usize, k: usize, i: usize) -> u64
-    requires { ⌜ (ProofRoom (now proof) n k) × (1 ≤ n) × (i < k) ⌝ }
-    ensures { λ r. ⌜ r ≡ keyOf (vOf (now (proof .entry)) n i) ⌝ }
+pub fn v_key(proof: &[u8], shape: Shape, i: usize) -> u64
+    requires { ⌜ (ProofRoom (now proof) shape) × (1 ≤ shape .n) × (i < shape .k) ⌝ }
+    ensures { λ r. ⌜ r ≡ keyOf (vOf (now (proof .entry)) shape i) ⌝ }
 {
-    key_at(proof, row_place(n, k, i), n)
+    key_at(proof, row_place(shape, i), shape.n)
 }
 
 // The key of row i's second point.
-pub fn w_key(proof: &[u8], n: usize, k: usize, i: usize) -> u64
-    requires { ⌜ (ProofRoom (now proof) n k) × (1 ≤ n) × (i < k) ⌝ }
-    ensures { λ r. ⌜ r ≡ keyOf (wOf (now (proof .entry)) n i) ⌝ }
+pub fn w_key(proof: &[u8], shape: Shape, i: usize) -> u64
+    requires { ⌜ (ProofRoom (now proof) shape) × (1 ≤ shape .n) × (i < shape .k) ⌝ }
+    ensures { λ r. ⌜ r ≡ keyOf (wOf (now (proof .entry)) shape i) ⌝ }
 {
-    key_at(proof, row_place(n, k, i) + n, n)
+    key_at(proof, row_place(shape, i) + shape.n, shape.n)
 }
 
 // Where the triple of row i begins.
-pub fn triple_place(n: usize, k: usize, i: usize) -> usize
-    requires { ⌜ (n ≤ 8) × (k ≤ 256) × (i < k) ⌝ }
-    ensures { λ r. ⌜ (r ≡ tripleAt n k i) × (r ≤ 7164) ⌝ }
+pub fn triple_place(shape: Shape, i: usize) -> usize
+    requires { ⌜ (shape .n ≤ 8) × (shape .k ≤ 256) × (i < shape .k) ⌝ }
+    ensures { λ r. ⌜ (r ≡ tripleAt shape i) × (r ≤ 7164) ⌝ }
 {
-    place_of(place_of(8, k, 2 * n), i, 12)
+    place_of(place_of(8, shape.k, 2 * shape.n), i, 12)
 }
 
 // The triple of row i.
-pub fn row_triple(proof: &[u8], n: usize, k: usize, i: usize) -> Triple
-    requires { ⌜ (ProofRoom (now proof) n k) × (i < k) ⌝ }
-    ensures { λ r. ⌜ r ≡ tripleOf (now (proof .entry)) n k i ⌝ }
+pub fn row_triple(proof: &[u8], shape: Shape, i: usize) -> Triple
+    requires { ⌜ (ProofRoom (now proof) shape) × (i < shape .k) ⌝ }
+    ensures { λ r. ⌜ r ≡ tripleOf (now (proof .entry)) shape i ⌝ }
 {
-    let at = triple_place(n, k, i);
+    let at = triple_place(shape, i);
     Triple {
         p: read_i32(proof, at),
         q: read_i32(proof, at + 4),
@@ -120,13 +140,13 @@ fn weights_of(lone: bool, x: Triple) -> Weights
 }
 
 // Row i by value.
-pub fn row_at(proof: &[u8], n: usize, k: usize, i: usize) -> Row
-    requires { ⌜ (ProofRoom (now proof) n k) × (i < k) ⌝ }
-    ensures { λ r. ⌜ r ≡ byValue (rowOf (now (proof .entry)) n k i) ⌝ }
+pub fn row_at(proof: &[u8], shape: Shape, i: usize) -> Row
+    requires { ⌜ (ProofRoom (now proof) shape) × (i < shape .k) ⌝ }
+    ensures { λ r. ⌜ r ≡ byValue (rowOf (now (proof .entry)) shape i) ⌝ }
 {
-    let v = row_v(proof, n, k, i);
-    let w = row_w(proof, n, k, i);
-    let weights = weights_of(same(v, w), row_triple(proof, n, k, i));
+    let v = row_v(proof, shape, i);
+    let w = row_w(proof, shape, i);
+    let weights = weights_of(same(v, w), row_triple(proof, shape, i));
     Row { v, w, weights }
 }
 
@@ -138,22 +158,4 @@ pub fn triple_for(weights: Weights) -> Triple
         Weights::Pair(p, q, r) => Triple { p, q, r },
         Weights::Lone(p) => Triple { p, q: 0, r: 0 },
     }
-}
-
-// Three numbers from a place on. Their twelve bytes change, and no other.
-fn write_triple(out: &mut [u8], at: usize, x: Triple)
-    requires { ⌜ (at + 12 ≤ length (now out)) × (Narrow x) ⌝ }
-    ensures { λ _. ⌜ now (out .exit) ≡ withTriple (now (out .entry)) at x ⌝ }
-{
-    write_i32(out, at, x.p);
-    write_i32(out, at + 4, x.q);
-    write_i32(out, at + 8, x.r);
-}
-
-// Row i's weights, in bytes that have room for the proof: q and r of a lone row become zero.
-pub fn write_weights(out: &mut [u8], n: usize, k: usize, i: usize, weights: Weights)
-    requires { ⌜ (ProofRoom (now out) n k) × (i < k) × (Narrow (tripleFor weights)) ⌝ }
-    ensures { λ _. ⌜ now (out .exit) ≡ withWeights (now (out .entry)) n k i weights ⌝ }
-{
-    write_triple(out, triple_place(n, k, i), triple_for(weights));
 }

@@ -13,7 +13,7 @@ use Rattle.integers.proofs.Integers.{ring, by-le, read-le, ≤ℤ-trans, nonneg
 use Rattle.points.specs.Points.{Exponents, keepsSign}
 use Rattle.monomials.specs.Powers.{monomialOf}
 use Rattle.squares.specs.Sums.{Sum, coefficient, value, valueAt}
-use Rattle.squares.specs.Rows.{Row, slotsAt, slots}
+use Rattle.squares.specs.Rows.{Row, slotsAt, slotsOf, slots}
 use Rattle.squares.specs.Targets.{lowered, worst, target}
 use Rattle.points.specs.Lists.{All}
 use Rattle.squares.specs.Decomposition.{Sized, Whole, Placed, AddsUp}
@@ -21,10 +21,11 @@ use Rattle.squares.specs.Floor.{Floor}
 use Rattle.squares.specs.declared.rows.Weights.{Weights}
 use Rattle.squares.specs.declared.rows.Weights.the-variants.{Pair, Lone}
 use Rattle.points.proofs.points.Laws.{midpoint-sized}
-use Rattle.points.proofs.Lists.{all-append}
+use Rattle.points.proofs.Lists.{all-map}
 use Rattle.squares.proofs.Targets.{worst-zero, worst-scaled, worst-below, target-zero}
 use Rattle.squares.proofs.Sums.{scaled, coefficient-scaled, value-scaled, dominate, coefficient-none}
 use Rattle.monomials.proofs.Monomials.{monomial-sign, monomial-mean, monomial-constant}
+use Rattle.squares.proofs.Gathered.{gathered-all}
 use Rattle.squares.proofs.rows.Laws.{Mean, absolute, rows-nonneg}
 
 -- ---- any worth of points
@@ -61,11 +62,9 @@ slots-sized n v w (Pair p q r) h k = (h, (k, (midpoint-sized v w n h k, tt)))
 slots-sized n v w (Lone p) h k = (h, tt)
 
 pub rows-sized : (n : ℕ) (rows : List Row) → All (Placed n) rows → Sized n (slots rows)
-unfolding slots
-rows-sized n [] t = tt
-rows-sized n (a ∷ rows) t =
-    all-append (λ t. length (t .0) ≡ n) (slotsAt (a .v) (a .w) (a .weights)) (slots rows)
-    (slots-sized n (a .v) (a .w) (a .weights) (t .0 .v-length) (t .0 .w-length)) (rows-sized n rows (t .1))
+rows-sized n rows t =
+    gathered-all slotsOf (λ t. length (t .0) ≡ n) rows
+    (all-map _ _ rows (λ a h. slots-sized n (a .v) (a .w) (a .weights) (h .v-length) (h .w-length)) t)
 
 -- ---- the floor, for any slots that are worth at least 0 at absolute values
 
@@ -84,8 +83,7 @@ means x v w (Lone p) t = tt
 
 all-means : (x : List ℤ) (n : ℕ) (rows : List Row) → All (Placed n) rows
     → All (λ a. Mean (monomialOf x) (a .v) (a .w) (a .weights)) rows
-all-means x n [] t = tt
-all-means x n (a ∷ rows) t = (means x (a .v) (a .w) (a .weights) (t .0 .whole), all-means x n rows (t .1))
+all-means x n rows t = all-map _ _ rows (λ a h. means x (a .v) (a .w) (a .weights) (h .whole)) t
 
 -- f − b is not negative, so b is at most f
 raise : (b v : ℤ) → pos 0 ≤ℤ (negℤ b *ℤ pos 1 +ℤ v) → b ≤ℤ v

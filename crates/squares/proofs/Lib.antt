@@ -1,3 +1,4 @@
 pub mod Sums
+pub mod Gathered
 pub mod Targets
 pub mod Floor

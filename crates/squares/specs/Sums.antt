@@ -1,12 +1,17 @@
 -- Formal sums: lists of points with weights. A polynomial is one, with its coefficients; the slots of a proof are another.
 use mathlib.Core.Bool.{cond}
-use mathlib.Core.List.{List, [], _∷_}
+use mathlib.Core.List.{List, [], _∷_, _++_}
 use lib.IntN.{ℤ, pos, _+ℤ_, _*ℤ_}
 use Rattle.points.specs.Points.{Exponents, samePoint}
 use Rattle.monomials.specs.Powers.{monomialOf}
 
 abbrev pub Sum : Type 0
 Sum = List (Exponents × ℤ)
+
+-- the slots of rows, in row order, whatever a row is: `own` gives those of one
+unfoldable pub gathered : {A : Type 0} → (A → Sum) → List A → Sum
+gathered own [] = []
+gathered own (a ∷ rows) = own a ++ gathered own rows
 
 -- the weights at a point, added up: 0 where there is none
 unfoldable pub coefficient : Exponents → Sum → ℤ

@@ -4,9 +4,10 @@ use Prim.Native.Nat.{ℕ, _<_}
 use lib.IntN.{ℤ}
 use Rattle.points.specs.Points.{Exponents}
 use Rattle.squares.specs.declared.rows.Weights.{Weights}
-use Rattle.sheets.specs.Layout.{variables, rowCount}
-use Rattle.sheets.specs.ProofSheet.{tripleFor, withRows}
-use Rattle.checks.specs.WellFormed.{Within}
+use Rattle.sheets.specs.Layout.{rowCount, shapeOf}
+use Rattle.sheets.specs.ProofSheet.{tripleFor}
+use Rattle.writing.specs.Writing.{withRows}
+use Rattle.checks.specs.ProofChecks.{Within}
 use Rattle.sharing.specs.Shifts.{shiftedRow}
 
 -- the shifted weights of row i; τ gives each point's target
@@ -14,7 +15,7 @@ unfoldable pub weightsFor : (Exponents → ℤ) → List ℕ → ℕ → Weights
 weightsFor τ s i = shiftedRow τ s i .weights
 
 unfoldable pub exactProof : (Exponents → ℤ) → List ℕ → List ℕ
-exactProof τ s = withRows (weightsFor τ s) s (variables s) (rowCount s) (rowCount s)
+exactProof τ s = withRows (weightsFor τ s) s (shapeOf s) (rowCount s)
 
 -- "the weights, shifted by the published sharing rule, stay within" ± the limit
 pub record AllWithin (limit : ℕ) (τ : Exponents → ℤ) (s : List ℕ) : Type 0 where

@@ -1,4 +1,3 @@
 pub mod Unheld
-pub mod Judgements
 pub mod Exact
 pub mod Weighed

@@ -8,7 +8,7 @@ use Rattle.answers.specs.Answers.{Answer, andThen}
 use Rattle.answers.specs.Bounds.{greatestWeight}
 use Rattle.sharing.specs.Shifts.{shiftedRow}
 use Rattle.weighing.specs.Unheld.{unheldAnswer}
-use Rattle.weighing.specs.Judgements.{firstsTo, judgedAnswer}
+use Rattle.judgements.specs.Judgements.{firstsTo, judgedAnswer}
 
 -- 16 to 19; τ gives each point's target
 unfoldable pub weighedAnswer : (Exponents → ℤ) → List ℕ → List ℕ → Answer

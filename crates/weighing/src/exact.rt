@@ -1,32 +1,30 @@
 // The exact proof: the proof sheet with its shifted weights, in the output.
 use sharing::shifts::shifted_row;
-use sharing::targets::Aim;
-use sheets::layout::variables;
-use sheets::proof_sheet::row_count;
-use sheets::proof_sheet::write_weights;
+use sheets::proof_sheet::shape_of;
+use targets::targets::Aim;
+use writing::writing::write_weights;
 ghost use mathlib.Core.Path.{_≡_};
 ghost use mathlib.Core.List.{_++_};
 ghost use Prim.Native.Nat.{_≤_};
 ghost use lib.ListN.{length, drop};
 ghost use Rattle.answers.specs.Bounds.{greatestWeight};
-ghost use Rattle.sheets.specs.Layout.{variables, rowCount};
-ghost use Rattle.sheets.specs.ProofSheet.{withRows};
-ghost use Rattle.sharing.specs.Targets.{targetOf};
+ghost use Rattle.sheets.specs.Layout.{rowCount, shapeOf};
+ghost use Rattle.writing.specs.Writing.{withRows};
+ghost use Rattle.targets.specs.Targets.{targetOf};
 ghost use Rattle.sharing.specs.Shifts.{CheckedSheets};
 ghost use Rattle.weighing.specs.Exact.{AllWithin, weightsFor, exactProof};
 
 // The shifted weights of every row, in bytes that have room for the proof.
 fn write_rows(claim: &[u8], proof: &[u8], aim: Aim, out: &mut [u8])
     requires { ⌜ (CheckedSheets (now claim) (now proof) aim) × (AllWithin greatestWeight (targetOf (now claim) aim) (now proof)) × (length (now proof) ≤ length (now out)) ⌝ }
-    ensures { λ _. ⌜ now (out .exit) ≡ withRows (weightsFor (targetOf (now (claim .entry)) aim) (now (proof .entry))) (now (out .entry)) (variables (now (proof .entry))) (rowCount (now (proof .entry))) (rowCount (now (proof .entry))) ⌝ }
+    ensures { λ _. ⌜ now (out .exit) ≡ withRows (weightsFor (targetOf (now (claim .entry)) aim) (now (proof .entry))) (now (out .entry)) (shapeOf (now (proof .entry))) (rowCount (now (proof .entry))) ⌝ }
 {
-    let n = variables(proof);
-    let k = row_count(proof);
+    let shape = shape_of(proof);
     let mut i = 0;
-    while i < k {
+    while i < shape.k {
         let row = shifted_row(claim, proof, aim, i);
         let weights = row.weights;
-        write_weights(out, n, k, i, weights);
+        write_weights(out, shape, i, weights);
         i += 1;
     }
 }

@@ -4,12 +4,12 @@ use integers::magnitudes::magnitude;
 use points::keys::key_of;
 use points::points::Point;
 use sharing::slots::holds_key;
-use sharing::targets::Aim;
-use sharing::targets::target_at;
 use sheets::claim_sheet::term_count;
 use sheets::claim_sheet::term_point;
 use sheets::layout::variables;
-use sheets::proof_sheet::row_count;
+use sheets::proof_sheet::shape_of;
+use targets::targets::Aim;
+use targets::targets::target_at;
 ghost use mathlib.Core.Path.{_≡_};
 ghost use Prim.Native.Nat.{suc, _≤_};
 ghost use lib.Dec.{eqb};
@@ -17,9 +17,9 @@ ghost use lib.IntN.{natAbs};
 ghost use Rattle.points.specs.Points.{exponents, pointOf};
 ghost use Rattle.sheets.specs.Layout.{variables, termCount};
 ghost use Rattle.answers.specs.Searches.{first};
-ghost use Rattle.checks.specs.WellFormed.{ClaimFacts};
-ghost use Rattle.sharing.specs.Carried.{Carried};
-ghost use Rattle.sharing.specs.Targets.{AimWithin, targetOf};
+ghost use Rattle.claims.specs.ClaimChecks.{ClaimFacts};
+ghost use Rattle.targets.specs.Carried.{Carried};
+ghost use Rattle.targets.specs.Targets.{AimWithin, targetOf};
 ghost use Rattle.sharing.specs.Shifts.{CheckedSheets};
 ghost use Rattle.weighing.specs.Unheld.{pointFor, unheld};
 
@@ -49,7 +49,7 @@ pub(crate) fn first_unheld(claim: &[u8], proof: &[u8], aim: Aim) -> Found
 {
     let n = variables(claim);
     let t = term_count(claim);
-    let k = row_count(proof);
+    let shape = shape_of(proof);
     let mut i = 0;
     'terms: while i <= t {
         let p = point_for(claim, n, t, i);
@@ -59,8 +59,8 @@ pub(crate) fn first_unheld(claim: &[u8], proof: &[u8], aim: Aim) -> Found
         }
         let key = key_of(p);
         let mut j = 0;
-        while j < k {
-            if holds_key(proof, n, k, j, key) {
+        while j < shape.k {
+            if holds_key(proof, shape, j, key) {
                 i += 1;
                 continue 'terms;
             }

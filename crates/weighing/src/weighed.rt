@@ -1,15 +1,61 @@
 // The checks 16 to 19, in the order of their numbers.
-use crate::judgements::check_judged;
 use crate::unheld::first_unheld;
 use answers::answers::Sheet;
 use answers::answers::Verdict;
+use answers::bounds::GREATEST_WEIGHT;
 use answers::searches::Found;
-use sharing::targets::Aim;
+use judgements::judgements::Firsts;
+use judgements::judgements::chosen;
+use judgements::judgements::judge;
+use judgements::judgements::note;
+use judgements::judgements::number_of;
+use sharing::shifts::shifted_row;
+use sheets::proof_sheet::row_count;
+use targets::targets::Aim;
 ghost use mathlib.Core.Path.{_≡_};
+ghost use Prim.Native.Nat.{_<_};
 ghost use Rattle.answers.specs.Answers.{says};
-ghost use Rattle.sharing.specs.Targets.{targetOf};
-ghost use Rattle.sharing.specs.Shifts.{CheckedSheets};
+ghost use Rattle.answers.specs.Bounds.{greatestWeight};
+ghost use Rattle.sheets.specs.Layout.{rowCount};
+ghost use Rattle.targets.specs.Targets.{targetOf};
+ghost use Rattle.sharing.specs.Shifts.{shiftedRow, CheckedSheets};
+ghost use Rattle.judgements.specs.Judgements.{judgedNumber, firstsTo, judgedAnswer};
 ghost use Rattle.weighing.specs.Weighed.{weighedAnswer};
+
+// The number of row i's judgement.
+fn judged_number(claim: &[u8], proof: &[u8], aim: Aim, i: usize) -> u32
+    requires { ⌜ (CheckedSheets (now claim) (now proof) aim) × (i < rowCount (now proof)) ⌝ }
+    ensures { λ r. ⌜ r ≡ judgedNumber greatestWeight (shiftedRow (targetOf (now (claim .entry)) aim) (now (proof .entry))) i ⌝ }
+{
+    number_of(judge(shifted_row(claim, proof, aim, i), GREATEST_WEIGHT))
+}
+
+// Every row judged, in one pass.
+fn judge_all(claim: &[u8], proof: &[u8], aim: Aim, k: usize) -> Firsts
+    requires { ⌜ (CheckedSheets (now claim) (now proof) aim) × (k ≡ rowCount (now proof)) ⌝ }
+    ensures { λ r. ⌜ r ≡ firstsTo greatestWeight (shiftedRow (targetOf (now (claim .entry)) aim) (now (proof .entry))) k ⌝ }
+{
+    let mut f = Firsts {
+        beyond: Found::Nothing,
+        negative: Found::Nothing,
+        large: Found::Nothing,
+    };
+    let mut i = 0;
+    while i < k {
+        f = note(f, judged_number(claim, proof, aim, i), i);
+        i += 1;
+    }
+    f
+}
+
+// The checks 17 to 19.
+fn check_judged(claim: &[u8], proof: &[u8], aim: Aim) -> Verdict
+    requires { ⌜ CheckedSheets (now claim) (now proof) aim ⌝ }
+    ensures { λ r. ⌜ says r ≡ judgedAnswer (firstsTo greatestWeight (shiftedRow (targetOf (now (claim .entry)) aim) (now (proof .entry))) (rowCount (now (proof .entry)))) (rowCount (now (proof .entry))) ⌝ }
+{
+    let k = row_count(proof);
+    chosen(judge_all(claim, proof, aim, k), k)
+}
 
 // The checks 16 to 19, for an aim.
 pub fn weigh(claim: &[u8], proof: &[u8], aim: Aim) -> Verdict

@@ -15,11 +15,12 @@ use Rattle.answers.specs.Answers.{says, accepted, refused, refuseIf, refuseAt, 
 use Rattle.answers.specs.Searches.{first}
 use Rattle.answers.specs.Bounds.{greatestExponent, greatestWeight, beyond}
 use Rattle.sheets.specs.Layout.{tripleAt}
+use Rattle.sheets.specs.declared.layout.Shape.{Shape}
 use Rattle.sheets.specs.ClaimSheet.{floorOf, termPoint, coefficientOf}
-use Rattle.checks.specs.ClaimChecks as C
+use Rattle.claims.specs.ClaimChecks as C
 use Rattle.sheets.specs.ProofSheet.{scaleOf, vOf, wOf, wordsAt, tripleOf}
 use Rattle.checks.specs.ProofChecks as P
-use Rattle.checks.specs.WellFormed.{sheetsAnswer}
+use Rattle.checks.specs.Input.{headAnswer, formedAnswer}
 use Rattle.answers.specs.declared.answers.Verdict.the-variants.{Accepted}
 use Rattle.checks.specs.declared.proof_checks.RowRule.the-variants as R
 use Rattle.answers.specs.declared.searches.Found.the-variants.{Nothing}
@@ -28,12 +29,12 @@ use Rattle.answers.proofs.searches.Laws.{nothing-first}
 use Rattle.worked.specs.Sheets.{joined, word, words, claimOf, proofOf, squareWith, square, squareProof, twoTerms, oneRow}
 use Rattle.worked.specs.Checks.{Case, claims, proves, full, manyPoints, manyRows, small, cases, Worked}
 
-small-worked : map (λ (c : Case). sheetsAnswer (c .claim) (c .proof)) small ≡ map (λ (c : Case). c .answer) small
+small-worked : map (λ (c : Case). formedAnswer (c .claim) (c .proof)) small ≡ map (λ (c : Case). c .answer) small
 unfolding
     u32At i32At table bytesAt every everyPair samePoint risesTo evenSum hasMidpoint exponentsWithin
     accepted refused refuseIf refuseAt blameless andThen first beyond floorOf termPoint coefficientOf
     C.headerRight C.breaks C.termsAnswer C.claimAnswer scaleOf vOf wOf wordsAt tripleOf
-    P.headerRight P.headerAnswer P.carries P.anyBeyond P.breaks P.rowsAnswer sheetsAnswer
+    P.headerRight P.headerAnswer P.carries P.anyBeyond P.breaks P.rowsAnswer headAnswer formedAnswer
     joined word words claimOf proofOf squareWith square squareProof claims proves twoTerms oneRow full manyPoints manyRows small
 small-worked = refl
 
@@ -41,6 +42,9 @@ small-worked = refl
 
 many : List ℕ
 many = manyRows 120
+
+abbrev shape : Shape
+shape = record { n = 1; k = 256 }
 
 points-length : length (manyPoints 120) ≡ 520
 unfolding joined word manyPoints
@@ -63,28 +67,28 @@ word-zero : (at : ℕ) → 520 ≤ at → i32At many at ≡ pos 0
 unfolding u32At i32At
 word-zero at h = rw (far at h, far (at + 1) (omega arith), far (at + 2) (omega arith), far (at + 3) (omega arith))
 
-weights-light : (i : ℕ) → P.breaks (R.Weight greatestWeight) many 1 256 i ≡ false
+weights-light : (i : ℕ) → P.breaks (R.Weight greatestWeight) many shape i ≡ false
 unfolding P.breaks P.anyBeyond beyond tripleOf wordsAt
 weights-light i =
     rw (
-      word-zero (tripleAt 1 256 i) (omega arith),
-      word-zero (tripleAt 1 256 i + 4) (omega arith),
-      word-zero (tripleAt 1 256 i + 8) (omega arith),
+      word-zero (tripleAt shape i) (omega arith),
+      word-zero (tripleAt shape i + 4) (omega arith),
+      word-zero (tripleAt shape i + 8) (omega arith),
     )
 
-exponents-low : Nothing ≡ first (P.breaks (R.Exponent greatestExponent) many 1 256) 256
+exponents-low : Nothing ≡ first (P.breaks (R.Exponent greatestExponent) many shape) 256
 unfolding first P.breaks exponentsWithin every vOf wOf bytesAt table many manyRows manyPoints joined word
 exponents-low = refl
 
-midpoints-whole : Nothing ≡ first (P.breaks R.Midpoint many 1 256) 256
+midpoints-whole : Nothing ≡ first (P.breaks R.Midpoint many shape) 256
 unfolding first P.breaks hasMidpoint everyPair evenSum vOf wOf bytesAt table many manyRows manyPoints joined word
 midpoints-whole = refl
 
-none-lone : Nothing ≡ first (P.breaks R.Unused many 1 256) 256
+none-lone : Nothing ≡ first (P.breaks R.Unused many shape) 256
 unfolding first P.breaks samePoint everyPair vOf wOf bytesAt table many manyRows manyPoints joined word
 none-lone = refl
 
-rows-right : says (Accepted 0) ≡ P.rowsAnswer many 1 256
+rows-right : says (Accepted 0) ≡ P.rowsAnswer many shape
 unfolding P.rowsAnswer says
 rows-right =
     passed-at (Accepted 0) Nothing _ 12 _ exponents-low refl
@@ -103,11 +107,13 @@ unfolding
     says accepted refuseIf P.headerAnswer P.headerRight scaleOf u32At many manyRows manyPoints joined word
 header-right = refl
 
-many-accepted : sheetsAnswer square many ≡ accepted 0
-unfolding sheetsAnswer says squareWith square claimOf many manyRows manyPoints joined word
-many-accepted =
-    sym (then-passed (Accepted 0) (C.claimAnswer square) claim-right 0 refl (Accepted 0) _
-    (then-passed (Accepted 0) (P.headerAnswer 1 many) header-right 0 refl (Accepted 0) _ rows-right))
+head-right : says (Accepted 0) ≡ headAnswer square many
+unfolding headAnswer squareWith square claimOf joined word
+head-right = then-passed (Accepted 0) (C.claimAnswer square) claim-right 0 refl (Accepted 0) _ header-right
+
+many-accepted : formedAnswer square many ≡ accepted 0
+unfolding formedAnswer says many manyRows manyPoints joined word
+many-accepted = sym (then-passed (Accepted 0) (headAnswer square many) head-right 0 refl (Accepted 0) _ rows-right)
 
 pub worked : Worked
 unfolding cases proves many

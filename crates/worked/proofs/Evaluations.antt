@@ -8,7 +8,7 @@ use Rattle.squares.specs.Sums.{value}
 use Rattle.sheets.specs.ClaimSheet.{floorOf, termPoint, coefficientOf, termOf, termsOf}
 use Rattle.answers.specs.Answers.{accepted, refused, refuseIf, refuseAt, blameless, andThen}
 use Rattle.answers.specs.Bounds.{beyond}
-use Rattle.checks.specs.ClaimChecks.{headerRight, breaks, termsAnswer, claimAnswer}
+use Rattle.claims.specs.ClaimChecks.{headerRight, breaks, termsAnswer, claimAnswer}
 use Rattle.answers.specs.Searches.{first}
 use Rattle.evaluation.specs.Evaluations.{toldBy, termValue, large, largeAnswer, evaluationAnswer, evaluationOf}
 use Rattle.worked.specs.Sheets.{joined, word, words, claimOf, twoTerms, squareWith, square}

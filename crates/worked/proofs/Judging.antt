@@ -4,23 +4,24 @@ use Rattle.integers.specs.Words.{u32At, i32At, withBits, withI32}
 use Rattle.integers.specs.Division.{floorDiv, floorMod, share}
 use Rattle.points.specs.Lists.{table}
 use Rattle.points.specs.Points.{bytesAt, every, everyPair, samePoint, risesTo, midpointOf, evenSum, hasMidpoint, exponentsWithin, keepsSign}
-use Rattle.squares.specs.Sums.{coefficient}
-use Rattle.squares.specs.Rows.{slotsAt, slots}
+use Rattle.squares.specs.Sums.{gathered, coefficient}
+use Rattle.squares.specs.Rows.{slotsAt}
 use Rattle.squares.specs.Targets.{lowered, worst, target}
 use Rattle.sheets.specs.ClaimSheet.{floorOf, termPoint, coefficientOf, termOf, termsOf}
-use Rattle.sheets.specs.ProofSheet.{scaleOf, vOf, wOf, wordsAt, tripleOf, weightsOf, rowOf, rowsOf, tripleFor, withTriple, withWeights, withRows}
+use Rattle.sheets.specs.ProofSheet.{scaleOf, vOf, wOf, wordsAt, tripleOf, weightsOf, rowOf, rowsOf, tripleFor}
+use Rattle.writing.specs.Writing.{withTriple, withWeights, withRows}
 use Rattle.answers.specs.Answers.{accepted, refused, refuseIf, refuseAt, blameless, andThen}
 use Rattle.answers.specs.Searches.{first}
 use Rattle.answers.specs.Bounds.{beyond}
-use Rattle.checks.specs.ClaimChecks as C
+use Rattle.claims.specs.ClaimChecks as C
 use Rattle.checks.specs.ProofChecks as P
 use Rattle.sharing.specs.Sharing.{count, errorAt, shiftedWeight}
-use Rattle.sharing.specs.Targets.{aimOf, targetOf}
+use Rattle.targets.specs.Targets.{aimOf, targetOf}
 use Rattle.sharing.specs.Slots.{slotsTo}
-use Rattle.sharing.specs.Shifts.{shiftedWeights, shiftRow, slotsBefore, shiftedRow, shiftedRows}
-use Rattle.judging.specs.Input.{roomAnswer, proofAnswer, inputAnswer}
+use Rattle.sharing.specs.Shifts.{rankOf, shiftedWeights, shiftRow, slotsBefore, shiftedRow, shiftedRows}
+use Rattle.checks.specs.Input.{headAnswer, roomAnswer, bodyAnswer, inputAnswer}
 use Rattle.weighing.specs.Unheld.{pointFor, unheldAt, unheld, unheldAnswer}
-use Rattle.weighing.specs.Judgements.{negative, large, judgePair, judgeLone, judgementOf, numberOf, judgedNumber, judgedAs, firstsTo, judgedAnswer}
+use Rattle.judgements.specs.Judgements.{negative, large, judgePair, judgeLone, judgementOf, numberOf, judgedNumber, judgedAs, firstsTo, judgedAnswer}
 use Rattle.weighing.specs.Exact.{weightsFor, exactProof}
 use Rattle.weighing.specs.Weighed.{weighedAnswer}
 use Rattle.judging.specs.Check.{targetsOf, checkAnswer, outputOf}
@@ -30,12 +31,12 @@ use Rattle.worked.specs.Judging.{spare, accepts, refuses, motzkinExact, 
 pub all-worked : Worked
 unfolding
     u32At i32At withBits withI32 floorDiv floorMod share table bytesAt every everyPair samePoint risesTo midpointOf evenSum
-    hasMidpoint exponentsWithin keepsSign coefficient slotsAt slots lowered worst target floorOf termPoint
+    hasMidpoint exponentsWithin keepsSign gathered coefficient slotsAt lowered worst target floorOf termPoint
     coefficientOf termOf termsOf scaleOf vOf wOf wordsAt tripleOf weightsOf rowOf rowsOf tripleFor withTriple
     withWeights withRows accepted refused refuseIf refuseAt blameless andThen first beyond C.headerRight
     C.breaks C.termsAnswer C.claimAnswer P.headerRight P.headerAnswer P.carries P.anyBeyond P.breaks P.rowsAnswer
     joined word words claimOf proofOf squareWith square squareProof oneRow count errorAt shiftedWeight aimOf targetOf slotsTo
-    shiftedWeights shiftRow slotsBefore shiftedRow shiftedRows roomAnswer proofAnswer inputAnswer pointFor unheldAt
+    rankOf shiftedWeights shiftRow slotsBefore shiftedRow shiftedRows headAnswer roomAnswer bodyAnswer inputAnswer pointFor unheldAt
     unheld unheldAnswer negative large judgePair judgeLone judgementOf numberOf judgedNumber judgedAs firstsTo
     judgedAnswer weightsFor exactProof weighedAnswer targetsOf checkAnswer outputOf bare noRows motzkin
     motzkinProof oneTerm spare accepts refuses motzkinExact marked tabled worked

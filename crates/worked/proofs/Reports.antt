@@ -4,8 +4,8 @@ use Rattle.integers.specs.Words.{u32At, i32At}
 use Rattle.sheets.specs.ClaimSheet.{floorOf}
 use Rattle.sheets.specs.ProofSheet.{scaleOf, wordsAt, tripleOf}
 use Rattle.answers.specs.Answers.{accepted, refused, blameless}
-use Rattle.report.specs.Text.{digits, natural, integer, counted, numbered}
-use Rattle.report.specs.Lines.{scaleText, acceptedLine, laterText, weightsText, rowLine, refusedLine}
+use Rattle.text.specs.Text.{digits, natural, integer, counted, numbered}
+use Rattle.text.specs.Lines.{scaleText, acceptedLine, laterText, weightsText, rowLine, refusedLine}
 use Rattle.report.specs.Reports.{ended, linesOf, rowText, rowsText, firstText, acceptedText, refusedText, carries, reportText}
 use Rattle.worked.specs.Sheets.{joined, word, words, claimOf, proofOf, squareWith, square, squareProof}
 use Rattle.worked.specs.Reports.{cases, Worked}

@@ -6,7 +6,7 @@ use lib.IntN.{ℤ, pos, negsuc}
 use lib.ListN.{replicate}
 use Rattle.points.specs.Lists.{table}
 use Rattle.answers.specs.Answers.{Answer, accepted, refused}
-use Rattle.checks.specs.WellFormed.{sheetsAnswer}
+use Rattle.checks.specs.Input.{formedAnswer}
 use Rattle.worked.specs.Sheets.{joined, word, claimOf, proofOf, square, squareProof, twoTerms, oneRow}
 
 pub record Case : Type 0 where
@@ -80,4 +80,4 @@ cases = proves (manyRows 120) (accepted 0) ∷ small
 
 -- the definitions give every answer
 abbrev pub Worked : Type 0
-Worked = map (λ (c : Case). sheetsAnswer (c .claim) (c .proof)) cases ≡ map (λ (c : Case). c .answer) cases
+Worked = map (λ (c : Case). formedAnswer (c .claim) (c .proof)) cases ≡ map (λ (c : Case). c .answer) cases

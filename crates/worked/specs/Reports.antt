@@ -5,7 +5,7 @@ use Prim.Native.Nat.{ℕ, _-_, _^_}
 use Prim.Native.String.{String}
 use lib.IntN.{pos, negsuc}
 use Rattle.answers.specs.Answers.{Answer, accepted, refused}
-use Rattle.report.specs.Text.{ascii}
+use Rattle.text.specs.Text.{ascii}
 use Rattle.report.specs.Reports.{reportText}
 use Rattle.worked.specs.Sheets.{claimOf, proofOf, square, squareProof}
 

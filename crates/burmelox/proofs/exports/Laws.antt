@@ -12,7 +12,7 @@ use Rattle.answers.specs.declared.answers.Verdict.{Verdict}
 use Rattle.answers.specs.declared.answers.Verdict.the-variants as Verdicts
 use Rattle.answers.proofs.answers.Laws.{accepted-number}
 use Rattle.judging.specs.Check.{checkAnswer}
-use Rattle.judging.proofs.Short.{check-short}
+use Rattle.judging.proofs.Promises.{check-short}
 use Rattle.evaluation.specs.Evaluations.{tells, evaluationOf}
 use Rattle.evaluation.specs.declared.evaluations.Evaluation.{Evaluation}
 use Rattle.evaluation.specs.declared.evaluations.Evaluation.the-variants.{Value, Refused}

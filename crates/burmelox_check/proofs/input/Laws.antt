@@ -6,7 +6,7 @@ use Prim.Native.Nat.{ℕ, _+_, _<_, _≤_}
 use lib.ListN.{length}
 use borrow.Author.Tests.{le-leb, lt-leb, not-true, not-false}
 use Rattle.sheets.specs.Layout.{variables, termCount, place}
-use Rattle.checks.specs.ClaimChecks.{headerRight}
+use Rattle.claims.specs.ClaimChecks.{headerRight}
 use Rattle.burmelox_check.specs.Input.{saidLength, splits, claimEnd}
 
 module _ (input : List ℕ) where

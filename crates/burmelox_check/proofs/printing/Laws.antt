@@ -5,19 +5,19 @@ use Prim.Native.Nat.{ℕ, zero, suc, _-_, _<_, _≤_}
 use native.Mathlib.Omega.{arith}
 use lib.ListN.{length, take, drop, length-drop, length-replicate}
 use lib.Seq.{length-take-le, take-all}
-use Rattle.sheets.specs.Layout.{variables, rowCount, ProofRoom}
+use Rattle.sheets.specs.Layout.{rowCount, shapeOf, ProofRoom}
 use Rattle.sheets.specs.ProofSheet.{scaleOf, tripleOf, tripleFor}
 use Rattle.answers.specs.Answers.{says, Passes}
 use Rattle.answers.specs.declared.answers.Verdict.{Verdict}
-use Rattle.sharing.specs.Targets.{aimOf}
+use Rattle.targets.specs.Targets.{aimOf}
 use Rattle.sharing.specs.Shifts.{CheckedSheets}
 use Rattle.sharing.proofs.shifts.Laws.{sheets-checked}
 use Rattle.weighing.specs.Exact.{weightsFor, exactProof}
 use Rattle.judging.specs.Check.{targetsOf, checkAnswer, outputOf}
 use Rattle.weighing.proofs.exact.Laws.{exact-length, exact-variables, exact-scale, exact-weights}
 use Rattle.judging.proofs.Promises.{accepted-formed, accepted-within, accepted-rows, accepted-exact}
-use Rattle.report.specs.Text.{Written}
-use Rattle.report.specs.Reports.{reportText}
+use Rattle.text.specs.Text.{Written}
+use Rattle.report.specs.Reports.{shapeWith, reportText}
 use Rattle.report.proofs.reports.Laws.{accepted-lines, refused-lines}
 use Rattle.burmelox_check.specs.Input.{claimEnd, claimPart, proofPart}
 use Rattle.burmelox_check.specs.Printing.{zeros, sheetsText, programText, acceptedLines, IsPrinted, PrintsLines}
@@ -75,18 +75,18 @@ module _ (c s : List ℕ) where
     abbrev exact : List ℕ
     exact = exactProof (targetsOf c s) s
 
-    same : variables exact ≡ variables s
-    same = exact-variables (targetsOf c s) s
+    same : shapeWith exact (rowCount s) ≡ shapeOf s
+    same = rw (exact-variables (targetsOf c s) s)
 
-    room : ProofRoom exact (variables exact) (rowCount s)
-    room = record {
-      few = rw (same, own .same) (own .claim .few);
+    room : ProofRoom exact (shapeWith exact (rowCount s))
+    room = rw same (record {
+      few = own .proof .few;
       rows = own .proof .rows;
-      long = rw (same, exact-length (targetsOf c s) s) (omega (arith, own .proof .sized));
-    }
+      long = rw (exact-length (targetsOf c s) s) (omega (arith, own .proof .sized));
+    })
 
     weights : (i : ℕ) → i < rowCount s
-        → tripleOf exact (variables exact) (rowCount s) i ≡ tripleFor (weightsFor (targetsOf c s) s i)
+        → tripleOf exact (shapeWith exact (rowCount s)) i ≡ tripleFor (weightsFor (targetsOf c s) s i)
     weights i l =
         rw same
         (exact-weights (targetsOf c s) s (omega (arith, own .proof .sized)) (accepted-within c s (length s) h) i l)

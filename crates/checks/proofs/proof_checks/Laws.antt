@@ -16,6 +16,7 @@ use Rattle.sheets.specs.ProofSheet.{scaleOf, vOf, wOf, tripleOf}
 use Rattle.checks.specs.ProofChecks.{headerRight, carries, anyBeyond, breaks}
 use Rattle.checks.specs.declared.proof_checks.RowRule.{RowRule}
 use Rattle.checks.specs.declared.proof_checks.RowRule.the-variants.{Exponent, Midpoint, Unused, Weight}
+use Rattle.sheets.specs.declared.layout.Shape.{Shape}
 use Rattle.sheets.specs.declared.proof_sheet.Triple.{Triple}
 
 -- ---- 9
@@ -56,36 +57,36 @@ module _ (s : List ℕ) (limit n m : ℕ) (em : m ≡ variables s) where
 
 -- ---- 12 and 13: points by value
 
-module _ (s : List ℕ) (n k i : ℕ) (v : Point) (ev : v ≡ pointOf (vOf s n i)) where
-  v-is : exponents v ≡ vOf s n i
-  v-is = ap exponents ev ∙ exponents-of (vOf s n i)
+module _ (s : List ℕ) (sh : Shape) (i : ℕ) (v : Point) (ev : v ≡ pointOf (vOf s sh i)) where
+  v-is : exponents v ≡ vOf s sh i
+  v-is = ap exponents ev ∙ exponents-of (vOf s sh i)
 
   module _ (limit : ℕ) (a : Bool) (ea : a ≡ exponentsWithin limit (exponents v)) where
-    pub v-high : a ≡ false → true ≡ breaks (Exponent limit) s n k i
+    pub v-high : a ≡ false → true ≡ breaks (Exponent limit) s sh i
     unfolding breaks
     v-high h = rw (← v-is, ← ea, h)
 
-    pub w-judged : a ≡ true → (w : Point) (b : Bool) → w ≡ pointOf (wOf s n i) → b ≡ exponentsWithin limit (exponents w)
-        → not b ≡ breaks (Exponent limit) s n k i
+    pub w-judged : a ≡ true → (w : Point) (b : Bool) → w ≡ pointOf (wOf s sh i) → b ≡ exponentsWithin limit (exponents w)
+        → not b ≡ breaks (Exponent limit) s sh i
     unfolding breaks
-    w-judged h w b ew eb = rw (← v-is, ← ea, h, eb, ew, exponents-of (wOf s n i))
+    w-judged h w b ew eb = rw (← v-is, ← ea, h, eb, ew, exponents-of (wOf s sh i))
 
-  module _ (w : Point) (ew : w ≡ pointOf (wOf s n i)) where
-    w-is : exponents w ≡ wOf s n i
-    w-is = ap exponents ew ∙ exponents-of (wOf s n i)
+  module _ (w : Point) (ew : w ≡ pointOf (wOf s sh i)) where
+    w-is : exponents w ≡ wOf s sh i
+    w-is = ap exponents ew ∙ exponents-of (wOf s sh i)
 
-    pub midpoint-judged : (b : Bool) → b ≡ hasMidpoint (exponents v) (exponents w) → not b ≡ breaks Midpoint s n k i
+    pub midpoint-judged : (b : Bool) → b ≡ hasMidpoint (exponents v) (exponents w) → not b ≡ breaks Midpoint s sh i
     unfolding breaks
     midpoint-judged b e = rw (e, v-is, w-is)
 
     -- ---- 14
     module _ (lone : Bool) (el : lone ≡ samePoint (exponents v) (exponents w)) where
-      pub unused-pair : lone ≡ false → false ≡ breaks Unused s n k i
+      pub unused-pair : lone ≡ false → false ≡ breaks Unused s sh i
       unfolding breaks
       unused-pair h = rw (← v-is, ← w-is, ← el, h)
 
-      pub unused-lone : lone ≡ true → (x : Triple) (b : Bool) → x ≡ tripleOf s n k i → b ≡ carries x
-          → b ≡ breaks Unused s n k i
+      pub unused-lone : lone ≡ true → (x : Triple) (b : Bool) → x ≡ tripleOf s sh i → b ≡ carries x
+          → b ≡ breaks Unused s sh i
       unfolding breaks
       unused-lone h x b ex eb = rw (← v-is, ← w-is, ← el, h, ← ex) eb
 
@@ -115,7 +116,7 @@ module _ (limit : ℕ) (x : Triple) (p : ℤ) (a : Bool) (ep : p ≡ x .p) (ea :
     unfolding anyBeyond
     beyond-r g r d er ed = rw (← ep, ← ea, h, ← eq, ← eb, g, ed, er)
 
-pub weight-judged : (s : List ℕ) (n k i limit : ℕ) (rule : RowRule) (x : Triple) (r : Bool) → x ≡ tripleOf s n k i
-    → r ≡ anyBeyond limit x → rule ≡ Weight limit → r ≡ breaks rule s n k i
+pub weight-judged : (s : List ℕ) (sh : Shape) (i limit : ℕ) (rule : RowRule) (x : Triple) (r : Bool) → x ≡ tripleOf s sh i
+    → r ≡ anyBeyond limit x → rule ≡ Weight limit → r ≡ breaks rule s sh i
 unfolding breaks
-weight-judged s n k i limit rule x r ex er e = er ∙ rw (e, ex)
+weight-judged s sh i limit rule x r ex er e = er ∙ rw (e, ex)

@@ -29,7 +29,7 @@ use Rattle.sheets.specs.Layout.{variables, termCount, ClaimRoom}
 use Rattle.sheets.specs.ClaimSheet.{termPoint, coefficientOf, termOf, termsOf}
 use Rattle.sheets.proofs.claim_sheet.Laws.{terms-table, term-point, term-coefficient}
 use Rattle.answers.specs.Answers.{Answer, accepted, says, refuseIf, blameless, Passes, Short}
-use Rattle.checks.specs.ClaimChecks.{claimAnswer}
+use Rattle.claims.specs.ClaimChecks.{claimAnswer}
 use Rattle.answers.specs.Searches.{first}
 use Rattle.answers.specs.declared.answers.Sheet.{Sheet}
 use Rattle.answers.specs.declared.answers.Sheet.the-variants.{Claim, Offsets}
@@ -39,7 +39,7 @@ use Rattle.answers.specs.declared.searches.Found.the-variants.{At, Nothing}
 use Rattle.answers.proofs.answers.Laws.{passes-if, passes-at, passes-then, then-on, if-on, at-on, accepted-passes, failed, then-refused, passed, then-passed, refused-if, refused-at, refused-says}
 use Rattle.answers.proofs.bounds.Laws.{over-bound, within-bound, bound-within}
 use Rattle.answers.proofs.searches.Laws.{first-at, first-on, first-nothing, nothing-first}
-use Rattle.checks.proofs.WellFormed.{claim-passed, claim-room}
+use Rattle.claims.proofs.claim_checks.Facts.{claim-passed, claim-room}
 use Rattle.judging.proofs.Promises.{floor-kept}
 use Rattle.evaluation.proofs.Short.{evaluation-short}
 use Rattle.evaluation.specs.Evaluations as Spec

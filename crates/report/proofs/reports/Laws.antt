@@ -9,11 +9,11 @@ use lib.Dec.{leb}
 use lib.IntN.{ℤ}
 use lib.ListN.{length, length-append}
 use mir.Syntax.{w32, w64}
-use mir.Val.{Fits, SFits}
+use mir.Val.{Fits}
 use borrow.Author.Tests.{le-leb, lt-leb, leb-true}
-use Rattle.integers.proofs.Integers.{ints, sizes}
 use Rattle.integers.proofs.words.Laws.{Bytes}
-use Rattle.sheets.specs.Layout.{variables, place, ProofRoom}
+use Rattle.sheets.specs.Layout.{variables, proofLength, ProofRoom}
+use Rattle.sheets.specs.declared.layout.Shape.{Shape}
 use Rattle.sheets.specs.ClaimSheet.{floorOf}
 use Rattle.sheets.specs.ProofSheet.{scaleOf, tripleOf}
 use Rattle.sheets.specs.declared.proof_sheet.Triple.{Triple}
@@ -24,110 +24,90 @@ use Rattle.answers.specs.declared.answers.Verdict.the-variants.{Accepted, Refus
 use Rattle.sheets.proofs.claim_sheet.Laws.{floor-fits}
 use Rattle.sheets.proofs.proof_sheet.Laws.{scale-bound, triple-narrow}
 use Rattle.answers.proofs.answers.Laws.{failed, passed, accepted-value, accepted-says, accepted-passes}
-use Rattle.report.specs.Text.{ascii, natural, integer, counted, numbered, Room, Written}
-use Rattle.report.specs.Lines.{scaleText, acceptedLine, laterText, weightsText, rowLine, refusedLine}
-use Rattle.report.specs.Reports.{ended, linesOf, rowText, rowsText, firstText, acceptedText, refusedText, carries, reportText}
-use Rattle.report.proofs.text.Laws.{natural-short, integer-short, room-first, room-then, written-then}
+use Rattle.text.specs.Text.{Room, Written}
+use Rattle.text.specs.Lines.{acceptedLine, rowLine}
+use Rattle.report.specs.Reports.{ended, linesOf, rowText, rowsText, shapeWith, firstText, acceptedText, refusedText, carries, reportText}
+use Rattle.text.proofs.text.Laws.{room-first, room-then, written-then}
+use Rattle.text.proofs.lines.Laws.{accepted-short, line-short, refusal-short}
 
 -- ---- how long they are: numbers of 32 bits and at most 256 rows
 
-counted-short : (label : List ℕ) (k n : ℕ) → n < 10 ^ suc k → length (counted label n) ≤ length label + suc k
-unfolding counted
-counted-short label k n h = rw (length-append label (natural n)) (omega (arith, natural-short k n h))
-
-word-short : (label : List ℕ) (z : ℤ) → SFits w32 z → length (numbered label z) ≤ length label + 11
-unfolding numbered
-word-short label z f = rw (length-append label (integer z)) (omega (ints, integer-short 9 z (omega (ints, sizes z))))
-
 first-short : (c s : List ℕ) (k : ℕ) → Bytes c → Bytes s → k ≤ 256 → length (firstText c s k) ≤ 53
-unfolding firstText ended acceptedLine scaleText
+unfolding firstText ended
 first-short c s k bc bs h =
-    simp length-append
-    (omega (
-      arith,
-      counted-short (ascii "accepted rows ") 2 k (omega arith),
-      counted-short (ascii " scale ") 9 (scaleOf s) (omega (arith, scale-bound s bs)),
-      word-short (ascii " floor ") (floorOf c) (floor-fits c bc),
-    ))
+    let S : scaleOf s < 10 ^ 10 = omega (arith, scale-bound s bs) in
+    simp length-append (omega (arith, accepted-short k (scaleOf s) (floorOf c) (omega arith) S (floor-fits c bc)))
 
-row-short : (s : List ℕ) (n k i : ℕ) → Bytes s → i < 256 → length (rowText s n k i) ≤ 50
-unfolding rowText ended rowLine weightsText laterText
-row-short s n k i b h =
-    let x = tripleOf s n k i in
-    let f = triple-narrow s n k i b in
-    simp length-append
-    (omega (
-      arith,
-      counted-short (ascii "row ") 2 i (omega arith),
-      word-short (ascii " p ") (x .p) (f .p-fits),
-      word-short (ascii " q ") (x .q) (f .q-fits),
-      word-short (ascii " r ") (x .r) (f .r-fits),
-    ))
+row-short : (s : List ℕ) (sh : Shape) (i : ℕ) → Bytes s → i < 256 → length (rowText s sh i) ≤ 50
+unfolding rowText ended
+row-short s sh i b h =
+    let f = triple-narrow s sh i b in
+    let x = tripleOf s sh i in
+    simp length-append (omega (arith, line-short i x (omega arith) (f .p-fits) (f .q-fits) (f .r-fits)))
 
 -- the first rows, one after another
-rows-zero : (s : List ℕ) (n k : ℕ) → rowsText s n k 0 ≡ []
+rows-zero : (s : List ℕ) (sh : Shape) → rowsText s sh 0 ≡ []
 unfolding rowsText linesOf
-rows-zero s n k = refl
+rows-zero s sh = refl
 
-rows-next : (s : List ℕ) (n k i : ℕ) → rowsText s n k (suc i) ≡ rowsText s n k i ++ rowText s n k i
+rows-next : (s : List ℕ) (sh : Shape) (i : ℕ) → rowsText s sh (suc i) ≡ rowsText s sh i ++ rowText s sh i
 unfolding rowsText linesOf rowText
-rows-next s n k i = refl
+rows-next s sh i = refl
 
-rows-short : (s : List ℕ) (n k i : ℕ) → Bytes s → i ≤ 256 → length (rowsText s n k i) ≤ i * 50
-rows-short s n k zero b h = rw (rows-zero s n k) (omega arith)
-rows-short s n k (suc i) b h =
-    rw (rows-next s n k i, length-append (rowsText s n k i) (rowText s n k i))
-    (omega (arith, rows-short s n k i b (omega arith), row-short s n k i b h))
+rows-short : (s : List ℕ) (sh : Shape) (i : ℕ) → Bytes s → i ≤ 256 → length (rowsText s sh i) ≤ i * 50
+rows-short s sh zero b h = rw (rows-zero s sh) (omega arith)
+rows-short s sh (suc i) b h =
+    rw (rows-next s sh i, length-append (rowsText s sh i) (rowText s sh i))
+    (omega (arith, rows-short s sh i b (omega arith), row-short s sh i b h))
 
 refused-short : (number index : ℕ) → number < 10 ^ 10 → index < 10 ^ 20 → length (refusedText number index) ≤ 43
-unfolding refusedText ended refusedLine
-refused-short number index h l =
-    simp length-append (omega (arith, counted-short (ascii "refused ") 9 number h, counted-short (ascii " at ") 19 index l))
+unfolding refusedText ended
+refused-short number index h l = simp length-append (omega (arith, refusal-short number index h l))
 
 -- ---- a row's line: x is the triple that was read
 
-module _ (s l : List ℕ) (n k i at : ℕ) (x : Triple) (e : x ≡ tripleOf s n k i) where
-  pub row-room : Room l at (rowText s n k i) → Room l at (rowLine i x)
+module _ (s l : List ℕ) (sh : Shape) (i at : ℕ) (x : Triple) (e : x ≡ tripleOf s sh i) where
+  pub row-room : Room l at (rowText s sh i) → Room l at (rowLine i x)
   unfolding rowText ended
   row-room r = rw e (room-first _ _ r)
 
   module _ (m : List ℕ) (mid : ℕ) (w : Written l at (rowLine i x) m mid) where
-    pub row-feed : Room l at (rowText s n k i) → Room m mid (10 ∷ [])
+    pub row-feed : Room l at (rowText s sh i) → Room m mid (10 ∷ [])
     unfolding rowText ended
     row-feed r = room-then _ _ r (rw e at w)
 
-    pub row-written : (o : List ℕ) (end : ℕ) → Written m mid (10 ∷ []) o end → Written l at (rowText s n k i) o end
+    pub row-written : (o : List ℕ) (end : ℕ) → Written m mid (10 ∷ []) o end → Written l at (rowText s sh i) o end
     unfolding rowText ended
     row-written o end u = written-then _ _ (rw e at w) u
 
 -- ---- the lines of all rows: mid is where those of the first i end
 
-module _ (s l : List ℕ) (n k at : ℕ) where
-  pub rows-none : Room l at (rowsText s n k k) → Written l at (rowsText s n k 0) l at
+module _ (s l : List ℕ) (sh : Shape) (at : ℕ) where
+  pub rows-none : Room l at (rowsText s sh (sh .k)) → Written l at (rowsText s sh 0) l at
   rows-none r =
-      rw (rows-zero s n k) (record { bytes = refl; ends = omega arith; kept = refl; inside = omega (arith, r .room) })
+      rw (rows-zero s sh) (record { bytes = refl; ends = omega arith; kept = refl; inside = omega (arith, r .room) })
 
-  rows-grow : (i d : ℕ) → length (rowsText s n k i) ≤ length (rowsText s n k (i + d))
+  rows-grow : (i d : ℕ) → length (rowsText s sh i) ≤ length (rowsText s sh (i + d))
   rows-grow i zero = let e : i + 0 ≡ i = omega arith in rw e (omega arith)
   rows-grow i (suc d) =
       let e : i + suc d ≡ suc (i + d) = omega arith in
-      rw (e, rows-next s n k (i + d), length-append (rowsText s n k (i + d)) (rowText s n k (i + d)))
+      rw (e, rows-next s sh (i + d), length-append (rowsText s sh (i + d)) (rowText s sh (i + d)))
       (omega (arith, rows-grow i d))
 
-  module _ (i mid : ℕ) (m : List ℕ) (w : Written l at (rowsText s n k i) m mid) where
-    pub next-room : Room l at (rowsText s n k k) → i < k → Room m mid (rowText s n k i)
+  module _ (i mid : ℕ) (m : List ℕ) (w : Written l at (rowsText s sh i) m mid) where
+    pub next-room : Room l at (rowsText s sh (sh .k)) → i < sh .k → Room m mid (rowText s sh i)
     next-room r h =
-        let e : suc i + (k - suc i) ≡ k = omega arith in
-        let g : length (rowsText s n k i ++ rowText s n k i) ≤ length (rowsText s n k k) =
-        rw (e, rows-next s n k i) at (rows-grow (suc i) (k - suc i)) in
-        room-then (rowsText s n k i) (rowText s n k i) (record { room = omega (arith, r .room) }) w
+        let e : suc i + (sh .k - suc i) ≡ sh .k = omega arith in
+        let g : length (rowsText s sh i ++ rowText s sh i) ≤ length (rowsText s sh (sh .k)) =
+        rw (e, rows-next s sh i) at (rows-grow (suc i) (sh .k - suc i)) in
+        room-then (rowsText s sh i) (rowText s sh i) (record { room = omega (arith, r .room) }) w
 
-    pub rows-more : (o : List ℕ) (end : ℕ) → Written m mid (rowText s n k i) o end
-        → Written l at (rowsText s n k (i + 1)) o end
-    rows-more o end u = rw (add-one, rows-next s n k i) (written-then (rowsText s n k i) (rowText s n k i) w u)
+    pub rows-more : (o : List ℕ) (end : ℕ) → Written m mid (rowText s sh i) o end
+        → Written l at (rowsText s sh (i + 1)) o end
+    rows-more o end u = rw (add-one, rows-next s sh i) (written-then (rowsText s sh i) (rowText s sh i) w u)
 
-    pub rows-all : k ≤ i → i ≤ k → Written l at (rowsText s n k k) m mid
-    rows-all h g = let e : i ≡ k = omega arith in rw e at w
+    pub rows-all : sh .k ≤ i → i ≤ sh .k → Written l at (rowsText s sh (sh .k)) m mid
+    rows-all h g = let e : i ≡ sh .k = omega arith in rw e at w
 
 -- ---- an acceptance: a prime marks a number as the machine reads it back
 
@@ -171,7 +151,7 @@ module _ (c s : List ℕ) (k : ℕ) where
         unfolding carries
         many-rows h = rw (long, ← en, le-leb n 8 few, lt-leb k 256 h)
 
-        pub rows-carried : k ≤ 256 → (l : ℕ) → l ≡ place 8 k (2 * n + 12) → leb l (length s) ≡ carries c s k
+        pub rows-carried : k ≤ 256 → (l : ℕ) → l ≡ proofLength (record { n = n; k = k }) → leb l (length s) ≡ carries c s k
         unfolding carries
         rows-carried h l el = rw (long, ← en, le-leb n 8 few, le-leb k 256 h, el)
 
@@ -179,7 +159,7 @@ module _ (c s : List ℕ) (k : ℕ) where
 record Enough (c s : List ℕ) (k : ℕ) : Type 0 where
   claim : 8 ≤ length c
   proof : 8 ≤ length s
-  rows : ProofRoom s (variables s) k
+  rows : ProofRoom s (shapeWith s k)
 
 enough : (c s : List ℕ) (k : ℕ) → carries c s k ≡ true → Enough c s k
 unfolding carries
@@ -195,7 +175,7 @@ enough c s k h =
     }
 
 -- and that is enough
-carries-enough : (c s : List ℕ) (k : ℕ) → 8 ≤ length c → ProofRoom s (variables s) k → carries c s k ≡ true
+carries-enough : (c s : List ℕ) (k : ℕ) → 8 ≤ length c → ProofRoom s (shapeWith s k) → carries c s k ≡ true
 unfolding carries
 carries-enough c s k h r =
     rw (le-leb 8 (length c) h, le-leb 8 (length s) (omega (arith, r .long)), le-leb _ _ (r .few), le-leb _ _ (r .rows), le-leb _ _ (r .long))
@@ -207,20 +187,20 @@ module _ (c s : List ℕ) (k : ℕ) (h : carries c s k ≡ true) where
   pub proof-carried : 8 ≤ length s
   proof-carried = enough c s k h .proof
 
-  pub room-carried : (n : ℕ) → n ≡ variables s → ProofRoom s n k
+  pub room-carried : (n : ℕ) → n ≡ variables s → ProofRoom s (record { n = n; k = k })
   room-carried n e = rw e (enough c s k h .rows)
 
 -- accepted_text
 module _ (c s l m : List ℕ) (k at mid : ℕ) (w : Written l at (firstText c s k) m mid) (n : ℕ)
     (e : n ≡ variables s) where
-  pub rows-after : Room l at (acceptedText c s k) → Room m mid (rowsText s n k k)
+  pub rows-after : Room l at (acceptedText c s k) → Room m mid (rowsText s (record { n = n; k = k }) k)
   unfolding acceptedText
-  rows-after r = rw e (room-then (firstText c s k) (rowsText s (variables s) k k) r w)
+  rows-after r = rw e (room-then (firstText c s k) (rowsText s (shapeWith s k) k) r w)
 
-  pub accepted-written : (o : List ℕ) (end : ℕ) → Written m mid (rowsText s n k k) o end
+  pub accepted-written : (o : List ℕ) (end : ℕ) → Written m mid (rowsText s (record { n = n; k = k }) k) o end
       → Written l at (acceptedText c s k) o end
   unfolding acceptedText
-  accepted-written o end u = written-then (firstText c s k) (rowsText s (variables s) k k) w (rw e at u)
+  accepted-written o end u = written-then (firstText c s k) (rowsText s (shapeWith s k) k) w (rw e at u)
 
 -- ---- the report of a verdict
 
@@ -254,8 +234,8 @@ unfolding acceptedText
 accepted-room c s l k b bc bs eb t e =
     let few = enough c s k (sym eb ∙ t) .rows .rows in
     record {
-      room = rw (length-append (firstText c s k) (rowsText s (variables s) k k))
-          (omega (arith, first-short c s k bc bs few, rows-short s (variables s) k k bs few));
+      room = rw (length-append (firstText c s k) (rowsText s (shapeWith s k) k))
+          (omega (arith, first-short c s k bc bs few, rows-short s (shapeWith s k) k bs few));
     }
 
 pub refused-room : (l : List ℕ) (number index : ℕ) → Fits w32 number → Fits w64 index → length l ≡ 12853
@@ -275,11 +255,11 @@ module _ (c s : List ℕ) where
   unfolding reportText
   refused-lines a h = rw h
 
-  pub accepted-lines : (k S : ℕ) (x : ℕ → Triple) → 8 ≤ length c → ProofRoom s (variables s) k → scaleOf s ≡ S
-      → ((i : ℕ) → i < k → tripleOf s (variables s) k i ≡ x i)
+  pub accepted-lines : (k S : ℕ) (x : ℕ → Triple) → 8 ≤ length c → ProofRoom s (shapeWith s k) → scaleOf s ≡ S
+      → ((i : ℕ) → i < k → tripleOf s (shapeWith s k) i ≡ x i)
       → reportText c s (accepted k) ≡ ended (acceptedLine k S (floorOf c)) ++ linesOf x k
   unfolding reportText acceptedText firstText rowsText
   accepted-lines k S x h room es ex =
       let ev : accepted k .value ≡ k = rw (accepted-says k) at (accepted-value k) in
       rw (accepted-passes (accepted k) k refl, ev, carries-enough c s k h room, es)
-      (ap (λ (l : List ℕ). ended (acceptedLine k S (floorOf c)) ++ l) (lines-same (tripleOf s (variables s) k) x k ex))
+      (ap (λ (l : List ℕ). ended (acceptedLine k S (floorOf c)) ++ l) (lines-same (tripleOf s (shapeWith s k)) x k ex))

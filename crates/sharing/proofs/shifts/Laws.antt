@@ -1,10 +1,10 @@
 -- Laws of shifted rows: a row holds its own points, once each; and the ways through the code. A prime marks a number as
 -- the machine reads it back.
-use mathlib.Core.Path.{_≡_, refl, sym, _∙_, ap, ap₂}
+use mathlib.Core.Path.{_≡_, refl, sym, _∙_, ap}
 use mathlib.Core.Bool.{Bool, true, false, true≢false}
 use borrow.Author.Tests.{eq-eqb}
-use mathlib.Core.List.{List, [], _∷_, _++_}
-use Prim.Native.Nat.{ℕ, _+_, _*_, _-_, _^_, _<_, _≤_}
+use mathlib.Core.List.{List, [], _∷_}
+use Prim.Native.Nat.{ℕ, _+_, _*_, _^_, _<_, _≤_}
 use native.Mathlib.Omega.{arith}
 use lib.Dec.{lit<}
 use lib.IntN.{ℤ, negℤ, natAbs, _+ℤ_, _-ℤ_}
@@ -16,31 +16,35 @@ use Rattle.integers.proofs.Integers.{back, abs-add, abs-neg, fits-within}
 use Rattle.integers.proofs.division.Laws.{share-abs}
 use Rattle.points.specs.Points.{Exponents, exponents, pointOf, samePoint, midpointOf}
 use Rattle.points.specs.Keys.{keyOf}
-use Rattle.squares.specs.Sums.{Sum}
-use Rattle.squares.specs.Rows.{slotsAt, slots}
 use Rattle.points.specs.declared.points.Point.{Point}
-use Rattle.squares.specs.declared.rows.Weights.{Weights}
-use Rattle.squares.specs.declared.rows.Weights.the-variants.{Pair, Lone}
 use Rattle.points.proofs.points.Laws.{exponents-of, same-eq, same-refl}
 use Rattle.points.proofs.keys.Laws.{key-midpoint}
+use Rattle.squares.specs.Sums.{Sum}
+use Rattle.squares.specs.Rows.{slotsOf, slots}
+use Rattle.squares.specs.declared.rows.Weights.{Weights}
+use Rattle.squares.specs.declared.rows.Weights.the-variants.{Pair, Lone}
 use Rattle.squares.proofs.rows.Laws.{slots-pair, slots-lone}
-use Rattle.sheets.specs.ProofSheet.{vOf, wOf, tripleOf, rowOf, rowsOf, byValue}
-use Rattle.sheets.specs.declared.proof_sheet.Row.{Row}
-use Rattle.checks.specs.WellFormed.{WellFormed}
-use Rattle.checks.proofs.WellFormed.{claim-formed, proof-formed, proof-room}
-use Rattle.sheets.proofs.proof_sheet.Laws.{lone-of, pair-of, row-v, row-w, value-v, value-w, value-weights, by-value}
 use Rattle.answers.specs.Bounds.{greatestWeight}
-use Rattle.sheets.specs.Layout.{variables, rowCount, ProofRoom}
+use Rattle.sheets.specs.Layout.{variables, rowCount, shapeOf, ProofRoom}
+use Rattle.sheets.specs.ProofSheet.{vOf, wOf, tripleOf, rowOf, rowsOf, byValue}
+use Rattle.sheets.specs.declared.layout.Shape.{Shape}
+use Rattle.sheets.specs.declared.proof_sheet.Row.{Row}
+use Rattle.sheets.proofs.proof_sheet.Laws.{lone-of, pair-of, row-v, row-w, value-v, value-w, value-weights, by-value}
+use Rattle.checks.specs.ProofChecks.{ProofFacts}
+use Rattle.checks.specs.Input.{WellFormed}
+use Rattle.checks.proofs.proof_checks.Facts.{proof-room}
+use Rattle.checks.proofs.input.Laws.{claim-formed, same-formed, proof-formed}
+use Rattle.targets.specs.Targets.{aimOf, targetOf}
+use Rattle.targets.specs.Carried.{Carried}
+use Rattle.targets.specs.declared.targets.Aim.{Aim}
+use Rattle.targets.proofs.Carried.{carried-same}
+use Rattle.targets.proofs.targets.Laws.{aim-within}
 use Rattle.sharing.specs.Sharing.{count, errorAt, shiftedWeight}
-use Rattle.sharing.specs.Targets.{aimOf, targetOf}
-use Rattle.sharing.specs.declared.targets.Aim.{Aim}
-use Rattle.sharing.specs.Carried.{Carried}
-use Rattle.sharing.proofs.Carried.{v-carried, w-carried, middle-carried, carried-same}
-use Rattle.sharing.specs.Slots.{CheckedProof, slotsTo, holdingOf}
-use Rattle.sharing.specs.Shifts.{CheckedSheets, IsRow, slotsBefore, shiftedWeights, shiftRow, shiftedRow}
-use Rattle.sharing.proofs.Sharing.{count-past, count-cons}
-use Rattle.sharing.proofs.slots.Laws.{all-slots, row-held, slots-are, tally-bound, tally-sum}
+use Rattle.sharing.specs.Slots.{slotsTo, holdingOf}
+use Rattle.sharing.specs.Shifts.{CheckedSheets, IsRow, rankOf, slotsBefore, shiftedWeights, shiftRow, shiftedRow}
 use Rattle.sharing.specs.declared.slots.Holding.{Holding}
+use Rattle.sharing.proofs.Sharing.{count-nil, count-cons}
+use Rattle.sharing.proofs.slots.Laws.{all-slots, among, v-carried, w-carried, middle-carried, slots-are, tally-bound, tally-sum}
 
 -- ---- moved: z is the target, y the share
 
@@ -74,71 +78,73 @@ module _ (z z′ : ℤ) (h : Holding) (ha : natAbs z ≤ 2 ^ 51) (hs : natAbs (h
 -- ---- well-formed sheets, with their own floor and scale
 
 pub sheets-checked : (c s : List ℕ) → WellFormed c s → CheckedSheets c s (aimOf c s)
-unfolding aimOf
 sheets-checked c s f =
     let claim = claim-formed c s f in
     let proof = proof-formed c s f in
     record {
       claim = claim;
-      proof = rw (proof .same) proof;
-      same = proof .same;
-      aim = record { floor = claim .floor-within; scale = proof .scale };
+      proof = proof;
+      same = same-formed c s f;
+      aim = aim-within c s (claim .floor-within) (proof .scale);
     }
 
--- ---- shifted: n and k are what the proof sheet says
+-- ---- shifted: sh is what the proof sheet says
 
-module _ (c s : List ℕ) (a : Aim) (given : CheckedSheets c s a) (n k : ℕ) (en : n ≡ variables s)
-    (ek : k ≡ rowCount s) where
-  pub proof-checked : CheckedProof s n k
-  proof-checked = rw (en, ek) (record {
-    some = rw (given .same) (given .claim .some);
-    few = rw (given .same) (given .claim .few);
-    facts = given .proof;
-  })
+module _ (c s : List ℕ) (a : Aim) (given : CheckedSheets c s a) (sh : Shape) (e : sh ≡ shapeOf s) where
+  pub proof-checked : ProofFacts s sh
+  proof-checked = rw e (given .proof)
 
-  pub carried-here : (α : Exponents) → Carried (variables c) α → Carried n α
-  carried-here α h = rw (en, given .same) h
+  pub carried-here : (α : Exponents) → Carried (variables c) α → Carried (sh .n) α
+  carried-here α h = rw (e, given .same) h
 
-  pub row-here : (i : ℕ) → i < rowCount s → i < k
-  row-here i l = rw ek l
+  pub row-here : (i : ℕ) → i < rowCount s → i < sh .k
+  row-here i l = rw e l
 
-  module _ (i : ℕ) (p : Point) (h : Holding) (eh : h ≡ holdingOf (exponents p) (slotsTo s n k k) (slotsTo s n k i)) where
-    pub held-small : Carried (variables c) (exponents p) → natAbs (h .sum) ≤ 2 ^ 42
-    unfolding holdingOf
-    held-small carried =
-        let f = proof-checked in
-        let m = slots-are s n k f k (omega arith) in
-        let g = tally-bound n (k * 3) (keyOf (exponents p)) (slotsTo s n k k) m .0 in
-        let rows = f .facts .rows in
-        let same = tally-sum n (exponents p) (carried-here (exponents p) carried) (slotsTo s n k k) (m .each) in
-        rw (eh, ← same) (omega (arith, g))
+  module _ (i own : ℕ) (p : Point) (ranked : count (exponents p) (slotsBefore s i) + own < count (exponents p) (slots (rowsOf s))) where
+    pub ranked-here : count (exponents p) (slotsTo s sh i) + own < count (exponents p) (slotsTo s sh (sh .k))
+    unfolding slotsBefore
+    ranked-here = rw (all-slots s sh e, e) ranked
 
-    pub held-some : 0 < count (exponents p) (slots (rowsOf s)) → 0 < h .count
-    unfolding holdingOf
-    held-some l = rw (eh, all-slots s n k en ek) l
+    module _ (h : Holding) (eh : h ≡ holdingOf (exponents p) (slotsTo s sh (sh .k)) (slotsTo s sh i) own) where
+      pub held-small : Carried (variables c) (exponents p) → natAbs (h .sum) ≤ 2 ^ 42
+      unfolding holdingOf
+      held-small carried =
+          let f = proof-checked in
+          let m = slots-are s sh f (sh .k) (omega arith) in
+          let g = tally-bound (sh .n) (sh .k * 3) (keyOf (exponents p)) (slotsTo s sh (sh .k)) m .0 in
+          let rows = f .rows in
+          let same = tally-sum (sh .n) (exponents p) (carried-here (exponents p) carried) (slotsTo s sh (sh .k)) (m .each) in
+          rw (eh, ← same) (omega (arith, g))
 
-    pub shifted-is : (x x′ z z′ r r′ : ℤ) → r ≡ x′ +ℤ share (z′ -ℤ h .sum) (h .count) (h .rank)
-        → z ≡ targetOf c a (exponents p) → r′ ≡ r → z′ ≡ z → x′ ≡ x
-        → r′ ≡ shiftedWeight (targetOf c a) (slots (rowsOf s)) (slotsBefore s i) (exponents p) x
-    unfolding holdingOf slotsBefore shiftedWeight errorAt
-    shifted-is x x′ z z′ r r′ er ez br bz bx = br ∙ er ∙ rw (bz, ez, bx, eh, all-slots s n k en ek, en, ek)
+      pub held-some : 0 < h .count
+      unfolding holdingOf
+      held-some = rw eh (omega (arith, ranked-here))
 
--- ---- a slot elsewhere does not move another's weight
+      pub shifted-is : (x x′ z z′ r r′ : ℤ) → r ≡ x′ +ℤ share (z′ -ℤ h .sum) (h .count) (h .rank)
+          → z ≡ targetOf c a (exponents p) → r′ ≡ r → z′ ≡ z → x′ ≡ x
+          → r′ ≡ shiftedWeight (targetOf c a) (slots (rowsOf s)) (count (exponents p) (slotsBefore s i) + own) (exponents p) x
+      unfolding holdingOf slotsBefore shiftedWeight errorAt
+      shifted-is x x′ z z′ r r′ er ez br bz bx = br ∙ er ∙ rw (bz, ez, bx, eh, all-slots s sh e, e)
 
-pub weight-past : (τ : Exponents → ℤ) (L before : Sum) (t : Exponents × ℤ) (α : Exponents) (x : ℤ)
-    → samePoint α (t .0) ≡ false
-    → shiftedWeight τ L (before ++ (t ∷ [])) α x ≡ shiftedWeight τ L before α x
-unfolding shiftedWeight
-weight-past τ L before t α x h = rw (count-past α before t h)
+-- ---- no slot of the row's own is before one at another point
+
+pub rank-none : (α : Exponents) (before : Sum) → rankOf α before [] ≡ count α before + 0
+unfolding rankOf
+rank-none α before = rw count-nil
+
+pub rank-past : (α : Exponents) (before : Sum) (β : Exponents) (x : ℤ) (own : Sum) → samePoint α β ≡ false
+    → rankOf α before ((β, x) ∷ own) ≡ rankOf α before own
+unfolding rankOf
+rank-past α before β x own h = rw (count-cons, h)
 
 -- ---- a row holds its points once each
 
-module _ (s : List ℕ) (n k i : ℕ) (f : CheckedProof s n k) (l : i < k) where
+module _ (s : List ℕ) (sh : Shape) (i : ℕ) (f : ProofFacts s sh) (l : i < sh .k) where
   -- of a pair, no two points are the same
-  module _ (apart : samePoint (vOf s n i) (wOf s n i) ≡ false) where
-    keys-apart : (keyOf (vOf s n i) ≡ keyOf (wOf s n i)) → ⊥
+  module _ (apart : samePoint (vOf s sh i) (wOf s sh i) ≡ false) where
+    keys-apart : (keyOf (vOf s sh i) ≡ keyOf (wOf s sh i)) → ⊥
     keys-apart e =
-        let same = carried-same n (vOf s n i) (wOf s n i) (v-carried s n k i (f .facts) l) (w-carried s n k i (f .facts) l) in
+        let same = carried-same (sh .n) (vOf s sh i) (wOf s sh i) (v-carried s sh i f l) (w-carried s sh i f l) in
         true≢false (sym (eq-eqb _ _ e) ∙ same ∙ apart)
 
     unlike : (α β : Exponents) → ((keyOf α ≡ keyOf β) → ⊥) → samePoint α β ≡ false
@@ -148,40 +154,40 @@ module _ (s : List ℕ) (n k i : ℕ) (f : CheckedProof s n k) (l : i < k) where
         go true e = absurd (d (ap keyOf (same-eq α β e)))
         go false e = refl
 
-    pub w-off-v : samePoint (wOf s n i) (vOf s n i) ≡ false
+    pub w-off-v : samePoint (wOf s sh i) (vOf s sh i) ≡ false
     w-off-v = unlike _ _ (λ e. keys-apart (sym e))
 
-    middle-key : keyOf (vOf s n i) + keyOf (wOf s n i) ≡ keyOf (midpointOf (vOf s n i) (wOf s n i)) * 2
-    middle-key = key-midpoint (vOf s n i) (wOf s n i) (f .facts .whole i l)
+    middle-key : keyOf (vOf s sh i) + keyOf (wOf s sh i) ≡ keyOf (midpointOf (vOf s sh i) (wOf s sh i)) * 2
+    middle-key = key-midpoint (vOf s sh i) (wOf s sh i) (f .whole i l)
 
-    pub u-off-v : samePoint (midpointOf (vOf s n i) (wOf s n i)) (vOf s n i) ≡ false
+    pub u-off-v : samePoint (midpointOf (vOf s sh i) (wOf s sh i)) (vOf s sh i) ≡ false
     u-off-v = unlike _ _ (λ e. keys-apart (omega (arith, middle-key)))
 
-    pub u-off-w : samePoint (midpointOf (vOf s n i) (wOf s n i)) (wOf s n i) ≡ false
+    pub u-off-w : samePoint (midpointOf (vOf s sh i) (wOf s sh i)) (wOf s sh i) ≡ false
     u-off-w = unlike _ _ (λ e. keys-apart (omega (arith, middle-key)))
 
 -- ---- shifted_weights: row i of well-formed sheets
 
 module _ (c s : List ℕ) (t : Aim) (i : ℕ) (given : CheckedSheets c s t) (l : i < rowCount s) where
-  abbrev n : ℕ
-  n = variables s
-
-  abbrev k : ℕ
-  k = rowCount s
+  abbrev sh : Shape
+  sh = shapeOf s
 
   abbrev α : Exponents
-  α = vOf s n i
+  α = vOf s sh i
 
   abbrev β : Exponents
-  β = wOf s n i
+  β = wOf s sh i
 
-  proof-here : CheckedProof s n k
-  proof-here = proof-checked c s t given n k refl refl
+  proof-here : ProofFacts s sh
+  proof-here = given .proof
 
-  -- the points of the row's own slots are held
-  own-held : (γ : Exponents) (L : Sum) → slotsAt (rowOf s n k i .v) (rowOf s n k i .w) (rowOf s n k i .weights) ≡ L
-      → 0 < count γ L → 0 < count γ (slots (rowsOf s))
-  own-held γ L e h = rw (← (all-slots s n k refl refl)) (row-held s n k i γ l (rw e h))
+  -- a point of the row's own slots is held by more than the rows before
+  abbrev Held : Exponents → Type 0
+  Held γ = count γ (slotsBefore s i) + 0 < count γ (slots (rowsOf s))
+
+  own-held : (γ : Exponents) (L : Sum) → slotsOf (rowOf s sh i) ≡ L → 0 < count γ L → Held γ
+  unfolding slotsBefore
+  own-held γ L e h = rw (← (all-slots s sh refl)) (let g = among s sh i γ l in let k = rw (← e) at h in omega (arith, g, k))
 
   module _ (v w : Point) (a : Weights) (row : IsRow s i v w a) where
     v-is : exponents v ≡ α
@@ -191,44 +197,44 @@ module _ (c s : List ℕ) (t : Aim) (i : ℕ) (given : CheckedSheets c s t) (l :
     w-is = rw (row .second) (exponents-of β)
 
     pub v-carries : Carried (variables c) (exponents v)
-    v-carries = rw (v-is, ← (given .same)) (v-carried s n k i (given .proof) l)
+    v-carries = rw (v-is, ← (given .same)) (v-carried s sh i (given .proof) l)
 
     pub w-carries : Carried (variables c) (exponents w)
-    w-carries = rw (w-is, ← (given .same)) (w-carried s n k i (given .proof) l)
+    w-carries = rw (w-is, ← (given .same)) (w-carried s sh i (given .proof) l)
 
     module _ (u : Point) (eu : u ≡ pointOf (midpointOf (exponents v) (exponents w))) where
       u-is : exponents u ≡ midpointOf α β
       u-is = rw (eu, exponents-of (midpointOf (exponents v) (exponents w)), v-is, w-is)
 
       pub u-carries : Carried (variables c) (exponents u)
-      u-carries = rw (u-is, ← (given .same)) (middle-carried s n k i (given .proof) l)
+      u-carries = rw (u-is, ← (given .same)) (middle-carried s sh i (given .proof) l)
 
     -- a lone row
     module _ (p : ℤ) (e : a ≡ Lone p) where
-      lone-row : rowOf s n k i .weights ≡ Lone p
+      lone-row : rowOf s sh i .weights ≡ Lone p
       lone-row = sym (row .carries) ∙ e
 
       pub lone-within : (p′ : ℤ) → p′ ≡ p → natAbs p′ ≤ greatestWeight
-      lone-within p′ ep = rw (ep, ← (lone-of s n k i p lone-row .1)) (given .proof .weights-within i l .p-within)
+      lone-within p′ ep = rw (ep, ← (lone-of s sh i p lone-row .1)) (given .proof .weights-within i l .p-within)
 
-      pub lone-held : 0 < count (exponents v) (slots (rowsOf s))
+      pub lone-held : Held (exponents v)
       lone-held =
           own-held (exponents v) ((exponents v, p) ∷ []) (rw (lone-row, slots-lone, row-v, v-is))
           (rw (count-cons, same-refl) (omega arith))
 
       pub lone-shifted : (p′ x x′ : ℤ)
-          → x ≡ shiftedWeight (targetOf c t) (slots (rowsOf s)) (slotsBefore s i) (exponents v) p′
+          → x ≡ shiftedWeight (targetOf c t) (slots (rowsOf s)) (count (exponents v) (slotsBefore s i) + 0) (exponents v) p′
           → x′ ≡ x → p′ ≡ p → Lone x′ ≡ shiftedRow (targetOf c t) s i .weights
       unfolding shiftedRow shiftRow shiftedWeights
-      lone-shifted p′ x x′ ex bx bp = rw (lone-row, row-v, bx, ex, bp, v-is)
+      lone-shifted p′ x x′ ex bx bp = rw (lone-row, row-v, rank-none, bx, ex, bp, v-is)
 
     -- a pair
     module _ (p q r : ℤ) (e : a ≡ Pair p q r) where
-      pair-row : rowOf s n k i .weights ≡ Pair p q r
+      pair-row : rowOf s sh i .weights ≡ Pair p q r
       pair-row = sym (row .carries) ∙ e
 
-      parts : (samePoint α β ≡ false) × (tripleOf s n k i .p ≡ p) × (tripleOf s n k i .q ≡ q) × (tripleOf s n k i .r ≡ r)
-      parts = pair-of s n k i p q r pair-row
+      parts : (samePoint α β ≡ false) × (tripleOf s sh i .p ≡ p) × (tripleOf s sh i .q ≡ q) × (tripleOf s sh i .r ≡ r)
+      parts = pair-of s sh i p q r pair-row
 
       pub p-within : (p′ : ℤ) → p′ ≡ p → natAbs p′ ≤ greatestWeight
       p-within p′ ep = rw (ep, ← (parts .1)) (given .proof .weights-within i l .p-within)
@@ -240,59 +246,78 @@ module _ (c s : List ℕ) (t : Aim) (i : ℕ) (given : CheckedSheets c s t) (l :
       r-within r′ er = rw (er, ← (parts .3)) (given .proof .weights-within i l .r-within)
 
       β-off-α : samePoint β α ≡ false
-      β-off-α = w-off-v s n k i proof-here l (parts .0)
+      β-off-α = w-off-v s sh i proof-here l (parts .0)
 
       mid-off-α : samePoint (midpointOf α β) α ≡ false
-      mid-off-α = u-off-v s n k i proof-here l (parts .0)
+      mid-off-α = u-off-v s sh i proof-here l (parts .0)
 
       mid-off-β : samePoint (midpointOf α β) β ≡ false
-      mid-off-β = u-off-w s n k i proof-here l (parts .0)
+      mid-off-β = u-off-w s sh i proof-here l (parts .0)
 
       pair-held : (γ : Exponents) → 0 < count γ ((α, p) ∷ (β, q) ∷ (midpointOf α β, r) ∷ [])
-          → 0 < count γ (slots (rowsOf s))
+          → Held γ
       pair-held γ h = own-held γ _ (rw (pair-row, slots-pair, row-v, row-w)) h
 
-      pub p-held : 0 < count (exponents v) (slots (rowsOf s))
+      pub p-held : Held (exponents v)
       p-held = pair-held (exponents v) (rw (v-is, count-cons, same-refl) (omega arith))
 
-      pub q-held : 0 < count (exponents w) (slots (rowsOf s))
+      pub q-held : Held (exponents w)
       q-held = pair-held (exponents w) (rw (w-is, count-cons, β-off-α, count-cons, same-refl) (omega arith))
 
       module _ (u : Point) (eu : u ≡ pointOf (midpointOf (exponents v) (exponents w))) where
-        pub r-held : 0 < count (exponents u) (slots (rowsOf s))
+        pub r-held : Held (exponents u)
         r-held =
             pair-held (exponents u)
             (rw (u-is u eu, count-cons, mid-off-α, count-cons, mid-off-β, count-cons, same-refl) (omega arith))
 
         pub pair-shifted : (p′ q′ r′ x x′ y y′ z z′ : ℤ)
-            → x ≡ shiftedWeight (targetOf c t) (slots (rowsOf s)) (slotsBefore s i) (exponents v) p′
-            → y ≡ shiftedWeight (targetOf c t) (slots (rowsOf s)) (slotsBefore s i) (exponents w) q′
-            → z ≡ shiftedWeight (targetOf c t) (slots (rowsOf s)) (slotsBefore s i) (exponents u) r′
+            → x ≡ shiftedWeight (targetOf c t) (slots (rowsOf s)) (count (exponents v) (slotsBefore s i) + 0) (exponents v) p′
+            → y ≡ shiftedWeight (targetOf c t) (slots (rowsOf s)) (count (exponents w) (slotsBefore s i) + 0) (exponents w) q′
+            → z ≡ shiftedWeight (targetOf c t) (slots (rowsOf s)) (count (exponents u) (slotsBefore s i) + 0) (exponents u) r′
             → x′ ≡ x → y′ ≡ y → z′ ≡ z → p′ ≡ p → q′ ≡ q → r′ ≡ r
             → Pair x′ y′ z′ ≡ shiftedRow (targetOf c t) s i .weights
         unfolding shiftedRow shiftRow shiftedWeights
         pair-shifted p′ q′ r′ x x′ y y′ z z′ ex ey ez bx by bz bp bq br =
-            rw (pair-row, row-v, row-w, bx, ex, by, ey, bz, ez, bp, bq, br, v-is, w-is, u-is u eu)
-            (ap₂ (Pair (shiftedWeight (targetOf c t) (slots (rowsOf s)) (slotsBefore s i) α p))
-            (sym (weight-past _ _ _ _ _ q β-off-α))
-            (sym (weight-past _ _ _ _ _ r mid-off-β ∙ weight-past _ _ _ _ _ r mid-off-α)))
+            rw (
+              pair-row,
+              row-v,
+              row-w,
+              bx,
+              ex,
+              by,
+              ey,
+              bz,
+              ez,
+              bp,
+              bq,
+              br,
+              v-is,
+              w-is,
+              u-is u eu,
+              rank-past β (slotsBefore s i) α p [] β-off-α,
+              rank-past (midpointOf α β) (slotsBefore s i) α p ((β, q) ∷ []) mid-off-α,
+              rank-past (midpointOf α β) (slotsBefore s i) β q [] mid-off-β,
+              rank-none,
+              rank-none,
+              rank-none,
+            )
 
 -- ---- shifted_row
 
-module _ (c s : List ℕ) (t : Aim) (i n k : ℕ) (given : CheckedSheets c s t) (en : n ≡ variables s) (ek : k ≡ rowCount s) where
-  pub room-here : ProofRoom s n k
-  room-here = let f = proof-checked c s t given n k en ek in proof-room s n k (f .few) (f .facts)
+module _ (c s : List ℕ) (t : Aim) (i : ℕ) (sh : Shape) (given : CheckedSheets c s t) (e : sh ≡ shapeOf s) where
+  pub room-here : ProofRoom s sh
+  room-here = proof-room s sh (proof-checked c s t given sh e)
 
-  module _ (row : Row) (er : row ≡ byValue (rowOf s n k i)) where
+  module _ (row : Row) (er : row ≡ byValue (rowOf s sh i)) where
     pub is-row : (v w : Point) (a : Weights) → v ≡ row .v → w ≡ row .w → a ≡ row .weights → IsRow s i v w a
     is-row v w a ev ew ea = record {
-      first = ev ∙ value-v _ row er ∙ rw (row-v, en);
-      second = ew ∙ value-w _ row er ∙ rw (row-w, en);
-      carries = ea ∙ value-weights _ row er ∙ rw (en, ek);
+      first = ev ∙ value-v _ row er ∙ rw (row-v, e);
+      second = ew ∙ value-w _ row er ∙ rw (row-w, e);
+      carries = ea ∙ value-weights _ row er ∙ rw e;
     }
 
     pub row-shifted : (v w : Point) (x : Weights) → x ≡ shiftedRow (targetOf c t) s i .weights → v ≡ row .v → w ≡ row .w
         → record { v = v; w = w; weights = x } ≡ byValue (shiftedRow (targetOf c t) s i)
     unfolding shiftedRow shiftRow
     row-shifted v w x ex ev ew =
-        by-value _ v w x (ev ∙ value-v _ row er ∙ rw (en, ek)) (ew ∙ value-w _ row er ∙ rw (en, ek)) ex
+        by-value _ v w x (ev ∙ value-v _ row er ∙ rw e) (ew ∙ value-w _ row er ∙ rw e) ex

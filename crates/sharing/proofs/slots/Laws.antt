@@ -3,7 +3,7 @@
 use mathlib.Core.Path.{_≡_, refl, sym, _∙_, ap}
 use mathlib.Core.Bool.{Bool, true, false, cond, _||_}
 use mathlib.Core.List.{List, [], _∷_, _++_}
-use Prim.Native.Nat.{ℕ, zero, suc, _+_, _*_, _-_, _^_, _<_, _≤_}
+use Prim.Native.Nat.{ℕ, zero, suc, _+_, _*_, _^_, _<_, _≤_}
 use native.Mathlib.Decide.{ℕ-discrete}
 use native.Mathlib.Nat.{mul-le-mul-right}
 use native.Mathlib.Numerals.{add-one}
@@ -12,7 +12,7 @@ use lib.Dec.{eqb, ltb, lit<}
 use lib.IntN.{ℤ, pos, natAbs, _+ℤ_, +ℤ-idl, +ℤ-idr, +ℤ-assoc}
 use lib.ListN.{length, length-append}
 use borrow.Author.Tests.{eq-eqb, ne-eqb, lt-ltb, ltb-true, ltb-false}
-use mir.Syntax.{w64}
+use mir.Syntax.{w32, w64}
 use mir.Val.{SFits, Fits}
 use mir.Facts.{toZ-ofZ}
 use Rattle.integers.specs.Words.{i32At}
@@ -20,74 +20,75 @@ use Rattle.integers.proofs.Integers.{back, abs-add, fits-within}
 use Rattle.points.specs.Lists.{table, All}
 use Rattle.points.specs.Points.{Exponents, exponents, samePoint, midpointOf}
 use Rattle.points.specs.Keys.{keyOf}
-use Rattle.squares.specs.Sums.{Sum, coefficient}
-use Rattle.squares.specs.Rows.{slotsAt, slots}
 use Rattle.points.specs.declared.points.Point.{Point}
 use Rattle.points.proofs.Lists.{all-append}
-use Rattle.squares.proofs.Sums.{coefficient-nil, coefficient-cons}
-use Rattle.points.proofs.points.Laws.{same-eq}
+use Rattle.points.proofs.points.Laws.{same-eq, midpoint-sized, midpoint-within}
 use Rattle.points.proofs.keys.Laws.{key-midpoint}
-use Rattle.squares.proofs.rows.Laws.{slots-pair, slots-lone, slots-none, slots-more}
-use Rattle.answers.specs.Bounds.{greatestWeight}
-use Rattle.sheets.specs.Layout.{variables, rowCount, tripleAt}
-use Rattle.sheets.specs.ProofSheet.{vOf, wOf, tripleOf, rowOf, rowsOf}
-use Rattle.checks.specs.WellFormed.{Within}
-use Rattle.sheets.proofs.proof_sheet.Laws.{triple-inside, p-there, q-there, r-there, row-lone, row-pair, row-v, row-w, rows-table}
+use Rattle.squares.specs.Sums.{Sum, coefficient}
+use Rattle.squares.specs.Rows.{slotsOf, slots}
+use Rattle.squares.proofs.Sums.{coefficient-nil, coefficient-cons}
+use Rattle.squares.proofs.Gathered.{gathered-none, gathered-more}
+use Rattle.squares.proofs.rows.Laws.{slots-pair, slots-lone}
+use Rattle.answers.specs.Bounds.{greatestExponent, greatestWeight}
 use Rattle.answers.specs.Searches.{first}
 use Rattle.answers.specs.declared.searches.Found.the-variants.{Nothing}
 use Rattle.answers.proofs.searches.Laws.{first-nothing}
-use Rattle.checks.proofs.WellFormed.{proof-room}
+use Rattle.sheets.specs.Layout.{shapeOf, tripleAt}
+use Rattle.sheets.specs.ProofSheet.{vOf, wOf, tripleOf, rowOf, rowsOf}
+use Rattle.sheets.specs.declared.layout.Shape.{Shape}
+use Rattle.sheets.proofs.proof_sheet.Laws.{triple-inside, p-there, q-there, r-there, row-lone, row-pair, row-v, row-w, v-length, w-length, rows-table}
+use Rattle.checks.specs.ProofChecks.{Within, ProofFacts}
+use Rattle.checks.proofs.proof_checks.Facts.{proof-room}
+use Rattle.targets.specs.Carried.{Carried}
+use Rattle.targets.proofs.Carried.{carried-same, carried-low}
 use Rattle.sharing.specs.Sharing.{count}
-use Rattle.sharing.specs.Carried.{Carried}
-use Rattle.sharing.specs.Slots.{CheckedProof, Small, slotsTo, holdsKey, added, tallyFrom, tallyOf, holdingOf}
+use Rattle.sharing.specs.Slots.{Small, slotsTo, holdsKey, added, tallyFrom, tallyOf, holdingOf}
 use Rattle.sharing.specs.declared.slots.Tally.{Tally}
-use Rattle.sharing.proofs.Carried.{v-carried, w-carried, middle-carried, carried-same, carried-low}
-use Rattle.sharing.proofs.Sharing.{count-append, count-cons, count-nil}
+use Rattle.sharing.proofs.Sharing.{count-append, count-cons, count-nil, row-counted}
 
 -- ---- the slots of one row more
 
-pub no-slots : (s : List ℕ) (n k : ℕ) → slotsTo s n k 0 ≡ []
+pub no-slots : (s : List ℕ) (sh : Shape) → slotsTo s sh 0 ≡ []
 unfolding slotsTo
-no-slots s n k = slots-none (rowOf s n k)
+no-slots s sh = gathered-none slotsOf (rowOf s sh)
 
-pub all-slots : (s : List ℕ) (n k : ℕ) → n ≡ variables s → k ≡ rowCount s → slotsTo s n k k ≡ slots (rowsOf s)
+pub all-slots : (s : List ℕ) (sh : Shape) → sh ≡ shapeOf s → slotsTo s sh (sh .k) ≡ slots (rowsOf s)
 unfolding slotsTo
-all-slots s n k en ek = ap slots (rows-table s n k en ek)
+all-slots s sh e = ap slots (rows-table s sh e)
 
-module _ (s : List ℕ) (n k i : ℕ) where
-  pub lone-slots : samePoint (vOf s n i) (wOf s n i) ≡ true
-      → slotsTo s n k (suc i) ≡ slotsTo s n k i ++ ((vOf s n i, tripleOf s n k i .p) ∷ [])
+module _ (s : List ℕ) (sh : Shape) (i : ℕ) where
+  pub lone-slots : samePoint (vOf s sh i) (wOf s sh i) ≡ true
+      → slotsTo s sh (suc i) ≡ slotsTo s sh i ++ ((vOf s sh i, tripleOf s sh i .p) ∷ [])
   unfolding slotsTo
-  lone-slots h =
-      slots-more (rowOf s n k) i
-      ∙ rw (row-lone s n k i h, row-v s n k i, slots-lone)
+  lone-slots h = gathered-more slotsOf (rowOf s sh) i ∙ rw (row-lone s sh i h, row-v s sh i, slots-lone)
 
-  pub pair-slots : samePoint (vOf s n i) (wOf s n i) ≡ false
-      → slotsTo s n k (suc i) ≡ slotsTo s n k i ++ ((vOf s n i, tripleOf s n k i .p) ∷ (wOf s n i, tripleOf s n k i .q)
-      ∷ (midpointOf (vOf s n i) (wOf s n i), tripleOf s n k i .r) ∷ [])
+  pub pair-slots : samePoint (vOf s sh i) (wOf s sh i) ≡ false
+      → slotsTo s sh (suc i) ≡ slotsTo s sh i ++ ((vOf s sh i, tripleOf s sh i .p) ∷ (wOf s sh i, tripleOf s sh i .q)
+      ∷ (midpointOf (vOf s sh i) (wOf s sh i), tripleOf s sh i .r) ∷ [])
   unfolding slotsTo
   pair-slots h =
-      slots-more (rowOf s n k) i
-      ∙ rw (row-pair s n k i h, row-v s n k i, row-w s n k i, slots-pair)
+      gathered-more slotsOf (rowOf s sh) i ∙ rw (row-pair s sh i h, row-v s sh i, row-w s sh i, slots-pair)
 
-  -- more rows have at least as many slots at a point
-  grows : (α : Exponents) (d : ℕ) → count α (slotsTo s n k i) ≤ count α (slotsTo s n k (i + d))
+  -- those of the rows before and the row's own are among all
+  pub among : (α : Exponents) → i < sh .k
+      → count α (slotsTo s sh i) + count α (slotsOf (rowOf s sh i)) ≤ count α (slotsTo s sh (sh .k))
   unfolding slotsTo
-  grows α zero = let e : i + 0 ≡ i = omega arith in rw e (omega arith)
-  grows α (suc d) =
-      let e : i + suc d ≡ suc (i + d) = omega arith in
-      rw (e, slots-more (rowOf s n k) (i + d), count-append) (omega (arith, grows α d))
+  among α l = row-counted slotsOf (rowOf s sh) α i (sh .k) l
 
--- a point that a row holds is held
-pub row-held : (s : List ℕ) (n k i : ℕ) (α : Exponents) → i < k
-    → 0 < count α (slotsAt (rowOf s n k i .v) (rowOf s n k i .w) (rowOf s n k i .weights))
-    → 0 < count α (slotsTo s n k k)
-unfolding slotsTo
-row-held s n k i α l h =
-    let e : suc i + (k - suc i) ≡ k = omega arith in
-    let g : count α (slotsTo s n k (suc i)) ≤ count α (slotsTo s n k k) = rw e at (grows s n k (suc i) α (k - suc i)) in
-    let m = ap (count α) (slots-more (rowOf s n k) i) ∙ count-append α (slotsTo s n k i) _ in
-    omega (arith, g, m)
+-- ---- points that they can be at
+
+module _ (s : List ℕ) (sh : Shape) (i : ℕ) (f : ProofFacts s sh) (l : i < sh .k) where
+  pub v-carried : Carried (sh .n) (vOf s sh i)
+  v-carried = record { sized = v-length s sh i; within = f .v-within i l }
+
+  pub w-carried : Carried (sh .n) (wOf s sh i)
+  w-carried = record { sized = w-length s sh i; within = f .w-within i l }
+
+  pub middle-carried : Carried (sh .n) (midpointOf (vOf s sh i) (wOf s sh i))
+  middle-carried = record {
+    sized = midpoint-sized (vOf s sh i) (wOf s sh i) (sh .n) (v-length s sh i) (w-length s sh i);
+    within = midpoint-within greatestExponent (vOf s sh i) (wOf s sh i) (f .v-within i l) (f .w-within i l);
+  }
 
 -- ---- what they are: points that the sheets can hold, with weights within the greatest
 
@@ -106,29 +107,29 @@ slots-append n m d L M h k = record {
   each = all-append (Slot n) L M (h .each) (k .each);
 }
 
-module _ (s : List ℕ) (n k : ℕ) (f : CheckedProof s n k) where
-  pub slots-are : (i : ℕ) → i ≤ k → Slots n (i * 3) (slotsTo s n k i)
-  slots-are zero l = rw (no-slots s n k) (record { short = omega arith; each = tt })
+module _ (s : List ℕ) (sh : Shape) (f : ProofFacts s sh) where
+  pub slots-are : (i : ℕ) → i ≤ sh .k → Slots (sh .n) (i * 3) (slotsTo s sh i)
+  slots-are zero l = rw (no-slots s sh) (record { short = omega arith; each = tt })
   slots-are (suc i) l =
       let e : suc i * 3 ≡ i * 3 + 3 = omega arith in
-      rw e (go (samePoint (vOf s n i) (wOf s n i)) refl (slots-are i (omega arith)))
+      rw e (go (samePoint (vOf s sh i) (wOf s sh i)) refl (slots-are i (omega arith)))
     where
-      p : Slot n (vOf s n i, tripleOf s n k i .p)
-      p = record { point = v-carried s n k i (f .facts) l; weight = f .facts .weights-within i l .p-within }
+      p : Slot (sh .n) (vOf s sh i, tripleOf s sh i .p)
+      p = record { point = v-carried s sh i f l; weight = f .weights-within i l .p-within }
 
-      q : Slot n (wOf s n i, tripleOf s n k i .q)
-      q = record { point = w-carried s n k i (f .facts) l; weight = f .facts .weights-within i l .q-within }
+      q : Slot (sh .n) (wOf s sh i, tripleOf s sh i .q)
+      q = record { point = w-carried s sh i f l; weight = f .weights-within i l .q-within }
 
-      r : Slot n (midpointOf (vOf s n i) (wOf s n i), tripleOf s n k i .r)
-      r = record { point = middle-carried s n k i (f .facts) l; weight = f .facts .weights-within i l .r-within }
+      r : Slot (sh .n) (midpointOf (vOf s sh i) (wOf s sh i), tripleOf s sh i .r)
+      r = record { point = middle-carried s sh i f l; weight = f .weights-within i l .r-within }
 
-      go : (b : Bool) → samePoint (vOf s n i) (wOf s n i) ≡ b → Slots n (i * 3) (slotsTo s n k i)
-          → Slots n (i * 3 + 3) (slotsTo s n k (suc i))
+      go : (b : Bool) → samePoint (vOf s sh i) (wOf s sh i) ≡ b → Slots (sh .n) (i * 3) (slotsTo s sh i)
+          → Slots (sh .n) (i * 3 + 3) (slotsTo s sh (suc i))
       go true e h =
-          rw (lone-slots s n k i e) (slots-append n (i * 3) 3 _ _ h (record { short = omega arith; each = (p, tt) }))
+          rw (lone-slots s sh i e) (slots-append (sh .n) (i * 3) 3 _ _ h (record { short = omega arith; each = (p, tt) }))
       go false e h =
-          rw (pair-slots s n k i e)
-          (slots-append n (i * 3) 3 _ _ h (record { short = omega arith; each = (p, (q, (r, tt))) }))
+          rw (pair-slots s sh i e)
+          (slots-append (sh .n) (i * 3) 3 _ _ h (record { short = omega arith; each = (p, (q, (r, tt))) }))
 
 -- ---- tallies
 
@@ -239,43 +240,43 @@ halved u key = go (ℕ-discrete u key)
     go (yes e) = eq-eqb (u * 2) (key * 2) (omega (arith, e)) ∙ sym (eq-eqb key u (sym e))
     go (no e) = ne-eqb (u * 2) (key * 2) (λ q. e (omega arith)) ∙ sym (ne-eqb key u (λ q. e (sym q)))
 
-module _ (s : List ℕ) (n k i : ℕ) (f : CheckedProof s n k) (l : i < k) where
-  module _ (v w : ℕ) (ev : v ≡ keyOf (vOf s n i)) (ew : w ≡ keyOf (wOf s n i)) where
-    lone : eqb v w ≡ samePoint (vOf s n i) (wOf s n i)
-    lone = rw (ev, ew) (carried-same n (vOf s n i) (wOf s n i) (v-carried s n k i (f .facts) l) (w-carried s n k i (f .facts) l))
+module _ (s : List ℕ) (sh : Shape) (i : ℕ) (f : ProofFacts s sh) (l : i < sh .k) where
+  module _ (v w : ℕ) (ev : v ≡ keyOf (vOf s sh i)) (ew : w ≡ keyOf (wOf s sh i)) where
+    lone : eqb v w ≡ samePoint (vOf s sh i) (wOf s sh i)
+    lone = rw (ev, ew) (carried-same (sh .n) (vOf s sh i) (wOf s sh i) (v-carried s sh i f l) (w-carried s sh i f l))
 
     pub ends-fit : Fits w64 (v + w)
     ends-fit =
-        let hv = carried-low n (vOf s n i) (f .few) (v-carried s n k i (f .facts) l) in
-        let hw = carried-low n (wOf s n i) (f .few) (w-carried s n k i (f .facts) l) in
+        let hv = carried-low (sh .n) (vOf s sh i) (f .few) (v-carried s sh i f l) in
+        let hw = carried-low (sh .n) (wOf s sh i) (f .few) (w-carried s sh i f l) in
         omega (arith, ev, ew, hv, hw)
 
-    middle : (key : ℕ) → eqb (v + w) (key * 2) ≡ eqb key (keyOf (midpointOf (vOf s n i) (wOf s n i)))
+    middle : (key : ℕ) → eqb (v + w) (key * 2) ≡ eqb key (keyOf (midpointOf (vOf s sh i) (wOf s sh i)))
     middle key =
-        rw (ev, ew, key-midpoint (vOf s n i) (wOf s n i) (f .facts .whole i l))
-        (halved (keyOf (midpointOf (vOf s n i) (wOf s n i))) key)
+        rw (ev, ew, key-midpoint (vOf s sh i) (wOf s sh i) (f .whole i l))
+        (halved (keyOf (midpointOf (vOf s sh i) (wOf s sh i))) key)
 
     -- holds_key
     module _ (key : ℕ) where
-      pub key-first : key ≡ v → true ≡ holdsKey s n key i
+      pub key-first : key ≡ v → true ≡ holdsKey s sh key i
       unfolding holdsKey
       key-first e = rw (← ev, eq-eqb key v e)
 
       module _ (a : key ≡ v → ⊥) where
-        pub key-second : key ≡ w → true ≡ holdsKey s n key i
+        pub key-second : key ≡ w → true ≡ holdsKey s sh key i
         unfolding holdsKey
         key-second e = rw (← ev, ← ew, ne-eqb key v a, eq-eqb key w e)
 
-        pub key-middle : (key ≡ w → ⊥) → eqb (v + w) (key * 2) ≡ holdsKey s n key i
+        pub key-middle : (key ≡ w → ⊥) → eqb (v + w) (key * 2) ≡ holdsKey s sh key i
         unfolding holdsKey
         key-middle b = rw (← ev, ← ew, ne-eqb key v a, ne-eqb key w b)
 
   -- the slots of the row
   abbrev own : Sum
-  own = slotsAt (rowOf s n k i .v) (rowOf s n k i .w) (rowOf s n k i .weights)
+  own = slotsOf (rowOf s sh i)
 
   -- a row has a slot at a point exactly where it holds the point's key
-  module _ (α : Exponents) (carried : Carried n α) where
+  module _ (α : Exponents) (carried : Carried (sh .n) α) where
     abbrev at : Exponents → Bool
     at β = samePoint α β
 
@@ -288,62 +289,62 @@ module _ (s : List ℕ) (n k i : ℕ) (f : CheckedProof s n k) (l : i < k) where
     any-held false false true = refl
     any-held false false false = refl
 
-    held-by-key : holdsKey s n (keyOf α) i ≡ ltb 0 (count α own)
+    held-by-key : holdsKey s sh (keyOf α) i ≡ ltb 0 (count α own)
     unfolding holdsKey
-    held-by-key = go (samePoint (vOf s n i) (wOf s n i)) refl
+    held-by-key = go (samePoint (vOf s sh i) (wOf s sh i)) refl
       where
-        v-at : eqb (keyOf α) (keyOf (vOf s n i)) ≡ at (vOf s n i)
-        v-at = carried-same n α (vOf s n i) carried (v-carried s n k i (f .facts) l)
+        v-at : eqb (keyOf α) (keyOf (vOf s sh i)) ≡ at (vOf s sh i)
+        v-at = carried-same (sh .n) α (vOf s sh i) carried (v-carried s sh i f l)
 
-        w-at : eqb (keyOf α) (keyOf (wOf s n i)) ≡ at (wOf s n i)
-        w-at = carried-same n α (wOf s n i) carried (w-carried s n k i (f .facts) l)
+        w-at : eqb (keyOf α) (keyOf (wOf s sh i)) ≡ at (wOf s sh i)
+        w-at = carried-same (sh .n) α (wOf s sh i) carried (w-carried s sh i f l)
 
-        u-at : eqb (keyOf (vOf s n i) + keyOf (wOf s n i)) (keyOf α * 2) ≡ at (midpointOf (vOf s n i) (wOf s n i))
+        u-at : eqb (keyOf (vOf s sh i) + keyOf (wOf s sh i)) (keyOf α * 2) ≡ at (midpointOf (vOf s sh i) (wOf s sh i))
         u-at =
-            middle (keyOf (vOf s n i)) (keyOf (wOf s n i)) refl refl (keyOf α)
-            ∙ carried-same n α (midpointOf (vOf s n i) (wOf s n i)) carried (middle-carried s n k i (f .facts) l)
+            middle (keyOf (vOf s sh i)) (keyOf (wOf s sh i)) refl refl (keyOf α)
+            ∙ carried-same (sh .n) α (midpointOf (vOf s sh i) (wOf s sh i)) carried (middle-carried s sh i f l)
 
         once : (a : Bool) → a || a || a ≡ ltb 0 (cond a 1 0)
         once true = refl
         once false = refl
 
-        go : (b : Bool) → samePoint (vOf s n i) (wOf s n i) ≡ b
-            → eqb (keyOf α) (keyOf (vOf s n i)) || eqb (keyOf α) (keyOf (wOf s n i)) || eqb (keyOf (vOf s n i) + keyOf (wOf s n i)) (keyOf α * 2)
+        go : (b : Bool) → samePoint (vOf s sh i) (wOf s sh i) ≡ b
+            → eqb (keyOf α) (keyOf (vOf s sh i)) || eqb (keyOf α) (keyOf (wOf s sh i)) || eqb (keyOf (vOf s sh i) + keyOf (wOf s sh i)) (keyOf α * 2)
             ≡ ltb 0 (count α own)
         go true e =
-            let q = same-eq (vOf s n i) (wOf s n i) e in
-            let d : keyOf (wOf s n i) + keyOf (wOf s n i) ≡ keyOf (wOf s n i) * 2 = omega arith in
-            rw (row-lone s n k i e, row-v, slots-lone, count-cons, count-nil, q, d, halved, w-at) (once (at (wOf s n i)))
+            let q = same-eq (vOf s sh i) (wOf s sh i) e in
+            let d : keyOf (wOf s sh i) + keyOf (wOf s sh i) ≡ keyOf (wOf s sh i) * 2 = omega arith in
+            rw (row-lone s sh i e, row-v, slots-lone, count-cons, count-nil, q, d, halved, w-at) (once (at (wOf s sh i)))
         go false e =
-            rw (row-pair s n k i e, row-v, row-w, slots-pair, count-cons, count-cons, count-cons, count-nil, v-at, w-at, u-at)
-            (any-held (at (vOf s n i)) (at (wOf s n i)) (at (midpointOf (vOf s n i) (wOf s n i))))
+            rw (row-pair s sh i e, row-v, row-w, slots-pair, count-cons, count-cons, count-cons, count-nil, v-at, w-at, u-at)
+            (any-held (at (vOf s sh i)) (at (wOf s sh i)) (at (midpointOf (vOf s sh i) (wOf s sh i))))
 
-    pub key-held : holdsKey s n (keyOf α) i ≡ true → 0 < count α (slotsTo s n k k)
-    key-held h = row-held s n k i α l (ltb-true 0 (count α own) (sym held-by-key ∙ h))
+    pub key-held : holdsKey s sh (keyOf α) i ≡ true → 0 < count α (slotsTo s sh (sh .k))
+    key-held h = let held = ltb-true 0 (count α own) (sym held-by-key ∙ h) in omega (arith, held, among s sh i α l)
 
-    key-unheld : holdsKey s n (keyOf α) i ≡ false → count α own ≡ 0
+    key-unheld : holdsKey s sh (keyOf α) i ≡ false → count α own ≡ 0
     key-unheld h = let z = ltb-false 0 (count α own) (sym held-by-key ∙ h) in omega arith
 
 -- where no row holds the key, no slot is at the point
-pub keys-unheld : (s : List ℕ) (n k : ℕ) (α : Exponents) → CheckedProof s n k → Carried n α
-    → first (holdsKey s n (keyOf α)) k ≡ Nothing → count α (slotsTo s n k k) ≡ 0
+pub keys-unheld : (s : List ℕ) (sh : Shape) (α : Exponents) → ProofFacts s sh → Carried (sh .n) α
+    → first (holdsKey s sh (keyOf α)) (sh .k) ≡ Nothing → count α (slotsTo s sh (sh .k)) ≡ 0
 unfolding slotsTo
-keys-unheld s n k α f carried h = go k (omega arith)
+keys-unheld s sh α f carried h = go (sh .k) (omega arith)
   where
-    go : (i : ℕ) → i ≤ k → count α (slots (table (rowOf s n k) i)) ≡ 0
-    go zero l = rw (slots-none, count-nil)
+    go : (i : ℕ) → i ≤ sh .k → count α (slots (table (rowOf s sh) i)) ≡ 0
+    go zero l = rw (gathered-none, count-nil)
     go (suc i) l =
-        let z = key-unheld s n k i f l α carried (first-nothing _ k h i l) in
-        rw (slots-more (rowOf s n k) i, count-append) (omega (arith, z, go i (omega arith)))
+        let z = key-unheld s sh i f l α carried (first-nothing _ (sh .k) h i l) in
+        rw (gathered-more slotsOf (rowOf s sh) i, count-append) (omega (arith, z, go i (omega arith)))
 
 -- ---- add_row: v and w are the keys of the row's ends
 
-module _ (s : List ℕ) (n k i : ℕ) (f : CheckedProof s n k) (l : i < k) (at : ℕ) (ea : at ≡ tripleAt n k i) where
-  weights : Within greatestWeight (tripleOf s n k i)
-  weights = f .facts .weights-within i l
+module _ (s : List ℕ) (sh : Shape) (i : ℕ) (f : ProofFacts s sh) (l : i < sh .k) (at : ℕ) (ea : at ≡ tripleAt sh i) where
+  weights : Within greatestWeight (tripleOf s sh i)
+  weights = f .weights-within i l
 
   inside : at + 12 ≤ length s
-  inside = triple-inside s n k i at (proof-room s n k (f .few) (f .facts)) l ea
+  inside = triple-inside s sh i at (proof-room s sh f) l ea
 
   pub p-inside : at + 4 ≤ length s
   p-inside = omega (arith, inside)
@@ -355,37 +356,37 @@ module _ (s : List ℕ) (n k i : ℕ) (f : CheckedProof s n k) (l : i < k) (at :
   r-inside = omega (arith, inside)
 
   pub p-within : natAbs (i32At s at) ≤ greatestWeight
-  p-within = rw (p-there s n k i at ea) (weights .p-within)
+  p-within = rw (p-there s sh i at ea) (weights .p-within)
 
   pub q-within : natAbs (i32At s (at + 4)) ≤ greatestWeight
-  q-within = rw (q-there s n k i at ea) (weights .q-within)
+  q-within = rw (q-there s sh i at ea) (weights .q-within)
 
   pub r-within : natAbs (i32At s (at + 8)) ≤ greatestWeight
-  r-within = rw (r-there s n k i at ea) (weights .r-within)
+  r-within = rw (r-there s sh i at ea) (weights .r-within)
 
-  module _ (key v w : ℕ) (ev : v ≡ keyOf (vOf s n i)) (ew : w ≡ keyOf (wOf s n i)) where
-    module _ (a b : Tally) (ha : a ≡ tallyOf key (slotsTo s n k i)) (hb : b ≡ added (eqb key v) (i32At s at) a) where
-      pub lone-added : v ≡ w → b ≡ tallyOf key (slotsTo s n k (i + 1))
+  module _ (key v w : ℕ) (ev : v ≡ keyOf (vOf s sh i)) (ew : w ≡ keyOf (wOf s sh i)) where
+    module _ (a b : Tally) (ha : a ≡ tallyOf key (slotsTo s sh i)) (hb : b ≡ added (eqb key v) (i32At s at) a) where
+      pub lone-added : v ≡ w → b ≡ tallyOf key (slotsTo s sh (i + 1))
       unfolding tallyOf
       lone-added e =
-          let row = lone-slots s n k i (sym (lone s n k i f l v w ev ew) ∙ eq-eqb v w e) in
-          hb ∙ rw (add-one, row, tally-append, tally-cons, tally-nil, ← ha, p-there s n k i at ea, ← ev)
+          let row = lone-slots s sh i (sym (lone s sh i f l v w ev ew) ∙ eq-eqb v w e) in
+          hb ∙ rw (add-one, row, tally-append, tally-cons, tally-nil, ← ha, p-there s sh i at ea, ← ev)
 
       pub pair-added : (c r : Tally) → c ≡ added (eqb key w) (i32At s (at + 4)) b
           → r ≡ added (eqb (v + w) (key * 2)) (i32At s (at + 8)) c
-          → (v ≡ w → ⊥) → r ≡ tallyOf key (slotsTo s n k (i + 1))
+          → (v ≡ w → ⊥) → r ≡ tallyOf key (slotsTo s sh (i + 1))
       unfolding tallyOf
       pair-added c r hc hr e =
-          let row = pair-slots s n k i (sym (lone s n k i f l v w ev ew) ∙ ne-eqb v w e) in
-          hr ∙ rw (hc, hb, middle s n k i f l v w ev ew key, p-there s n k i at ea, q-there s n k i at ea, r-there s n k i at ea)
+          let row = pair-slots s sh i (sym (lone s sh i f l v w ev ew) ∙ ne-eqb v w e) in
+          hr ∙ rw (hc, hb, middle s sh i f l v w ev ew key, p-there s sh i at ea, q-there s sh i at ea, r-there s sh i at ea)
           (sym (rw (add-one, row, tally-append, tally-cons, tally-cons, tally-cons, tally-nil, ← ha, ← ev, ← ew)))
 
   -- the tallies before the row's first, second and third slot
-  module _ (key : ℕ) (a : Tally) (ha : a ≡ tallyOf key (slotsTo s n k i)) where
+  module _ (key : ℕ) (a : Tally) (ha : a ≡ tallyOf key (slotsTo s sh i)) where
     bound : (natAbs (a .sum) ≤ 2 ^ 41) × (a .count ≤ 768)
     bound =
-        let g = tally-bound n (i * 3) key (slotsTo s n k i) (slots-are s n k f i (omega arith)) in
-        let rows = f .facts .rows in
+        let g = tally-bound (sh .n) (i * 3) key (slotsTo s sh i) (slots-are s sh f i (omega arith)) in
+        let rows = f .rows in
         rw ha (omega (arith, g .0), omega (arith, g .1))
 
     pub small-first : Small a
@@ -407,28 +408,37 @@ module _ (s : List ℕ) (n k i : ℕ) (f : CheckedProof s n k) (l : i < k) (at :
 
 -- ---- scan and held
 
-pub scan-end : (s : List ℕ) (n k key i to : ℕ) (b : Tally) → b ≡ tallyOf key (slotsTo s n k i) → to ≤ i → i ≤ to
-    → b ≡ tallyOf key (slotsTo s n k to)
-scan-end s n k key i to b h l m = let q : i ≡ to = omega arith in rw q at h
+pub scan-end : (s : List ℕ) (sh : Shape) (key i to : ℕ) (b : Tally) → b ≡ tallyOf key (slotsTo s sh i) → to ≤ i → i ≤ to
+    → b ≡ tallyOf key (slotsTo s sh to)
+scan-end s sh key i to b h l m = let q : i ≡ to = omega arith in rw q at h
 
-pub tally-none : (s : List ℕ) (n k key : ℕ) → record { sum = pos 0; count = 0 } ≡ tallyOf key (slotsTo s n k 0)
+pub tally-none : (s : List ℕ) (sh : Shape) (key : ℕ) → record { sum = pos 0; count = 0 } ≡ tallyOf key (slotsTo s sh 0)
 unfolding tallyOf
-tally-none s n k key = rw (no-slots s n k, tally-nil)
+tally-none s sh key = rw (no-slots s sh, tally-nil)
 
-module _ (s : List ℕ) (n k : ℕ) (f : CheckedProof s n k) (p : Point) (carried : Carried n (exponents p)) (key : ℕ)
+module _ (s : List ℕ) (sh : Shape) (f : ProofFacts s sh) (p : Point) (carried : Carried (sh .n) (exponents p)) (key : ℕ)
     (e : key ≡ keyOf (exponents p)) where
-  pub key-bound : key < 2 ^ 63
-  key-bound = omega (arith, e, carried-low n (exponents p) (f .few) carried)
+  abbrev α : Exponents
+  α = exponents p
 
-  pub held-is : (i : ℕ) (before all : Tally) (z : ℤ) → before ≡ tallyOf key (slotsTo s n k i)
-      → all ≡ tallyOf key (slotsTo s n k k) → i < k → z ≡ all .sum
-      → record { sum = z; count = all .count; rank = before .count }
-      ≡ holdingOf (exponents p) (slotsTo s n k k) (slotsTo s n k i)
-  unfolding holdingOf
-  held-is i before all z eb ea l ez =
-      let every = slots-are s n k f k (omega arith) .each in
-      let first = slots-are s n k f i (omega arith) .each in
-      let sum = tally-sum n (exponents p) carried (slotsTo s n k k) every in
-      let number = tally-count n (exponents p) carried (slotsTo s n k k) every in
-      let rank = tally-count n (exponents p) carried (slotsTo s n k i) first in
-      rw (ez, eb, ea, e, sum, number, rank)
+  pub key-bound : key < 2 ^ 63
+  key-bound = omega (arith, e, carried-low (sh .n) α (f .few) carried)
+
+  tallied : (i : ℕ) → i ≤ sh .k → tallyOf key (slotsTo s sh i) .count ≡ count α (slotsTo s sh i)
+  tallied i l = rw e (tally-count (sh .n) α carried (slotsTo s sh i) (slots-are s sh f i l .each))
+
+  module _ (i own : ℕ) (before all : Tally) (eb : before ≡ tallyOf key (slotsTo s sh i)) (l : i < sh .k) where
+    pub rank-fits : count α (slotsTo s sh i) + own < count α (slotsTo s sh (sh .k)) → Fits w32 (before .count + own)
+    rank-fits h =
+        let g = tally-bound (sh .n) (sh .k * 3) key (slotsTo s sh (sh .k)) (slots-are s sh f (sh .k) (omega arith)) .1 in
+        let rows = f .rows in
+        rw eb (omega (arith, h, g, tallied i (omega arith), tallied (sh .k) (omega arith)))
+
+    pub held-is : (z : ℤ) → all ≡ tallyOf key (slotsTo s sh (sh .k)) → z ≡ all .sum
+        → record { sum = z; count = all .count; rank = before .count + own }
+        ≡ holdingOf α (slotsTo s sh (sh .k)) (slotsTo s sh i) own
+    unfolding holdingOf
+    held-is z ea ez =
+        let every = slots-are s sh f (sh .k) (omega arith) .each in
+        let sum = tally-sum (sh .n) α carried (slotsTo s sh (sh .k)) every in
+        rw (ez, eb, ea, tallied i (omega arith), tallied (sh .k) (omega arith), e, sum)

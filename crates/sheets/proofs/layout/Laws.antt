@@ -2,10 +2,11 @@
 use mathlib.Core.Path.{_≡_, _∙_}
 use mathlib.Core.Bool.{true, false, not}
 use mathlib.Core.List.{List}
-use Prim.Native.Nat.{ℕ, _+_, _*_}
+use Prim.Native.Nat.{ℕ, _+_}
 use lib.Dec.{eqb}
 use borrow.Author.Tests.{eq-eqb, ne-eqb}
-use Rattle.sheets.specs.Layout.{variables, termCount, rowCount, place, claimLength, proofLength}
+use Rattle.sheets.specs.Layout.{variables, termCount, place, claimLength, shapeOf, proofLength}
+use Rattle.sheets.specs.declared.layout.Shape.{Shape}
 
 module _ (len l asked : ℕ) where
   pub length-other : (len ≡ l → ⊥) → l ≡ asked → not (eqb len asked) ≡ true
@@ -19,6 +20,5 @@ pub claim-asked : (c : List ℕ) (n t l : ℕ) → l ≡ place 8 t (n + 4) → n
     → l ≡ claimLength (variables c) (termCount c)
 claim-asked c n t l e en et = e ∙ rw (en, et)
 
-pub proof-asked : (s : List ℕ) (m k l : ℕ) → l ≡ place 8 k (2 * m + 12) → m ≡ variables s → k ≡ rowCount s
-    → l ≡ proofLength (variables s) (rowCount s)
-proof-asked s m k l e em ek = e ∙ rw (em, ek)
+pub proof-asked : (s : List ℕ) (sh : Shape) (l : ℕ) → l ≡ proofLength sh → sh ≡ shapeOf s → l ≡ proofLength (shapeOf s)
+proof-asked s sh l e h = e ∙ rw h

@@ -1,15 +1,15 @@
--- Laws of the proof sheet: the ways through the code that reads and writes its fields, and its rows by their index.
-use mathlib.Core.Path.{_≡_, refl, _∙_}
+-- Laws of the proof sheet: the ways through the code that reads its fields, and its rows by their index.
+use mathlib.Core.Path.{_≡_, refl, sym, ap₂}
 use mathlib.Core.Bool.{Bool, true, false}
 use mathlib.Core.List.{List}
 use Prim.Native.Nat.{ℕ, _+_, _*_, _<_, _≤_}
 use native.Mathlib.Nat.{mul-le-mul, mul-le-mul-right}
 use native.Mathlib.Omega.{arith}
 use lib.IntN.{ℤ, pos}
-use lib.ListN.{length}
-use Rattle.integers.specs.Words.{i32At, withI32}
-use Rattle.integers.proofs.words.Laws.{Bytes, u32-bound, i32-fits}
-use Rattle.points.proofs.points.Laws.{bytes-length, exponents-of}
+use lib.ListN.{length, getD}
+use Rattle.integers.specs.Words.{i32At}
+use Rattle.integers.proofs.words.Laws.{Bytes, same-bits, u32-bound, i32-fits}
+use Rattle.points.proofs.points.Laws.{bytes-length, bytes-same, exponents-of}
 use Rattle.points.specs.Lists.{table}
 use Rattle.squares.specs.Rows as Formal
 use Rattle.points.specs.Points.{exponents, pointOf, samePoint, hasMidpoint}
@@ -17,48 +17,52 @@ use Rattle.squares.specs.Decomposition.{Placed, Whole}
 use Rattle.points.specs.declared.points.Point.{Point}
 use Rattle.squares.specs.declared.rows.Weights.{Weights}
 use Rattle.squares.specs.declared.rows.Weights.the-variants.{Pair, Lone}
-use Rattle.sheets.specs.Layout.{variables, rowCount, place, vAt, tripleAt, ProofRoom}
-use Rattle.sheets.specs.ProofSheet.{scaleOf, vOf, wOf, wordsAt, tripleOf, weightsOf, rowOf, rowsOf, byValue, tripleFor, Narrow, withTriple}
+use Rattle.sheets.specs.Layout.{variables, rowCount, shapeOf, place, vAt, wAt, tripleAt, ProofRoom}
+use Rattle.sheets.specs.declared.layout.Shape.{Shape}
+use Rattle.sheets.specs.ProofSheet.{scaleOf, vOf, wOf, wordsAt, tripleOf, weightsOf, rowOf, rowsOf, byValue, tripleFor, Suits, Narrow}
 use Rattle.sheets.specs.declared.proof_sheet.Row.{Row}
 use Rattle.sheets.specs.declared.proof_sheet.Triple.{Triple}
 
 -- ---- fields read
 
-pub row-low : (n k i from : ℕ) → n ≤ 8 → k ≤ 256 → i < k → from ≡ vAt n i → from ≤ 4088
-row-low n k i from few rows l e = let h : i ≤ 255 = omega arith in omega (arith, mul-le-mul h few)
+pub shape-read : (s : List ℕ) (n k : ℕ) → n ≡ variables s → k ≡ rowCount s → record { n = n; k = k } ≡ shapeOf s
+shape-read s n k en ek = rw (en, ek)
 
-module _ (s : List ℕ) (n k i from : ℕ) (room : ProofRoom s n k) (l : i < k) (e : from ≡ vAt n i) where
-  pub v-inside : from + n ≤ length s
-  v-inside = omega (arith, mul-le-mul-right (2 * n) l)
+pub row-low : (sh : Shape) (i from : ℕ) → sh .n ≤ 8 → sh .k ≤ 256 → i < sh .k → from ≡ vAt sh i → from ≤ 4088
+row-low sh i from few rows l e = let h : i ≤ 255 = omega arith in omega (arith, mul-le-mul h few)
 
-  pub v-late : 8 ≤ from + n
+module _ (s : List ℕ) (sh : Shape) (i from : ℕ) (room : ProofRoom s sh) (l : i < sh .k) (e : from ≡ vAt sh i) where
+  pub v-inside : from + sh .n ≤ length s
+  v-inside = omega (arith, mul-le-mul-right (2 * sh .n) l)
+
+  pub v-late : 8 ≤ from + sh .n
   v-late = omega arith
 
-  pub w-late : 8 ≤ from + n + n
+  pub w-late : 8 ≤ from + sh .n + sh .n
   w-late = omega arith
 
-  pub w-inside : from + n + n ≤ length s
-  w-inside = omega (arith, mul-le-mul-right (2 * n) l)
+  pub w-inside : from + sh .n + sh .n ≤ length s
+  w-inside = omega (arith, mul-le-mul-right (2 * sh .n) l)
 
-module _ (n k i : ℕ) (few : n ≤ 8) (rows : k ≤ 256) (from : ℕ) (e : from ≡ place 8 k (2 * n)) where
+module _ (sh : Shape) (i : ℕ) (few : sh .n ≤ 8) (rows : sh .k ≤ 256) (from : ℕ) (e : from ≡ place 8 (sh .k) (2 * sh .n)) where
   pub rows-low : from ≤ 16777216
   rows-low = omega (arith, mul-le-mul rows few)
 
-  pub triple-low : (at : ℕ) → i < k → at ≡ place from i 12 → at ≤ 7164
+  pub triple-low : (at : ℕ) → i < sh .k → at ≡ place from i 12 → at ≤ 7164
   triple-low at l f = omega (arith, mul-le-mul rows few)
 
-  pub triple-here : (at : ℕ) → at ≡ place from i 12 → at ≡ tripleAt n k i
+  pub triple-here : (at : ℕ) → at ≡ place from i 12 → at ≡ tripleAt sh i
   triple-here at f = rw (f, e)
 
-pub triple-inside : (s : List ℕ) (n k i at : ℕ) → ProofRoom s n k → i < k → at ≡ tripleAt n k i → at + 12 ≤ length s
-triple-inside s n k i at room l e = omega (arith, mul-le-mul-right 12 l)
+pub triple-inside : (s : List ℕ) (sh : Shape) (i at : ℕ) → ProofRoom s sh → i < sh .k → at ≡ tripleAt sh i → at + 12 ≤ length s
+triple-inside s sh i at room l e = omega (arith, mul-le-mul-right 12 l)
 
 -- a prime marks a number as the machine reads it back
-pub triple-read : (s : List ℕ) (n k i at : ℕ) (p p′ q q′ r r′ : ℤ) → at ≡ tripleAt n k i → p ≡ i32At s at
+pub triple-read : (s : List ℕ) (sh : Shape) (i at : ℕ) (p p′ q q′ r r′ : ℤ) → at ≡ tripleAt sh i → p ≡ i32At s at
     → q ≡ i32At s (at + 4) → r ≡ i32At s (at + 8) → p′ ≡ p → q′ ≡ q → r′ ≡ r
-    → record { p = p′; q = q′; r = r′ } ≡ tripleOf s n k i
+    → record { p = p′; q = q′; r = r′ } ≡ tripleOf s sh i
 unfolding tripleOf wordsAt
-triple-read s n k i at p p′ q q′ r r′ e ep eq er bp bq br = rw (bp, bq, br, ep, eq, er, e)
+triple-read s sh i at p p′ q q′ r r′ e ep eq er bp bq br = rw (bp, bq, br, ep, eq, er, e)
 
 pub weights-lone : (lone : Bool) (x : Triple) (p : ℤ) → lone ≡ true → p ≡ x .p → Lone p ≡ weightsOf lone x
 unfolding weightsOf
@@ -69,14 +73,14 @@ pub weights-pair : (lone : Bool) (x : Triple) (p q r : ℤ) → lone ≡ false �
 unfolding weightsOf
 weights-pair lone x p q r h ep eq er = rw (h, ep, eq, er)
 
-pub row-read : (s : List ℕ) (n k i : ℕ) (v w : Point) (lone : Bool) (x : Triple) (a : Weights) → v ≡ pointOf (vOf s n i)
-    → w ≡ pointOf (wOf s n i) → lone ≡ samePoint (exponents v) (exponents w) → x ≡ tripleOf s n k i
-    → a ≡ weightsOf lone x → record { v = v; w = w; weights = a } ≡ byValue (rowOf s n k i)
+pub row-read : (s : List ℕ) (sh : Shape) (i : ℕ) (v w : Point) (lone : Bool) (x : Triple) (a : Weights) → v ≡ pointOf (vOf s sh i)
+    → w ≡ pointOf (wOf s sh i) → lone ≡ samePoint (exponents v) (exponents w) → x ≡ tripleOf s sh i
+    → a ≡ weightsOf lone x → record { v = v; w = w; weights = a } ≡ byValue (rowOf s sh i)
 unfolding byValue rowOf
-row-read s n k i v w lone x a ev ew el ex ea =
-    rw (ea, ex, el, ev, ew, exponents-of (vOf s n i), exponents-of (wOf s n i))
+row-read s sh i v w lone x a ev ew el ex ea =
+    rw (ea, ex, el, ev, ew, exponents-of (vOf s sh i), exponents-of (wOf s sh i))
 
--- ---- fields written
+-- ---- the triple of weights
 
 pub for-pair : (a : Weights) (p p′ q q′ r r′ : ℤ) → a ≡ Pair p q r → p′ ≡ p → q′ ≡ q → r′ ≡ r
     → record { p = p′; q = q′; r = r′ } ≡ tripleFor a
@@ -87,97 +91,147 @@ pub for-lone : (a : Weights) (p p′ : ℤ) → a ≡ Lone p → p′ ≡ p → 
 unfolding tripleFor
 for-lone a p p′ e ep = rw (e, ep)
 
-pub triple-written : (out o₁ o₂ o₃ : List ℕ) (at : ℕ) (x : Triple) (p q r : ℤ) → o₁ ≡ withI32 out at p
-    → o₂ ≡ withI32 o₁ (at + 4) q → o₃ ≡ withI32 o₂ (at + 8) r → p ≡ x .p → q ≡ x .q → r ≡ x .r
-    → o₃ ≡ withTriple out at x
-unfolding withTriple
-triple-written out o₁ o₂ o₃ at x p q r e₁ e₂ e₃ ep eq er = e₃ ∙ rw (e₂, e₁, ep, eq, er)
+-- weights that suit a row are read back as they are
+pub suits-read : (lone : Bool) (a : Weights) → Suits lone a → weightsOf lone (tripleFor a) ≡ a
+unfolding weightsOf tripleFor
+suits-read true (Lone p) h = refl
+suits-read false (Pair p q r) h = refl
+suits-read true (Pair p q r) h = absurd h
+suits-read false (Lone p) h = absurd h
 
-pub narrow-here : (a : Weights) (x : Triple) → x ≡ tripleFor a → Narrow (tripleFor a) → Narrow x
-narrow-here a x e h = rw e h
+-- and a lone row's triple is written as it was, where q and r are zero
+pub lone-again : (lone : Bool) (x : Triple) → (lone ≡ true → (x .q ≡ pos 0) × (x .r ≡ pos 0))
+    → tripleFor (weightsOf lone x) ≡ x
+unfolding weightsOf tripleFor
+lone-again true x h = let z = h refl in sym (ap₂ (λ (q r : ℤ). record { p = x .p; q = q; r = r }) (z .0) (z .1))
+lone-again false x h = refl
 
 -- a scale and a row's numbers have 32 bits
 pub scale-bound : (s : List ℕ) → Bytes s → scaleOf s < 4294967296
 unfolding scaleOf
 scale-bound s b = u32-bound s 4 b
 
-pub triple-narrow : (s : List ℕ) (n k i : ℕ) → Bytes s → Narrow (tripleOf s n k i)
+pub triple-narrow : (s : List ℕ) (sh : Shape) (i : ℕ) → Bytes s → Narrow (tripleOf s sh i)
 unfolding tripleOf wordsAt
-triple-narrow s n k i b =
-    let at = tripleAt n k i in
+triple-narrow s sh i b =
+    let at = tripleAt sh i in
     record { p-fits = i32-fits s at b; q-fits = i32-fits s (at + 4) b; r-fits = i32-fits s (at + 8) b }
 
 -- the three numbers of a row, where they stand
-module _ (s : List ℕ) (n k i at : ℕ) (e : at ≡ tripleAt n k i) where
-  pub p-there : i32At s at ≡ tripleOf s n k i .p
+module _ (s : List ℕ) (sh : Shape) (i at : ℕ) (e : at ≡ tripleAt sh i) where
+  pub p-there : i32At s at ≡ tripleOf s sh i .p
   unfolding tripleOf wordsAt
   p-there = rw e
 
-  pub q-there : i32At s (at + 4) ≡ tripleOf s n k i .q
+  pub q-there : i32At s (at + 4) ≡ tripleOf s sh i .q
   unfolding tripleOf wordsAt
   q-there = rw e
 
-  pub r-there : i32At s (at + 8) ≡ tripleOf s n k i .r
+  pub r-there : i32At s (at + 8) ≡ tripleOf s sh i .r
   unfolding tripleOf wordsAt
   r-there = rw e
 
+-- ---- three numbers, and what is read from the same bytes
+
+module _ (s : List ℕ) (at : ℕ) where
+  pub words-p : wordsAt s at .p ≡ i32At s at
+  unfolding wordsAt
+  words-p = refl
+
+  pub words-q : wordsAt s at .q ≡ i32At s (at + 4)
+  unfolding wordsAt
+  words-q = refl
+
+  pub words-r : wordsAt s at .r ≡ i32At s (at + 8)
+  unfolding wordsAt
+  words-r = refl
+
+  pub words-are : (p q r : ℤ) → i32At s at ≡ p → i32At s (at + 4) ≡ q → i32At s (at + 8) ≡ r
+      → wordsAt s at ≡ record { p = p; q = q; r = r }
+  unfolding wordsAt
+  words-are p q r ep eq er = rw (ep, eq, er)
+
+pub triple-at : (s : List ℕ) (sh : Shape) (i : ℕ) → tripleOf s sh i ≡ wordsAt s (tripleAt sh i)
+unfolding tripleOf
+triple-at s sh i = refl
+
+-- s and z have the same header and points
+module _ (s z : List ℕ) (sh : Shape) (same : (j : ℕ) → j < place 8 (sh .k) (2 * sh .n) → getD s j 0 ≡ getD z j 0) where
+  pub scale-same : scaleOf s ≡ scaleOf z
+  unfolding scaleOf
+  scale-same = same-bits s z 4 (λ j l. same (4 + j) (omega arith))
+
+  module _ (i : ℕ) (l : i < sh .k) where
+    pub v-same : vOf s sh i ≡ vOf z sh i
+    unfolding vOf
+    v-same = bytes-same s z (vAt sh i) (sh .n) (λ j m. same (vAt sh i + j) (omega (arith, mul-le-mul-right (2 * sh .n) l)))
+
+    pub w-same : wOf s sh i ≡ wOf z sh i
+    unfolding wOf
+    w-same = bytes-same s z (wAt sh i) (sh .n) (λ j m. same (wAt sh i + j) (omega (arith, mul-le-mul-right (2 * sh .n) l)))
+
 -- ---- rows by their index
 
--- a lone row has one weight, a pair three
-module _ (s : List ℕ) (n k i : ℕ) where
-  pub row-lone : samePoint (vOf s n i) (wOf s n i) ≡ true → rowOf s n k i .weights ≡ Lone (tripleOf s n k i .p)
+module _ (s : List ℕ) (sh : Shape) (i : ℕ) where
+  pub row-is : rowOf s sh i
+      ≡ record { v = vOf s sh i; w = wOf s sh i; weights = weightsOf (samePoint (vOf s sh i) (wOf s sh i)) (tripleOf s sh i) }
+  unfolding rowOf
+  row-is = refl
+
+  -- a lone row has one weight, a pair three
+  pub row-lone : samePoint (vOf s sh i) (wOf s sh i) ≡ true → rowOf s sh i .weights ≡ Lone (tripleOf s sh i .p)
   unfolding rowOf weightsOf
   row-lone h = rw h
 
-  pub row-pair : samePoint (vOf s n i) (wOf s n i) ≡ false
-      → rowOf s n k i .weights ≡ Pair (tripleOf s n k i .p) (tripleOf s n k i .q) (tripleOf s n k i .r)
+  pub row-pair : samePoint (vOf s sh i) (wOf s sh i) ≡ false
+      → rowOf s sh i .weights ≡ Pair (tripleOf s sh i .p) (tripleOf s sh i .q) (tripleOf s sh i .r)
   unfolding rowOf weightsOf
   row-pair h = rw h
 
   -- and the other way round
-  pub lone-of : (p : ℤ) → rowOf s n k i .weights ≡ Lone p
-      → (samePoint (vOf s n i) (wOf s n i) ≡ true) × (tripleOf s n k i .p ≡ p)
-  lone-of p h = go (samePoint (vOf s n i) (wOf s n i)) refl
+  pub lone-of : (p : ℤ) → rowOf s sh i .weights ≡ Lone p
+      → (samePoint (vOf s sh i) (wOf s sh i) ≡ true) × (tripleOf s sh i .p ≡ p)
+  lone-of p h = go (samePoint (vOf s sh i) (wOf s sh i)) refl
     where
-      go : (b : Bool) → samePoint (vOf s n i) (wOf s n i) ≡ b → (b ≡ true) × (tripleOf s n k i .p ≡ p)
+      go : (b : Bool) → samePoint (vOf s sh i) (wOf s sh i) ≡ b → (b ≡ true) × (tripleOf s sh i .p ≡ p)
       go true e = let g = row-lone e in (refl, cc)
       go false e = let g = row-pair e in let z : _≡_ {A = ℕ} 0 1 = cc in absurd (omega arith)
 
-  pub pair-of : (p q r : ℤ) → rowOf s n k i .weights ≡ Pair p q r
-      → (samePoint (vOf s n i) (wOf s n i) ≡ false) × (tripleOf s n k i .p ≡ p) × (tripleOf s n k i .q ≡ q) × (tripleOf s n k i .r ≡ r)
-  pair-of p q r h = go (samePoint (vOf s n i) (wOf s n i)) refl
+  pub pair-of : (p q r : ℤ) → rowOf s sh i .weights ≡ Pair p q r
+      → (samePoint (vOf s sh i) (wOf s sh i) ≡ false) × (tripleOf s sh i .p ≡ p) × (tripleOf s sh i .q ≡ q) × (tripleOf s sh i .r ≡ r)
+  pair-of p q r h = go (samePoint (vOf s sh i) (wOf s sh i)) refl
     where
-      go : (b : Bool) → samePoint (vOf s n i) (wOf s n i) ≡ b
-          → (b ≡ false) × (tripleOf s n k i .p ≡ p) × (tripleOf s n k i .q ≡ q) × (tripleOf s n k i .r ≡ r)
+      go : (b : Bool) → samePoint (vOf s sh i) (wOf s sh i) ≡ b
+          → (b ≡ false) × (tripleOf s sh i .p ≡ p) × (tripleOf s sh i .q ≡ q) × (tripleOf s sh i .r ≡ r)
       go true e = let g = row-lone e in let z : _≡_ {A = ℕ} 0 1 = cc in absurd (omega arith)
       go false e = let g = row-pair e in (refl, cc, cc, cc)
 
-  pub row-v : rowOf s n k i .v ≡ vOf s n i
+  pub row-v : rowOf s sh i .v ≡ vOf s sh i
   unfolding rowOf
   row-v = refl
 
-  pub row-w : rowOf s n k i .w ≡ wOf s n i
+  pub row-w : rowOf s sh i .w ≡ wOf s sh i
   unfolding rowOf
   row-w = refl
 
-  pub v-length : length (vOf s n i) ≡ n
+  pub v-length : length (vOf s sh i) ≡ sh .n
   unfolding vOf
-  v-length = bytes-length s (vAt n i) n
+  v-length = bytes-length s (vAt sh i) (sh .n)
 
-  pub w-length : length (wOf s n i) ≡ n
+  pub w-length : length (wOf s sh i) ≡ sh .n
   unfolding wOf
-  w-length = bytes-length s (vAt n i + n) n
+  w-length = bytes-length s (wAt sh i) (sh .n)
 
 -- a row has its two points, a pair with a whole midpoint
-pub row-placed : (s : List ℕ) (n k i : ℕ) → hasMidpoint (vOf s n i) (wOf s n i) ≡ true → Placed n (rowOf s n k i)
+pub row-placed : (s : List ℕ) (sh : Shape) (i : ℕ) → hasMidpoint (vOf s sh i) (wOf s sh i) ≡ true → Placed (sh .n) (rowOf s sh i)
 unfolding rowOf weightsOf
-row-placed s n k i h = record {
-  v-length = v-length s n k i;
-  w-length = w-length s n k i;
-  whole = go (samePoint (vOf s n i) (wOf s n i));
+row-placed s sh i h = record {
+  v-length = v-length s sh i;
+  w-length = w-length s sh i;
+  whole = go (samePoint (vOf s sh i) (wOf s sh i));
 }
   where
-    go : (lone : Bool) → Whole (vOf s n i) (wOf s n i) (weightsOf lone (tripleOf s n k i))
+    go : (lone : Bool) → Whole (vOf s sh i) (wOf s sh i) (weightsOf lone (tripleOf s sh i))
     go true = tt
     go false = h
 
@@ -200,6 +254,6 @@ pub by-value : (a : Formal.Row) (v w : Point) (x : Weights) → v ≡ pointOf (a
 unfolding byValue
 by-value a v w x ev ew ex = rw (ev, ew, ex)
 
-pub rows-table : (s : List ℕ) (n k : ℕ) → n ≡ variables s → k ≡ rowCount s → table (rowOf s n k) k ≡ rowsOf s
+pub rows-table : (s : List ℕ) (sh : Shape) → sh ≡ shapeOf s → table (rowOf s sh) (sh .k) ≡ rowsOf s
 unfolding rowsOf
-rows-table s n k en ek = rw (en, ek)
+rows-table s sh e = rw e

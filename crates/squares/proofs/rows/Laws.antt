@@ -1,21 +1,21 @@
 -- Laws of rows: where a midpoint's worth is the mean of its ends', a row that holds is worth at least 0 at absolute values.
 use mathlib.Core.Path.{_≡_, refl, sym, _∙_, ap}
-use mathlib.Core.List.{List, [], _∷_, _++_, append-nil, append-assoc}
+use mathlib.Core.List.{List, [], _∷_}
 use Prim.Native.Nat.{ℕ, suc, _+_, _*_, _≤_}
 use native.Mathlib.Decide.{decLe}
 use native.Mathlib.Nat.{mul-le-mul, mul-le-mul-right}
 use native.Mathlib.Omega.{arith}
 use lib.IntN.{ℤ, pos, negsuc, natAbs, _+ℤ_, _-ℤ_, _*ℤ_, +ℤ-idr}
-use lib.Signed.{_≤ℤ_, ≤ℤ-refl}
-use Rattle.integers.proofs.Integers.{ring, ints, by-le, read-le, abs-mul, +ℤ-mono, *ℤ-nonneg, pos-nonneg, square-nonneg}
+use lib.Signed.{_≤ℤ_}
+use Rattle.integers.proofs.Integers.{ring, ints, by-le, read-le, abs-mul, *ℤ-nonneg, pos-nonneg, square-nonneg}
 use Rattle.points.specs.Points.{Exponents, midpointOf}
+use Rattle.points.specs.Lists.{All}
+use Rattle.points.proofs.Lists.{all-both}
 use Rattle.squares.specs.Sums.{value}
-use Rattle.squares.specs.Rows.{Row, slotsAt, slots, Holds}
-use Rattle.points.specs.Lists.{table, All}
+use Rattle.squares.specs.Rows.{Row, slotsAt, slotsOf, slots, Holds}
 use Rattle.squares.specs.declared.rows.Weights.{Weights}
 use Rattle.squares.specs.declared.rows.Weights.the-variants.{Pair, Lone}
-use Rattle.points.proofs.Lists.{table-none, table-more}
-use Rattle.squares.proofs.Sums.{value-append}
+use Rattle.squares.proofs.Gathered.{gathered-nonneg}
 
 -- ---- slots
 
@@ -26,24 +26,6 @@ slots-pair v w p q r = refl
 pub slots-lone : (v w : Exponents) (p : ℤ) → slotsAt v w (Lone p) ≡ (v, p) ∷ []
 unfolding slotsAt
 slots-lone v w p = refl
-
-slots-append : (rows more : List Row) → slots (rows ++ more) ≡ slots rows ++ slots more
-unfolding slots
-slots-append [] more = refl
-slots-append (a ∷ rows) more =
-    rw (slots-append rows more) (sym (append-assoc (slotsAt (a .v) (a .w) (a .weights)) (slots rows) (slots more)))
-
--- of the first rows, and of one row more
-module _ (row : ℕ → Row) where
-  pub slots-none : slots (table row 0) ≡ []
-  unfolding slots
-  slots-none = rw (table-none row)
-
-  pub slots-more : (i : ℕ) → slots (table row (suc i)) ≡ slots (table row i) ++ slotsAt (row i .v) (row i .w) (row i .weights)
-  unfolding slots
-  slots-more i =
-      ap slots (table-more row i) ∙ slots-append (table row i) (row i ∷ [])
-      ∙ ap (_++_ (slots (table row i))) (append-nil (slotsAt (row i .v) (row i .w) (row i .weights)))
 
 -- ---- naturals
 
@@ -98,7 +80,6 @@ row-nonneg φ v w (Lone p) e h = lone-nonneg p (natAbs (φ v)) h
 
 pub rows-nonneg : (φ : Exponents → ℤ) (rows : List Row) → All (λ a. Mean φ (a .v) (a .w) (a .weights)) rows
     → All (λ a. Holds (a .weights)) rows → pos 0 ≤ℤ value (absolute φ) (slots rows)
-unfolding slots value
-rows-nonneg φ [] t h = ≤ℤ-refl (pos 0)
-rows-nonneg φ (a ∷ rows) t h =
-    rw value-append (+ℤ-mono (row-nonneg φ (a .v) (a .w) (a .weights) (t .0) (h .0)) (rows-nonneg φ rows (t .1) (h .1)))
+rows-nonneg φ rows t h =
+    gathered-nonneg slotsOf (absolute φ) rows
+    (all-both _ _ _ rows (λ a m k. row-nonneg φ (a .v) (a .w) (a .weights) m k) t h)

@@ -10,6 +10,7 @@ use lib.IntN.{ℤ, pos, natAbs}
 use lib.ListN.{length, replicate, length-replicate}
 use borrow.Author.Tests.{eq-eqb, ne-eqb, lt-ltb, le-ltb, ltb-true, eqb-true}
 use Rattle.integers.proofs.Integers.{abs-zero}
+use Rattle.integers.proofs.words.Laws.{Bytes}
 use Rattle.points.specs.Lists.{All}
 use Rattle.points.specs.Points.{Exponents, exponents, pointOf, samePoint}
 use Rattle.points.specs.Keys.{keyOf}
@@ -20,27 +21,30 @@ use Rattle.points.proofs.points.Laws.{same-eq, exponents-of, zeros-point}
 use Rattle.points.proofs.Lists.{all-table}
 use Rattle.squares.proofs.Sums.{coefficient-none}
 use Rattle.squares.proofs.Targets.{target-zero, lowered-other}
-use Rattle.sheets.specs.Layout.{variables, termCount, rowCount}
+use Rattle.sheets.specs.Layout.{variables, termCount, shapeOf}
+use Rattle.sheets.specs.declared.layout.Shape.{Shape}
 use Rattle.sheets.specs.ClaimSheet.{termPoint, termOf, termsOf}
 use Rattle.sheets.proofs.claim_sheet.Laws.{terms-table, term-point, point-length}
 use Rattle.sheets.specs.ProofSheet.{rowsOf}
-use Rattle.answers.specs.Answers.{Passes}
+use Rattle.answers.specs.Answers.{Passes, Short}
 use Rattle.answers.specs.Searches.{first}
-use Rattle.checks.specs.WellFormed.{ClaimFacts}
+use Rattle.claims.specs.ClaimChecks.{ClaimFacts}
+use Rattle.checks.specs.ProofChecks.{ProofFacts}
 use Rattle.answers.specs.declared.searches.Found.the-variants.{At, Nothing}
 use Rattle.answers.specs.declared.answers.Verdict.the-variants.{Accepted}
 use Rattle.answers.proofs.answers.Laws.{passes-at, passed-at, accepted-says, passed}
+use Rattle.answers.proofs.Short.{short-accepted, short-at}
 use Rattle.answers.proofs.searches.Laws.{first-at, first-on, first-end, first-nothing, nothing-first}
-use Rattle.sharing.specs.Carried.{Carried}
+use Rattle.targets.specs.Carried.{Carried}
 use Rattle.sharing.specs.Sharing.{count}
-use Rattle.sharing.specs.Targets.{targetOf}
-use Rattle.sharing.specs.declared.targets.Aim.{Aim}
-use Rattle.sharing.specs.Slots.{CheckedProof, slotsTo, holdsKey}
+use Rattle.targets.specs.Targets.{targetOf}
+use Rattle.targets.specs.declared.targets.Aim.{Aim}
+use Rattle.sharing.specs.Slots.{slotsTo, holdsKey}
 use Rattle.sharing.specs.Shifts.{shiftedRows, CheckedSheets}
-use Rattle.sharing.proofs.Carried.{term-carried, constant-carried, carried-low}
+use Rattle.targets.proofs.Carried.{term-carried, constant-carried, carried-low}
 use Rattle.sharing.proofs.slots.Laws.{key-held, keys-unheld, all-slots}
 use Rattle.sharing.proofs.shifts.Laws.{proof-checked}
-use Rattle.sharing.proofs.targets.Laws.{target-of}
+use Rattle.targets.proofs.targets.Laws.{target-of}
 use Rattle.sharing.proofs.Rows.{held-adds, unheld-adds}
 use Rattle.weighing.specs.Unheld.{pointFor, unheldAt, unheld, unheldAnswer}
 
@@ -96,15 +100,18 @@ module _ (τ : Exponents → ℤ) (s : List ℕ) (α : Exponents) where
   unfolding unheldAt
   unmet h k = rw (h, eq-eqb _ 0 k)
 
--- ---- first_unheld: n, t and k are what the sheets say
+-- ---- first_unheld: n, t and the shape are what the sheets say
 
-module _ (c s : List ℕ) (a : Aim) (given : CheckedSheets c s a) (n t k : ℕ) (en : n ≡ variables c)
-    (et : t ≡ termCount c) (ek : k ≡ rowCount s) where
+module _ (c s : List ℕ) (a : Aim) (given : CheckedSheets c s a) (n t : ℕ) (sh : Shape) (en : n ≡ variables c)
+    (et : t ≡ termCount c) (es : sh ≡ shapeOf s) where
   pub claim-here : ClaimFacts c n t
   claim-here = rw (en, et) (given .claim)
 
-  pub proof-here : CheckedProof s n k
-  proof-here = proof-checked c s a given n k (en ∙ sym (given .same)) ek
+  pub proof-here : ProofFacts s sh
+  proof-here = proof-checked c s a given sh es
+
+  same-here : n ≡ sh .n
+  same-here = en ∙ rw (es, given .same)
 
   -- point i of those that are looked at
   module _ (i : ℕ) where
@@ -114,8 +121,11 @@ module _ (c s : List ℕ) (a : Aim) (given : CheckedSheets c s a) (n t k : ℕ) 
     carried : Carried n α
     carried = point-carried c n t i claim-here
 
-    slots-here : slotsTo s n k k ≡ slots (rowsOf s)
-    slots-here = all-slots s n k (en ∙ sym (given .same)) ek
+    carried-too : Carried (sh .n) α
+    carried-too = record { sized = carried .sized ∙ same-here; within = carried .within }
+
+    slots-here : slotsTo s sh (sh .k) ≡ slots (rowsOf s)
+    slots-here = all-slots s sh es
 
     module _ (p : Point) (ep : p ≡ pointOf α) where
       point-is : exponents p ≡ α
@@ -150,18 +160,18 @@ module _ (c s : List ℕ) (a : Aim) (given : CheckedSheets c s a) (n t k : ℕ) 
       pub target-some : r ≡ false → eqb (natAbs (targetOf c a α)) 0 ≡ false
       target-some h = target-tested ∙ h
 
-    pub row-found : (j key : ℕ) (r : Bool) → key ≡ keyOf α → r ≡ holdsKey s n key j → r ≡ true → j < k
+    pub row-found : (j key : ℕ) (r : Bool) → key ≡ keyOf α → r ≡ holdsKey s sh key j → r ≡ true → j < sh .k
         → first wrong i ≡ Nothing → first wrong (i + 1) ≡ Nothing
     row-found j key r e er h l =
-        let held = key-held s n k j proof-here l α carried (rw e at (sym er ∙ h)) in
+        let held = key-held s sh j proof-here l α carried-too (rw e at (sym er ∙ h)) in
         met (held-met (targetOf c a) s α (rw slots-here at held))
 
-    pub none-found : (j key i′ : ℕ) → key ≡ keyOf α → i ≤ t → k ≤ j → j ≤ k
-        → eqb (natAbs (targetOf c a α)) 0 ≡ false → first (holdsKey s n key) j ≡ Nothing → first wrong i ≡ Nothing
+    pub none-found : (j key i′ : ℕ) → key ≡ keyOf α → i ≤ t → sh .k ≤ j → j ≤ sh .k
+        → eqb (natAbs (targetOf c a α)) 0 ≡ false → first (holdsKey s sh key) j ≡ Nothing → first wrong i ≡ Nothing
         → i′ ≡ i → At i′ ≡ first wrong (suc (termCount c))
     none-found j key i′ e l m o h rows before ei =
-        let q : j ≡ k = omega arith in
-        let none : count α (slotsTo s n k k) ≡ 0 = keys-unheld s n k α proof-here carried (rw (q, e) at rows) in
+        let q : j ≡ sh .k = omega arith in
+        let none : count α (slotsTo s sh (sh .k)) ≡ 0 = keys-unheld s sh α proof-here carried-too (rw (q, e) at rows) in
         let unheld-here = here ∙ unmet (targetOf c a) s α h (rw slots-here at none) in
         let inside : i < suc (termCount c) = omega (arith, et) in
         rw ei (first-at wrong (suc (termCount c)) i true inside before (sym unheld-here) refl)
@@ -234,3 +244,8 @@ module _ (τ : Exponents → ℤ) (s : List ℕ) (α : Exponents) where
       go : Dec (0 < count α (slots (rowsOf s))) → unheldAt τ s α ≡ false
       go (yes l) = held-met τ s α l
       go (no l) = met-zero τ s α (sym h ∙ unheld-adds τ s α (omega arith))
+
+pub unheld-short : (τ : Exponents → ℤ) (c s : List ℕ) → Bytes c → Short (unheldAnswer τ c s)
+unfolding unheldAnswer
+unheld-short τ c s b =
+    short-at 16 _ (omega arith) (short-accepted 0 (omega arith)) _ _ (omega (arith, b 1))

@@ -1,12 +1,16 @@
--- Laws of 16 to 19: the ways through them.
-use mathlib.Core.Path.{_≡_, refl}
+-- Laws of 16 to 19: the ways through them, and what it says of the shifted rows that they are passed.
+use mathlib.Core.Path.{_≡_, refl, _∙_}
 use mathlib.Core.List.{List}
-use Prim.Native.Nat.{ℕ, suc}
-use native.Mathlib.Omega.{arith}
+use Prim.Native.Nat.{ℕ, suc, _<_}
 use lib.IntN.{ℤ}
+use Rattle.integers.proofs.words.Laws.{Bytes}
+use Rattle.points.specs.Lists.{All}
 use Rattle.points.specs.Points.{Exponents}
-use Rattle.sheets.specs.Layout.{termCount, rowCount}
-use Rattle.answers.specs.Answers.{says}
+use Rattle.squares.specs.Rows.{slots, Holds}
+use Rattle.squares.specs.Decomposition.{AddsUp}
+use Rattle.sheets.specs.Layout.{variables, termCount, rowCount}
+use Rattle.sheets.specs.ProofSheet.{tripleFor}
+use Rattle.answers.specs.Answers.{says, accepted, Passes, Short}
 use Rattle.answers.specs.Bounds.{greatestWeight}
 use Rattle.answers.specs.Searches.{first}
 use Rattle.answers.specs.declared.answers.Sheet.the-variants.{Proof}
@@ -14,11 +18,20 @@ use Rattle.answers.specs.declared.answers.Verdict.{Verdict}
 use Rattle.answers.specs.declared.answers.Verdict.the-variants.{Accepted, Refused}
 use Rattle.answers.specs.declared.searches.Found.{Found}
 use Rattle.answers.specs.declared.searches.Found.the-variants.{At, Nothing}
-use Rattle.answers.proofs.answers.Laws.{refused-at, passed-at, accepted-says, refused-says, then-refused, then-passed}
-use Rattle.sharing.specs.Shifts.{shiftedRow}
+use Rattle.answers.proofs.answers.Laws.{refused-at, passed-at, accepted-says, refused-says, then-refused, then-passed, passes-then, then-on}
+use Rattle.answers.proofs.Short.{short-then}
+use Rattle.checks.specs.ProofChecks.{Within}
+use Rattle.checks.proofs.proof_checks.Facts.{rows-counted}
+use Rattle.targets.specs.Targets.{targetOf}
+use Rattle.targets.specs.declared.targets.Aim.{Aim}
+use Rattle.sharing.specs.Shifts.{shiftedRow, shiftedRows}
+use Rattle.sharing.proofs.Rows.{rows-all, rows-each}
+use Rattle.judgements.specs.Judgements.{firstsTo, judgedAnswer}
+use Rattle.judgements.proofs.judgements.Laws.{judged-passed, judged-accepted, judged-short}
 use Rattle.weighing.specs.Unheld.{unheld, unheldAnswer}
-use Rattle.weighing.specs.Judgements.{firstsTo, judgedAnswer}
+use Rattle.weighing.specs.Exact.{weightsFor, AllWithin}
 use Rattle.weighing.specs.Weighed.{weighedAnswer}
+use Rattle.weighing.proofs.unheld.Laws.{unheld-passes, unheld-passed, met-adds, adds-met, unheld-short}
 
 -- ---- weigh: f is what 16 found
 
@@ -33,3 +46,44 @@ module _ (τ : Exponents → ℤ) (c s : List ℕ) (f : Found) (e : f ≡ first 
       → says v ≡ weighedAnswer τ c s
   unfolding weighedAnswer unheldAnswer
   weighed-judged v h ev = then-passed (Accepted 0) _ (passed-at _ f _ 16 _ e h (accepted-says 0)) 0 refl v _ ev
+
+-- ---- 16 to 19 are passed exactly where the weights are within the limit, every row holds and they add up to the target
+
+module _ (c s : List ℕ) (a : Aim) where
+  abbrev τ : Exponents → ℤ
+  τ = targetOf c a
+
+  abbrev AllHold : Type 0
+  AllHold = All (λ r. Holds (r .weights)) (shiftedRows τ s)
+
+  abbrev Adds : Type 0
+  Adds = AddsUp (variables c) τ (slots (shiftedRows τ s))
+
+  module _ (h : Passes (weighedAnswer τ c s)) where
+    judged : (i : ℕ) → i < rowCount s
+        → Within greatestWeight (tripleFor (shiftedRow τ s i .weights)) × Holds (shiftedRow τ s i .weights)
+    unfolding weighedAnswer
+    judged = judged-passed greatestWeight (shiftedRow τ s) (rowCount s) (passes-then _ _ h .1)
+
+    pub weighed-within : AllWithin greatestWeight τ s
+    unfolding weightsFor
+    weighed-within = record { within = λ i l. judged i l .0 }
+
+    pub weighed-hold : AllHold
+    weighed-hold = rows-all τ s (λ r. Holds (r .weights)) (λ i l. judged i l .1)
+
+    pub weighed-adds : Adds
+    unfolding weighedAnswer
+    weighed-adds α l = met-adds τ s α (unheld-passed c s a (passes-then _ _ h .0) α)
+
+  pub weighed-accepted : AllWithin greatestWeight τ s → AllHold → Adds → weighedAnswer τ c s ≡ accepted (rowCount s)
+  unfolding weighedAnswer weightsFor
+  weighed-accepted w h d =
+      then-on _ _ (unheld-passes c s a (λ α l. adds-met τ s α (d α l)))
+      ∙ judged-accepted greatestWeight (shiftedRow τ s) (rowCount s)
+      (λ i l. (w .within i l, rows-each τ s (λ r. Holds (r .weights)) h i l))
+
+  pub weighed-short : Bytes c → Bytes s → Short (weighedAnswer τ c s)
+  unfolding weighedAnswer
+  weighed-short bc bs =
+      short-then _ _ (unheld-short τ c s bc) (judged-short greatestWeight (shiftedRow τ s) (rowCount s) (rows-counted s bs))

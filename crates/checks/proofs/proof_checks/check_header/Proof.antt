@@ -19,20 +19,11 @@ returns-2 c =
     passed-if _ _ 8 _ (search le-ltb)
     (refused-if _ _ 9 _ (search tested) (search refused-says))
 
-row-count-requires : tie.Need-row-count-requires
-row-count-requires c κs = search needs
+shape-of-requires : tie.Need-shape-of-requires
+shape-of-requires c κs = search needs
 
-variables-requires : tie.Need-variables-requires
-variables-requires c κs = search needs
-
-mul-place-of : tie.Need-mul-place-of
-mul-place-of c = search needs
-
-add-place-of : tie.Need-add-place-of
-add-place-of c = search needs
-
-place-of-requires : tie.Need-place-of-requires
-place-of-requires c κs = search needs
+proof-length-requires : tie.Need-proof-length-requires
+proof-length-requires c κs = search needs
 
 returns-3 : tie.Need-returns-3
 unfolding headerAnswer
@@ -55,10 +46,7 @@ check-header-spec =
     returns
     header-wrong-requires
     returns-2
-    row-count-requires
-    variables-requires
-    mul-place-of
-    add-place-of
-    place-of-requires
+    shape-of-requires
+    proof-length-requires
     returns-3
     returns-4)

@@ -9,10 +9,10 @@ use Rattle.checks.proofs.proof_checks.first_row.Statement.{statement}
 use Rattle.checks.proofs.proof_checks.first_row.Tie as tie
 
 abbrev Inv-loop : tie.InvT-loop
-Inv-loop rule proof n k i₀ i = (i ≤ k) × (first (breaks rule proof n k) i ≡ Nothing)
+Inv-loop rule proof shape i₀ i = (i ≤ shape .k) × (first (breaks rule proof shape) i ≡ Nothing)
 
 abbrev μ-loop : tie.MeasureT-loop
-μ-loop rule proof n k i₀ i = k - i
+μ-loop rule proof shape i₀ i = shape .k - i
 
 loop-holds : tie.Need-loop-holds Inv-loop μ-loop
 loop-holds c = search (needs, first-none)

@@ -1,6 +1,6 @@
 use borrow.Author.Needs.{needs}
 use Rattle.report.specs.Reports.{acceptedText}
-use Rattle.report.proofs.text.Laws.{room-first}
+use Rattle.text.proofs.text.Laws.{room-first}
 use Rattle.report.proofs.reports.Laws.{claim-carried, proof-carried, room-carried, rows-after, accepted-written}
 use Rattle.report.proofs.reports.accepted_text.Statement.{statement}
 use Rattle.report.proofs.reports.accepted_text.Tie as tie

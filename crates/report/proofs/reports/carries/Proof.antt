@@ -18,14 +18,8 @@ returns-3 c = search many-variables
 returns-4 : tie.Need-returns-4
 returns-4 c = search many-rows
 
-mul-place-of : tie.Need-mul-place-of
-mul-place-of c = search needs
-
-add-place-of : tie.Need-add-place-of
-add-place-of c = search needs
-
-place-of-requires : tie.Need-place-of-requires
-place-of-requires c κs = search needs
+proof-length-requires : tie.Need-proof-length-requires
+proof-length-requires c κs = search needs
 
 returns-5 : tie.Need-returns-5
 returns-5 c = search rows-carried
@@ -39,7 +33,5 @@ carries-spec =
     variables-requires
     returns-3
     returns-4
-    mul-place-of
-    add-place-of
-    place-of-requires
+    proof-length-requires
     returns-5)

@@ -1,16 +1,16 @@
 use borrow.Author.Needs.{needs}
 use Prim.Native.Nat.{_-_, _≤_}
-use Rattle.report.specs.Text.{Written}
+use Rattle.text.specs.Text.{Written}
 use Rattle.report.specs.Reports.{rowsText}
 use Rattle.report.proofs.reports.Laws.{rows-none, next-room, rows-more, rows-all}
 use Rattle.report.proofs.reports.rows_text.Statement.{statement}
 use Rattle.report.proofs.reports.rows_text.Tie as tie
 
 abbrev Inv-loop : tie.InvT-loop
-Inv-loop proof n k out₀ at end₀ i₀ out end i = (i ≤ k) × (Written out₀ at (rowsText proof n k i) out end)
+Inv-loop proof shape out₀ at end₀ i₀ out end i = (i ≤ shape .k) × (Written out₀ at (rowsText proof shape i) out end)
 
 abbrev μ-loop : tie.MeasureT-loop
-μ-loop proof n k out₀ at end₀ i₀ out end i = k - i
+μ-loop proof shape out₀ at end₀ i₀ out end i = shape .k - i
 
 loop-holds : tie.Need-loop-holds Inv-loop μ-loop
 loop-holds c = search (needs, rows-none)

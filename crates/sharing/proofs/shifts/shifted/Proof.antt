@@ -1,18 +1,15 @@
 use mir.Facts.{toZ-ofZ}
-use Rattle.sharing.proofs.targets.Laws.{back-small}
-use Rattle.sharing.proofs.shifts.Laws.{proof-checked, carried-here, row-here, held-small, held-some, shifted-is}
+use Rattle.targets.proofs.targets.Laws.{back-small}
+use Rattle.sharing.proofs.shifts.Laws.{proof-checked, carried-here, row-here, ranked-here, held-small, held-some, shifted-is}
 use borrow.Author.Needs.{needs}
 use Rattle.sharing.proofs.shifts.shifted.Statement.{statement}
 use Rattle.sharing.proofs.shifts.shifted.Tie as tie
 
-variables-requires : tie.Need-variables-requires
-variables-requires c κs = search needs
-
-row-count-requires : tie.Need-row-count-requires
-row-count-requires c κs = search needs
+shape-of-requires : tie.Need-shape-of-requires
+shape-of-requires c κs = search needs
 
 held-requires : tie.Need-held-requires
-held-requires c κs = search (needs, proof-checked, carried-here, row-here)
+held-requires c κs = search (proof-checked, carried-here, row-here, ranked-here)
 
 target-at-requires : tie.Need-target-at-requires
 target-at-requires c κs = search needs
@@ -27,8 +24,7 @@ pub shifted-spec : {M : Type 1} → statement M
 shifted-spec =
     tie.close
     (tie.spec
-    variables-requires
-    row-count-requires
+    shape-of-requires
     held-requires
     target-at-requires
     moved-requires

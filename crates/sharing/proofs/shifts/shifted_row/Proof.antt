@@ -3,11 +3,8 @@ use borrow.Author.Needs.{needs}
 use Rattle.sharing.proofs.shifts.shifted_row.Statement.{statement}
 use Rattle.sharing.proofs.shifts.shifted_row.Tie as tie
 
-variables-requires : tie.Need-variables-requires
-variables-requires c κs = search needs
-
-row-count-requires : tie.Need-row-count-requires
-row-count-requires c κs = search needs
+shape-of-requires : tie.Need-shape-of-requires
+shape-of-requires c κs = search needs
 
 row-at-requires : tie.Need-row-at-requires
 row-at-requires c κs = search (needs, room-here, row-here)
@@ -22,8 +19,7 @@ pub shifted-row-spec : {M : Type 1} → statement M
 shifted-row-spec =
     tie.close
     (tie.spec
-    variables-requires
-    row-count-requires
+    shape-of-requires
     row-at-requires
     shifted-weights-requires
     returns)

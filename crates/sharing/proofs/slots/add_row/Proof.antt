@@ -1,4 +1,4 @@
-use Rattle.checks.proofs.WellFormed.{proof-room}
+use Rattle.checks.proofs.proof_checks.Facts.{proof-room}
 use Rattle.sharing.proofs.slots.Laws.{p-inside, q-inside, r-inside, p-within, q-within, r-within, small-first, small-second, small-third, ends-fit, lone-added, pair-added}
 use borrow.Author.Needs.{needs}
 use Rattle.sharing.proofs.slots.add_row.Statement.{statement}

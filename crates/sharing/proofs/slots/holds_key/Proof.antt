@@ -1,4 +1,4 @@
-use Rattle.checks.proofs.WellFormed.{proof-room}
+use Rattle.checks.proofs.proof_checks.Facts.{proof-room}
 use Rattle.sharing.proofs.slots.Laws.{key-first, key-second, key-middle, ends-fit}
 use borrow.Author.Needs.{needs}
 use Rattle.sharing.proofs.slots.holds_key.Statement.{statement}

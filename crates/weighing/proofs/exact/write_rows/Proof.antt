@@ -1,31 +1,28 @@
 use borrow.Author.Needs.{needs}
 use Prim.Native.Nat.{_≤_, _-_}
 use mathlib.Core.Path.{_≡_}
-use Rattle.sheets.specs.ProofSheet.{withRows}
-use Rattle.sharing.specs.Targets.{targetOf}
+use Rattle.writing.specs.Writing.{withRows}
+use Rattle.targets.specs.Targets.{targetOf}
 use Rattle.weighing.specs.Exact.{weightsFor}
-use Rattle.weighing.proofs.exact.Laws.{room-kept, length-kept, weights-narrow, row-written, rows-written, rows-none}
+use Rattle.weighing.proofs.exact.Laws.{row-inside, room-kept, length-kept, weights-narrow, row-written, rows-written, rows-none}
 use Rattle.weighing.proofs.exact.write_rows.Statement.{statement}
 use Rattle.weighing.proofs.exact.write_rows.Tie as tie
 
 abbrev Inv-loop : tie.InvT-loop
-Inv-loop claim proof aim out₀ n k i₀ out i =
-    (i ≤ k) × (out ≡ withRows (weightsFor (targetOf claim aim) proof) out₀ n k i)
+Inv-loop claim proof aim out₀ shape i₀ out i =
+    (i ≤ shape .k) × (out ≡ withRows (weightsFor (targetOf claim aim) proof) out₀ shape i)
 
 abbrev μ-loop : tie.MeasureT-loop
-μ-loop claim proof aim out₀ n k i₀ out i = k - i
+μ-loop claim proof aim out₀ shape i₀ out i = shape .k - i
 
-variables-requires : tie.Need-variables-requires Inv-loop μ-loop
-variables-requires c κs = search needs
-
-row-count-requires : tie.Need-row-count-requires Inv-loop μ-loop
-row-count-requires c κs = search needs
+shape-of-requires : tie.Need-shape-of-requires Inv-loop μ-loop
+shape-of-requires c κs = search needs
 
 loop-holds : tie.Need-loop-holds Inv-loop μ-loop
 loop-holds c = (search needs, search rows-none)
 
 shifted-row-requires : tie.Need-shifted-row-requires Inv-loop μ-loop
-shifted-row-requires c κs = search needs
+shifted-row-requires c κs = search (needs, row-inside)
 
 write-weights-requires : tie.Need-write-weights-requires Inv-loop μ-loop
 write-weights-requires c κs = (search room-kept, search needs, search weights-narrow)
@@ -51,8 +48,7 @@ write-rows-spec =
     (tie.spec
     Inv-loop
     μ-loop
-    variables-requires
-    row-count-requires
+    shape-of-requires
     loop-holds
     shifted-row-requires
     write-weights-requires

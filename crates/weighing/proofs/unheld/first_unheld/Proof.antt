@@ -10,7 +10,7 @@ use Rattle.points.specs.Keys.{keyOf}
 use Rattle.answers.specs.Searches.{first}
 use Rattle.answers.specs.declared.searches.Found.the-variants.{Nothing}
 use Rattle.answers.proofs.searches.Laws.{first-none, first-on}
-use Rattle.sharing.specs.Targets.{targetOf}
+use Rattle.targets.specs.Targets.{targetOf}
 use Rattle.sharing.specs.Slots.{holdsKey}
 use Rattle.weighing.specs.Unheld.{pointFor, unheld}
 use Rattle.weighing.proofs.unheld.Laws.{claim-here, proof-here, point-here, target-none, target-some, key-here, key-low, row-found, none-found, all-met}
@@ -18,18 +18,18 @@ use Rattle.weighing.proofs.unheld.first_unheld.Statement.{statement}
 use Rattle.weighing.proofs.unheld.first_unheld.Tie as tie
 
 abbrev Inv-loop : tie.InvT-loop
-Inv-loop claim proof aim n t k i₀ key j₀ i j =
-    (i ≡ i₀) × (i ≤ t) × (j ≤ k) × (key ≡ keyOf (pointFor claim n t i)) × (eqb (natAbs (targetOf claim aim (pointFor claim n t i))) 0 ≡ false) × (first (holdsKey proof n key) j ≡ Nothing) × (first (unheld (targetOf claim aim) claim proof) i ≡ Nothing)
+Inv-loop claim proof aim n t shape i₀ key j₀ i j =
+    (i ≡ i₀) × (i ≤ t) × (j ≤ shape .k) × (key ≡ keyOf (pointFor claim n t i)) × (eqb (natAbs (targetOf claim aim (pointFor claim n t i))) 0 ≡ false) × (first (holdsKey proof shape key) j ≡ Nothing) × (first (unheld (targetOf claim aim) claim proof) i ≡ Nothing)
 
 abbrev μ-loop : tie.MeasureT-loop
-μ-loop claim proof aim n t k i₀ key j₀ i j = k - j
+μ-loop claim proof aim n t shape i₀ key j₀ i j = shape .k - j
 
 abbrev Inv-terms : tie.InvT-terms
-Inv-terms claim proof aim n t k i₀ i =
+Inv-terms claim proof aim n t shape i₀ i =
     (i ≤ suc t) × (first (unheld (targetOf claim aim) claim proof) i ≡ Nothing)
 
 abbrev μ-terms : tie.MeasureT-terms
-μ-terms claim proof aim n t k i₀ i = suc t - i
+μ-terms claim proof aim n t shape i₀ i = suc t - i
 
 variables-requires : tie.Need-variables-requires Inv-loop μ-loop Inv-terms μ-terms
 variables-requires c κs = search needs
@@ -37,8 +37,8 @@ variables-requires c κs = search needs
 term-count-requires : tie.Need-term-count-requires Inv-loop μ-loop Inv-terms μ-terms
 term-count-requires c κs = search needs
 
-row-count-requires : tie.Need-row-count-requires Inv-loop μ-loop Inv-terms μ-terms
-row-count-requires c κs = search needs
+shape-of-requires : tie.Need-shape-of-requires Inv-loop μ-loop Inv-terms μ-terms
+shape-of-requires c κs = search needs
 
 terms-holds : tie.Need-terms-holds Inv-loop μ-loop Inv-terms μ-terms
 terms-holds c = search (needs, first-none)
@@ -102,7 +102,7 @@ first-unheld-spec =
     μ-terms
     variables-requires
     term-count-requires
-    row-count-requires
+    shape-of-requires
     terms-holds
     point-for-requires
     no-target-requires

@@ -1,5 +1,5 @@
 use Rattle.weighing.proofs.unheld.Laws.{point-term, point-constant}
-use Rattle.checks.proofs.WellFormed.{claim-room}
+use Rattle.claims.proofs.claim_checks.Facts.{claim-room}
 use borrow.Author.Needs.{needs}
 use Rattle.weighing.proofs.unheld.point_for.Statement.{statement}
 use Rattle.weighing.proofs.unheld.point_for.Tie as tie

@@ -1,0 +1,57 @@
+// The checks 1 to 15, in the order of their numbers. Up to 10 they say how long the sheets are and how many rows there are.
+use crate::proof_checks::check_header;
+use crate::proof_checks::check_rows;
+use answers::answers::Sheet;
+use answers::answers::Verdict;
+use claims::claim_checks::check_claim;
+use sheets::layout::variables;
+use sheets::proof_sheet::shape_of;
+ghost use mathlib.Core.Path.{_≡_};
+ghost use lib.ListN.{length};
+ghost use Rattle.answers.specs.Answers.{says};
+ghost use Rattle.sheets.specs.Layout.{shapeOf, ProofRoom};
+ghost use Rattle.checks.specs.Input.{headAnswer, roomAnswer, bodyAnswer, inputAnswer};
+
+// The checks 1 to 10: the claim, and the proof's header.
+pub fn check_head(claim: &[u8], proof: &[u8]) -> Verdict
+    ensures { λ r. ⌜ says r ≡ headAnswer (now (claim .entry)) (now (proof .entry)) ⌝ }
+{
+    let first = check_claim(claim);
+    let Verdict::Accepted(_) = first else {
+        return first;
+    };
+    check_header(proof, variables(claim))
+}
+
+// 11: whether an output has room for what is asked.
+pub fn check_room(asked: usize, room: usize) -> Verdict
+    ensures { λ r. ⌜ says r ≡ roomAnswer asked room ⌝ }
+{
+    if room < asked {
+        return Verdict::Refused(Sheet::Output(11, 0));
+    }
+    Verdict::Accepted(0)
+}
+
+// The checks 11 to 15; the room is the output's length.
+pub fn check_body(proof: &[u8], room: usize) -> Verdict
+    requires { ⌜ ProofRoom (now proof) (shapeOf (now proof)) ⌝ }
+    ensures { λ r. ⌜ says r ≡ bodyAnswer (now (proof .entry)) room ⌝ }
+{
+    let enough = check_room(proof.len(), room);
+    let Verdict::Accepted(_) = enough else {
+        return enough;
+    };
+    check_rows(proof, shape_of(proof))
+}
+
+// The checks 1 to 15.
+pub fn check_input(claim: &[u8], proof: &[u8], room: usize) -> Verdict
+    ensures { λ r. ⌜ says r ≡ inputAnswer (now (claim .entry)) (now (proof .entry)) room ⌝ }
+{
+    let head = check_head(claim, proof);
+    let Verdict::Accepted(_) = head else {
+        return head;
+    };
+    check_body(proof, room)
+}

@@ -1,0 +1,119 @@
+-- Claims that pass: what it says of their numbers and points, and how short their answers are.
+use mathlib.Core.Path.{_≡_, refl, sym, _∙_}
+use mathlib.Core.Bool.{Bool, true, false, true≢false}
+use mathlib.Core.List.{List}
+use Prim.Native.Nat.{ℕ, zero, suc, _+_, _-_, _<_, _≤_}
+use native.Mathlib.Omega.{arith}
+use lib.Dec.{eqb, ltb}
+use lib.IntN.{natAbs}
+use lib.ListN.{length}
+use borrow.Author.Tests.{eqb-true, eqb-false, not-false, lt-ltb}
+use Rattle.integers.proofs.words.Laws.{Bytes}
+use Rattle.points.specs.Points.{samePoint, risesTo, exponentsWithin}
+use Rattle.points.proofs.points.Laws.{same-eq, rises-self, rises-trans}
+use Rattle.answers.specs.Answers.{says, Passes, Short}
+use Rattle.answers.specs.Bounds.{greatestExponent, greatestWeight}
+use Rattle.answers.specs.declared.answers.Verdict.{Verdict}
+use Rattle.answers.specs.declared.answers.Verdict.the-variants.{Accepted}
+use Rattle.answers.proofs.answers.Laws.{passes-if, passes-at, passed}
+use Rattle.answers.proofs.bounds.Laws.{within-bound}
+use Rattle.answers.proofs.searches.Laws.{first-nothing}
+use Rattle.answers.proofs.Tests.{nor, nand}
+use Rattle.answers.proofs.Short.{short-accepted, short-if, short-at}
+use Rattle.sheets.specs.Layout.{variables, termCount, ClaimRoom}
+use Rattle.sheets.specs.ClaimSheet.{floorOf, termPoint, coefficientOf}
+use Rattle.claims.specs.ClaimChecks.{breaks, termsAnswer, claimAnswer, ClaimFacts}
+use Rattle.claims.specs.declared.claim_checks.TermRule.the-variants.{Coefficient, Exponent, Order}
+use Rattle.claims.proofs.claim_checks.Laws.{header-counts}
+
+-- ---- what each check says that is passed
+
+positive : (m : ℕ) → eqb m 0 ≡ false → 1 ≤ m
+positive m h = let z = eqb-false m 0 h in omega arith
+
+module _ (c : List ℕ) (n t i : ℕ) where
+  coefficient-facts : breaks (Coefficient greatestWeight) c n t i ≡ false
+      → (1 ≤ natAbs (coefficientOf c n t i)) × (natAbs (coefficientOf c n t i) ≤ greatestWeight)
+  unfolding breaks
+  coefficient-facts h =
+      let z = nor (eqb (natAbs (coefficientOf c n t i)) 0) _ h in
+      (positive _ (z .0), within-bound greatestWeight _ (z .1))
+
+  exponents-fact : breaks (Exponent greatestExponent) c n t i ≡ false
+      → exponentsWithin greatestExponent (termPoint c n i) ≡ true
+  unfolding breaks
+  exponents-fact h = not-false _ h
+
+  rising-fact : breaks Order c n t (suc i) ≡ false → risesTo (termPoint c n i) (termPoint c n (suc i)) ≡ true
+  unfolding breaks
+  rising-fact h =
+      let e : suc i - 1 ≡ i = omega arith in
+      let z = nand (ltb 0 (suc i)) _ h (lt-ltb 0 (suc i) (omega arith)) in
+      rw e at (not-false (risesTo (termPoint c n (suc i - 1)) (termPoint c n (suc i))) z)
+
+pub claim-facts : (c : List ℕ) → Passes (claimAnswer c) → ClaimFacts c (variables c) (termCount c)
+unfolding claimAnswer termsAnswer
+claim-facts c h =
+    let p₁ = passes-if _ 1 _ refl h in
+    let p₂ = passes-if _ 2 _ refl (p₁ .1) in
+    let p₃ = passes-if _ 3 _ refl (p₂ .1) in
+    let p₄ = passes-if _ 4 _ refl (p₃ .1) in
+    let p₅ = passes-at _ 5 _ refl (p₄ .1) in
+    let p₆ = passes-at _ 6 _ refl (p₅ .1) in
+    let p₇ = passes-at _ 7 _ refl (p₆ .1) in
+    let counts = header-counts c (not-false _ (p₂ .0)) in
+    record {
+      some = counts .some;
+      few = counts .few;
+      terms = counts .terms;
+      sized = eqb-true _ _ (not-false _ (p₃ .0));
+      floor-within = within-bound greatestWeight (floorOf c) (p₄ .0);
+      nonzero = λ i l. coefficient-facts c _ _ i (first-nothing _ _ (p₅ .0) i l) .0;
+      coefficient-within = λ i l. coefficient-facts c _ _ i (first-nothing _ _ (p₅ .0) i l) .1;
+      exponents-within = λ i l. exponents-fact c _ _ i (first-nothing _ _ (p₆ .0) i l);
+      rising = λ i l. rising-fact c _ _ i (first-nothing _ _ (p₇ .0) (suc i) l);
+    }
+
+-- of a claim that a verdict accepts
+module _ (c : List ℕ) (v : Verdict) (e : says v ≡ claimAnswer c) (j : ℕ) (h : v ≡ Accepted j) where
+  pub claim-passed : ClaimFacts c (variables c) (termCount c)
+  claim-passed = claim-facts c (passed v _ e j h)
+
+  pub claim-long : 8 ≤ length c
+  claim-long = omega (arith, claim-passed .sized)
+
+-- room to read it
+pub claim-room : (c : List ℕ) (n t : ℕ) → ClaimFacts c n t → ClaimRoom c n t
+claim-room c n t f = record { few = f .few; terms = f .terms; long = omega (arith, f .sized) }
+
+-- the points of a claim rise from any to any later one, so no two are the same
+points-rise : (c : List ℕ) (n t : ℕ) → ClaimFacts c n t → (i d : ℕ) → suc i + d < t
+    → risesTo (termPoint c n i) (termPoint c n (suc i + d)) ≡ true
+points-rise c n t f i zero l = let e : suc i + 0 ≡ suc i = omega arith in rw e (f .rising i (omega arith))
+points-rise c n t f i (suc d) l =
+    let e : suc i + suc d ≡ suc (suc i + d) = omega arith in
+    rw e (rises-trans _ _ _ (points-rise c n t f i d (omega arith)) (f .rising (suc i + d) (omega arith)))
+
+pub points-differ : (c : List ℕ) (n t : ℕ) → ClaimFacts c n t → (i j : ℕ) → i < j → j < t
+    → samePoint (termPoint c n i) (termPoint c n j) ≡ false
+points-differ c n t f i j l h =
+    let e : suc i + (j - suc i) ≡ j = omega arith in
+    go (samePoint (termPoint c n i) (termPoint c n j)) refl (rw e at (points-rise c n t f i (j - suc i) (omega arith)))
+  where
+    go : (b : Bool) → samePoint (termPoint c n i) (termPoint c n j) ≡ b
+        → risesTo (termPoint c n i) (termPoint c n j) ≡ true → b ≡ false
+    go true e r = absurd (true≢false (sym r ∙ rw (same-eq _ _ e) (rises-self (termPoint c n j))))
+    go false e r = refl
+
+-- every number is document 01's, and an index is below a count that a byte gives
+pub claim-short : (c : List ℕ) → Bytes c → Short (claimAnswer c)
+unfolding claimAnswer termsAnswer
+claim-short c b =
+    let t : termCount c ≤ 65536 = omega (arith, b 1) in
+    short-if 1 _ (omega arith)
+    (short-if 2 _ (omega arith)
+    (short-if 3 _ (omega arith)
+    (short-if 4 _ (omega arith)
+    (short-at 5 _ (omega arith)
+    (short-at 6 _ (omega arith)
+    (short-at 7 _ (omega arith) (short-accepted 0 (omega arith)) _ _ t) _ _ t) _ _ t) _) _) _) _

@@ -1,0 +1,50 @@
+use borrow.Author.Needs.{needs}
+use Prim.Native.Nat.{_≤_, _-_}
+use mathlib.Core.Path.{_≡_}
+use Rattle.answers.specs.declared.searches.Found.the-variants.{Nothing}
+use Rattle.answers.specs.Searches.{first}
+use Rattle.claims.specs.ClaimChecks.{breaks}
+use Rattle.answers.proofs.searches.Laws.{first-none, first-at, first-on, first-end}
+use Rattle.claims.proofs.claim_checks.first_term.Statement.{statement}
+use Rattle.claims.proofs.claim_checks.first_term.Tie as tie
+
+abbrev Inv-loop : tie.InvT-loop
+Inv-loop rule claim n t i₀ i = (i ≤ t) × (first (breaks rule claim n t) i ≡ Nothing)
+
+abbrev μ-loop : tie.MeasureT-loop
+μ-loop rule claim n t i₀ i = t - i
+
+loop-holds : tie.Need-loop-holds Inv-loop μ-loop
+loop-holds c = search (needs, first-none)
+
+term-wrong-requires : tie.Need-term-wrong-requires Inv-loop μ-loop
+term-wrong-requires c κs = search needs
+
+returns : tie.Need-returns Inv-loop μ-loop
+returns c = search first-at
+
+add-i : tie.Need-add-i Inv-loop μ-loop
+add-i c = search needs
+
+loop-less : tie.Need-loop-less Inv-loop μ-loop
+loop-less c = search needs
+
+loop-again : tie.Need-loop-again Inv-loop μ-loop
+loop-again c = search (needs, first-on)
+
+returns-2 : tie.Need-returns-2 Inv-loop μ-loop
+returns-2 c = search first-end
+
+pub first-term-spec : {M : Type 1} → statement M
+first-term-spec =
+    tie.close
+    (tie.spec
+    Inv-loop
+    μ-loop
+    loop-holds
+    term-wrong-requires
+    returns
+    add-i
+    loop-less
+    loop-again
+    returns-2)

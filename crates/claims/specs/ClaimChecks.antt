@@ -1,0 +1,56 @@
+-- Checks of the claim: refusals 1 to 7.
+use mathlib.Core.Path.{_≡_}
+use mathlib.Core.Bool.{Bool, true, not, _&&_, _||_}
+use mathlib.Core.List.{List}
+use Prim.Native.Nat.{ℕ, suc, _-_, _<_, _≤_}
+use lib.Dec.{eqb, ltb, leb}
+use lib.IntN.{natAbs}
+use lib.ListN.{length, getD}
+use Rattle.points.specs.Points.{risesTo, exponentsWithin}
+use Rattle.answers.specs.Answers.{Answer, accepted, refuseIf, refuseAt}
+use Rattle.answers.specs.Searches.{first}
+use Rattle.answers.specs.Bounds.{greatestExponent, greatestWeight, beyond}
+use Rattle.sheets.specs.Layout.{variables, termCount, claimLength}
+use Rattle.sheets.specs.ClaimSheet.{floorOf, termPoint, coefficientOf}
+use Rattle.claims.specs.declared.claim_checks.TermRule.{TermRule}
+use Rattle.claims.specs.declared.claim_checks.TermRule.the-variants.{Coefficient, Exponent, Order}
+
+-- "Byte 0: n, variables, 1 to 8. Byte 1: t, terms, 0 to 64. Bytes 2 and 3: zero"
+unfoldable pub headerRight : List ℕ → Bool
+headerRight c =
+    leb 1 (variables c) && leb (variables c) 8 && leb (termCount c) 64 && eqb (getD c 2 0) 0 && eqb (getD c 3 0) 0
+
+-- term i breaks a rule: "coefficient zero or beyond", "exponent over" the limit, "point not above the one before"
+unfoldable pub breaks : TermRule → List ℕ → ℕ → ℕ → ℕ → Bool
+breaks (Coefficient limit) c n t i = eqb (natAbs (coefficientOf c n t i)) 0 || beyond limit (coefficientOf c n t i)
+breaks (Exponent limit) c n t i = not (exponentsWithin limit (termPoint c n i))
+breaks Order c n t i = ltb 0 i && not (risesTo (termPoint c n (i - 1)) (termPoint c n i))
+
+-- 5 to 7
+unfoldable pub termsAnswer : List ℕ → ℕ → ℕ → Answer
+termsAnswer c n t =
+    refuseAt (first (breaks (Coefficient greatestWeight) c n t) t) 5
+    (refuseAt (first (breaks (Exponent greatestExponent) c n t) t) 6
+    (refuseAt (first (breaks Order c n t) t) 7
+    (accepted 0)))
+
+-- 1 to 7
+unfoldable pub claimAnswer : List ℕ → Answer
+claimAnswer c =
+    refuseIf (ltb (length c) 8) 1
+    (refuseIf (not (headerRight c)) 2
+    (refuseIf (not (eqb (length c) (claimLength (variables c) (termCount c)))) 3
+    (refuseIf (beyond greatestWeight (floorOf c)) 4
+    (termsAnswer c (variables c) (termCount c)))))
+
+-- a claim of n variables and t terms that passes 1 to 7
+pub record ClaimFacts (c : List ℕ) (n t : ℕ) : Type 0 where
+  pub some : 1 ≤ n
+  pub few : n ≤ 8
+  pub terms : t ≤ 64
+  pub sized : length c ≡ claimLength n t
+  pub floor-within : natAbs (floorOf c) ≤ greatestWeight
+  pub nonzero : (i : ℕ) → i < t → 1 ≤ natAbs (coefficientOf c n t i)
+  pub coefficient-within : (i : ℕ) → i < t → natAbs (coefficientOf c n t i) ≤ greatestWeight
+  pub exponents-within : (i : ℕ) → i < t → exponentsWithin greatestExponent (termPoint c n i) ≡ true
+  pub rising : (i : ℕ) → suc i < t → risesTo (termPoint c n i) (termPoint c n (suc i)) ≡ true

@@ -1,0 +1,151 @@
+// Checks of the claim: refusals 1 to 7.
+use answers::answers::Sheet;
+use answers::answers::Verdict;
+use answers::bounds::GREATEST_EXPONENT;
+use answers::bounds::GREATEST_WEIGHT;
+use answers::bounds::is_beyond;
+use answers::searches::Found;
+use integers::magnitudes::magnitude;
+use points::points::exponents_within;
+use points::points::rises;
+use sheets::claim_sheet::coefficient;
+use sheets::claim_sheet::floor;
+use sheets::claim_sheet::term_count;
+use sheets::claim_sheet::term_point;
+use sheets::layout::place_of;
+use sheets::layout::variables;
+ghost use mathlib.Core.Path.{_≡_};
+ghost use mathlib.Core.Bool.{not};
+ghost use Prim.Native.Nat.{_<_, _≤_};
+ghost use lib.ListN.{length};
+ghost use Rattle.answers.specs.Answers.{says};
+ghost use Rattle.answers.specs.Searches.{first};
+ghost use Rattle.sheets.specs.Layout.{ClaimRoom};
+ghost use Rattle.claims.specs.ClaimChecks.{headerRight, breaks, termsAnswer, claimAnswer};
+ghost use Rattle.claims.specs.declared.claim_checks.TermRule.the-variants.{Coefficient, Exponent, Order};
+
+// What every term has to keep, with its limit.
+pub enum TermRule {
+    // 5
+    Coefficient(u64),
+    // 6
+    Exponent(u8),
+    // 7
+    Order,
+}
+
+// 2: whether n, t or bytes 2 and 3 are wrong.
+pub fn header_wrong(claim: &[u8]) -> bool
+    requires { ⌜ 8 ≤ length (now claim) ⌝ }
+    ensures { λ r. ⌜ r ≡ not (headerRight (now (claim .entry))) ⌝ }
+{
+    if claim[0] < 1 {
+        return true;
+    }
+    if 8 < claim[0] {
+        return true;
+    }
+    if 64 < claim[1] {
+        return true;
+    }
+    if claim[2] != 0 {
+        return true;
+    }
+    claim[3] != 0
+}
+
+// 5: whether coefficient i is zero or beyond the limit.
+fn coefficient_wrong(claim: &[u8], n: usize, t: usize, i: usize, limit: u64) -> bool
+    requires { ⌜ (ClaimRoom (now claim) n t) × (i < t) ⌝ }
+    ensures { λ r. ⌜ r ≡ breaks (Coefficient limit) (now (claim .entry)) n t i ⌝ }
+{
+    let x = coefficient(claim, n, t, i);
+    if magnitude(x) == 0 {
+        return true;
+    }
+    is_beyond(x, limit)
+}
+
+// 6: whether term i has an exponent over the limit.
+fn exponent_wrong(claim: &[u8], n: usize, t: usize, i: usize, limit: u8) -> bool
+    requires { ⌜ (ClaimRoom (now claim) n t) × (i < t) ⌝ }
+    ensures { λ r. ⌜ r ≡ breaks (Exponent limit) (now (claim .entry)) n t i ⌝ }
+{
+    !exponents_within(term_point(claim, n, t, i), limit)
+}
+
+// 7: whether point i is not above the one before.
+fn order_wrong(claim: &[u8], n: usize, t: usize, i: usize) -> bool
+    requires { ⌜ (ClaimRoom (now claim) n t) × (i < t) ⌝ }
+    ensures { λ r. ⌜ r ≡ breaks Order (now (claim .entry)) n t i ⌝ }
+{
+    if i == 0 {
+        return false;
+    }
+    !rises(term_point(claim, n, t, i - 1), term_point(claim, n, t, i))
+}
+
+// Whether term i breaks a rule.
+fn term_wrong(rule: TermRule, claim: &[u8], n: usize, t: usize, i: usize) -> bool
+    requires { ⌜ (ClaimRoom (now claim) n t) × (i < t) ⌝ }
+    ensures { λ r. ⌜ r ≡ breaks rule (now (claim .entry)) n t i ⌝ }
+{
+    match rule {
+        TermRule::Coefficient(limit) => coefficient_wrong(claim, n, t, i, limit),
+        TermRule::Exponent(limit) => exponent_wrong(claim, n, t, i, limit),
+        TermRule::Order => order_wrong(claim, n, t, i),
+    }
+}
+
+// The first term that breaks a rule.
+fn first_term(rule: TermRule, claim: &[u8], n: usize, t: usize) -> Found
+    requires { ⌜ ClaimRoom (now claim) n t ⌝ }
+    ensures { λ r. ⌜ r ≡ first (breaks rule (now (claim .entry)) n t) t ⌝ }
+{
+    let mut i = 0;
+    while i < t {
+        if term_wrong(rule, claim, n, t, i) {
+            return Found::At(i);
+        }
+        i += 1;
+    }
+    Found::Nothing
+}
+
+// The checks 5 to 7 of the terms, each over all of them before the next.
+fn check_terms(claim: &[u8], n: usize, t: usize) -> Verdict
+    requires { ⌜ ClaimRoom (now claim) n t ⌝ }
+    ensures { λ r. ⌜ says r ≡ termsAnswer (now (claim .entry)) n t ⌝ }
+{
+    if let Found::At(i) = first_term(TermRule::Coefficient(GREATEST_WEIGHT), claim, n, t) {
+        return Verdict::Refused(Sheet::Claim(5, i));
+    }
+    if let Found::At(i) = first_term(TermRule::Exponent(GREATEST_EXPONENT), claim, n, t) {
+        return Verdict::Refused(Sheet::Claim(6, i));
+    }
+    if let Found::At(i) = first_term(TermRule::Order, claim, n, t) {
+        return Verdict::Refused(Sheet::Claim(7, i));
+    }
+    Verdict::Accepted(0)
+}
+
+// The checks 1 to 7.
+pub fn check_claim(claim: &[u8]) -> Verdict
+    ensures { λ r. ⌜ says r ≡ claimAnswer (now (claim .entry)) ⌝ }
+{
+    if claim.len() < 8 {
+        return Verdict::Refused(Sheet::Claim(1, 0));
+    }
+    if header_wrong(claim) {
+        return Verdict::Refused(Sheet::Claim(2, 0));
+    }
+    let n = variables(claim);
+    let t = term_count(claim);
+    if claim.len() != place_of(8, t, n + 4) {
+        return Verdict::Refused(Sheet::Claim(3, 0));
+    }
+    if is_beyond(floor(claim), GREATEST_WEIGHT) {
+        return Verdict::Refused(Sheet::Claim(4, 0));
+    }
+    check_terms(claim, n, t)
+}

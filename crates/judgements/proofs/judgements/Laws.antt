@@ -1,0 +1,338 @@
+-- Laws of judgements: the ways through them; rows pass 17 to 19 exactly where they are within the limit and hold.
+use mathlib.Core.Path.{_≡_, refl, sym, _∙_, ap}
+use mathlib.Core.Bool.{Bool, true, false, cond, _||_}
+use Prim.Native.Nat.{ℕ, _+_, _*_, _^_, _≤_, _<_}
+use native.Mathlib.Nat.{mul-le-mul}
+use native.Mathlib.Numerals.{add-one}
+use native.Mathlib.Omega.{arith}
+use lib.Dec.{eqb, lit<}
+use borrow.Author.Tests.{eqb-false, ne-eqb}
+use lib.IntN.{ℤ, pos, natAbs, _*ℤ_}
+use lib.Signed.{ltZ, _≤ℤ_}
+use mir.Syntax.{w64}
+use mir.Val.{SFits}
+use mir.Facts.{toZ-ofZ}
+use Rattle.integers.proofs.Integers.{back, abs-mul, fits-within, ltZ-false, le-ltZ}
+use Rattle.squares.specs.Rows.{Row}
+use Rattle.squares.specs.Rows as Formal
+use Rattle.squares.specs.declared.rows.Weights.{Weights}
+use Rattle.squares.specs.declared.rows.Weights.the-variants.{Pair, Lone}
+use Rattle.sheets.specs.ProofSheet.{tripleFor, byValue}
+use Rattle.sheets.specs.declared.proof_sheet.Triple.{Triple}
+use Rattle.sheets.specs.declared.proof_sheet.Row as Value
+use Rattle.sheets.proofs.proof_sheet.Laws.{for-lone, for-pair, value-weights}
+use Rattle.answers.specs.Answers.{says, accepted, Passes, Short}
+use Rattle.answers.specs.Bounds.{beyond, greatestWeight}
+use Rattle.checks.specs.ProofChecks.{anyBeyond, Within}
+use Rattle.answers.specs.Searches.{first}
+use Rattle.answers.specs.declared.answers.Sheet.the-variants.{Proof}
+use Rattle.answers.specs.declared.answers.Verdict.{Verdict}
+use Rattle.answers.specs.declared.answers.Verdict.the-variants.{Accepted, Refused}
+use Rattle.answers.specs.declared.searches.Found.{Found}
+use Rattle.answers.specs.declared.searches.Found.the-variants.{At, Nothing}
+use Rattle.answers.proofs.answers.Laws.{passes-at, refused-at, passed-at, accepted-says, refused-says}
+use Rattle.answers.proofs.Short.{short-accepted, short-at}
+use Rattle.answers.proofs.bounds.Laws.{within-bound, bound-within}
+use Rattle.answers.proofs.searches.Laws.{first-none, first-here, first-stays, first-on, first-nothing, nothing-first}
+use Rattle.checks.proofs.proof_checks.Facts.{none-beyond, within-none}
+use Rattle.judgements.specs.Judgements.{negative, large, judgePair, judgeLone, judgementOf, numberOf, judgedNumber, judgedAs, kept, noted, firstsTo, judgedAnswer}
+use Rattle.judgements.specs.declared.judgements.Firsts.{Firsts}
+use Rattle.judgements.specs.declared.judgements.Judgement.{Judgement}
+use Rattle.judgements.specs.declared.judgements.Judgement.the-variants.{Holds, Beyond, Negative, Large}
+
+-- ---- is_negative and is_large: a prime marks a number as the machine reads it back
+
+pub negative-is : (x x′ : ℤ) → x′ ≡ x → ltZ x′ (pos 0) ≡ negative x
+unfolding negative
+negative-is x x′ e = rw e
+
+module _ (x : Triple) (w : Within greatestWeight x) where
+  weight-back : (z : ℤ) → natAbs z ≤ greatestWeight → back z ≡ z
+  weight-back z h = toZ-ofZ (fits-within z greatestWeight h (lit< tt))
+
+  product-small : (y z : ℤ) → natAbs y ≤ greatestWeight → natAbs z ≤ greatestWeight → natAbs (y *ℤ z) ≤ 2 ^ 60
+  product-small y z hy hz = rw (abs-mul y z) (mul-le-mul {n₂ = 1073741824} hy hz)
+
+  product-fits : (y z : ℤ) → natAbs y ≤ greatestWeight → natAbs z ≤ greatestWeight → SFits w64 (back y *ℤ back z)
+  product-fits y z hy hz =
+      rw (weight-back y hy, weight-back z hz) (fits-within (y *ℤ z) (2 ^ 60) (product-small y z hy hz) (lit< tt))
+
+  pub pq-fits : SFits w64 (back (x .p) *ℤ back (x .q))
+  pq-fits = product-fits (x .p) (x .q) (w .p-within) (w .q-within)
+
+  pq-is : back (back (x .p) *ℤ back (x .q)) ≡ x .p *ℤ x .q
+  pq-is = toZ-ofZ pq-fits ∙ rw (weight-back (x .p) (w .p-within), weight-back (x .q) (w .q-within))
+
+  pub four-fits : SFits w64 (back (back (x .p) *ℤ back (x .q)) *ℤ pos 4)
+  four-fits =
+      rw pq-is
+      (fits-within (x .p *ℤ x .q *ℤ pos 4) (2 ^ 62)
+      (rw (abs-mul (x .p *ℤ x .q) (pos 4)) (omega (arith, product-small (x .p) (x .q) (w .p-within) (w .q-within))))
+      (lit< tt))
+
+  pub rr-fits : SFits w64 (back (x .r) *ℤ back (x .r))
+  rr-fits = product-fits (x .r) (x .r) (w .r-within) (w .r-within)
+
+  pub large-is : ltZ (back (back (back (x .p) *ℤ back (x .q)) *ℤ pos 4)) (back (back (x .r) *ℤ back (x .r))) ≡ large x
+  unfolding large
+  large-is = rw (toZ-ofZ four-fits, pq-is, toZ-ofZ rr-fits, weight-back (x .r) (w .r-within))
+
+-- ---- judge_pair
+
+module _ (limit : ℕ) (x : Triple) (b : Bool) (e : b ≡ anyBeyond limit x) where
+  pub pair-beyond : b ≡ true → Beyond ≡ judgePair limit x
+  unfolding judgePair
+  pair-beyond h = rw (← e, h)
+
+  module _ (h : b ≡ false) where
+    pub pair-within : limit ≤ greatestWeight → Within greatestWeight x
+    pair-within l =
+        let f = none-beyond limit x (sym e ∙ h) in
+        record {
+          p-within = omega (arith, f .p-within);
+          q-within = omega (arith, f .q-within);
+          r-within = omega (arith, f .r-within);
+        }
+
+    module _ (p : ℤ) (a : Bool) (ep : p ≡ x .p) (ea : a ≡ negative p) where
+      p-tested : negative (x .p) ≡ a
+      p-tested = sym (ea ∙ ap negative ep)
+
+      pub pair-negative-p : a ≡ true → Negative ≡ judgePair limit x
+      unfolding judgePair
+      pair-negative-p k = rw (← e, h, p-tested, k)
+
+      module _ (k : a ≡ false) (q : ℤ) (d : Bool) (eq : q ≡ x .q) (ed : d ≡ negative q) where
+        q-tested : negative (x .q) ≡ d
+        q-tested = sym (ed ∙ ap negative eq)
+
+        pub pair-negative-q : d ≡ true → Negative ≡ judgePair limit x
+        unfolding judgePair
+        pair-negative-q m = rw (← e, h, p-tested, k, q-tested, m)
+
+        module _ (m : d ≡ false) (o : Bool) (eo : o ≡ large x) where
+          pub pair-large : o ≡ true → Large ≡ judgePair limit x
+          unfolding judgePair
+          pair-large l = rw (← e, h, p-tested, k, q-tested, m, ← eo, l)
+
+          pub pair-holds : o ≡ false → Holds ≡ judgePair limit x
+          unfolding judgePair
+          pair-holds l = rw (← e, h, p-tested, k, q-tested, m, ← eo, l)
+
+-- ---- judge_lone
+
+module _ (limit : ℕ) (p p′ : ℤ) (b : Bool) (e : b ≡ beyond limit p′) (ep : p′ ≡ p) where
+  pub lone-beyond : b ≡ true → Beyond ≡ judgeLone limit p
+  unfolding judgeLone
+  lone-beyond h = rw (← ep, ← e, h)
+
+  module _ (h : b ≡ false) (a : Bool) (ea : a ≡ negative p′) where
+    pub lone-negative : a ≡ true → Negative ≡ judgeLone limit p
+    unfolding judgeLone
+    lone-negative k = rw (← ep, ← e, h, ← ea, k)
+
+    pub lone-holds : a ≡ false → Holds ≡ judgeLone limit p
+    unfolding judgeLone
+    lone-holds k = rw (← ep, ← e, h, ← ea, k)
+
+-- ---- judge: a are the row's weights
+
+pub judged-lone : (limit : ℕ) (a : Weights) (row : Value.Row) (x : Triple) (p y : ℤ) (o : Judgement)
+    → o ≡ judgeLone limit y
+    → x ≡ tripleFor a → a ≡ Lone p → a ≡ row .weights → y ≡ x .p → o ≡ judgementOf limit (row .weights)
+unfolding judgementOf
+judged-lone limit a row x p y o eo ex ea er ey =
+    let e : record { p = p; q = pos 0; r = pos 0 } ≡ x = for-lone a p p ea refl ∙ sym ex in
+    eo ∙ rw (ey, ← e, ← er, ea)
+
+pub judged-pair : (limit : ℕ) (a : Weights) (row : Value.Row) (p p′ q q′ r r′ : ℤ) (o : Judgement)
+    → o ≡ judgePair limit (record { p = p′; q = q′; r = r′ }) → a ≡ Pair p q r → a ≡ row .weights → p′ ≡ p → q′ ≡ q
+    → r′ ≡ r
+    → o ≡ judgementOf limit (row .weights)
+unfolding judgementOf
+judged-pair limit a row p p′ q q′ r r′ o eo ea er ep eq er′ = eo ∙ rw (ep, eq, er′, ← er, ea)
+
+-- ---- keep and note
+
+module _ (f : Found) (hit : Bool) (i : ℕ) where
+  pub keep-found : (j : ℕ) → f ≡ At j → f ≡ kept f hit i
+  unfolding kept
+  keep-found j h = rw h
+
+  pub keep-hit : f ≡ Nothing → hit ≡ true → At i ≡ kept f hit i
+  unfolding kept
+  keep-hit h k = rw (h, k)
+
+  pub keep-none : f ≡ Nothing → hit ≡ false → Nothing ≡ kept f hit i
+  unfolding kept
+  keep-none h k = rw (h, k)
+
+pub noted-is : (f : Firsts) (number i : ℕ) (x y z a b d : Found) → a ≡ kept x (eqb number 17) i
+    → b ≡ kept y (eqb number 18) i
+    → d ≡ kept z (eqb number 19) i → x ≡ f .beyond → y ≡ f .negative → z ≡ f .large
+    → record { beyond = a; negative = b; large = d } ≡ noted f number i
+unfolding noted
+noted-is f number i x y z a b d ea eb ed ex ey ez = rw (ea, eb, ed, ex, ey, ez)
+
+-- ---- judge_all
+
+module _ (limit : ℕ) (row : ℕ → Row) where
+  pub firsts-none : record { beyond = Nothing; negative = Nothing; large = Nothing } ≡ firstsTo limit row 0
+  unfolding firstsTo
+  firsts-none = rw (first-none, first-none, first-none)
+
+  kept-on : (number i : ℕ)
+      → kept (first (judgedAs number limit row) i) (eqb (judgedNumber limit row i) number) i ≡ first (judgedAs number limit row) (i + 1)
+  unfolding kept judgedAs
+  kept-on number i = go (first (judgedAs number limit row) i) (judgedAs number limit row i) refl refl
+    where
+      go : (f : Found) (b : Bool) → first (judgedAs number limit row) i ≡ f → judgedAs number limit row i ≡ b
+          → kept f b i ≡ first (judgedAs number limit row) (i + 1)
+      go (At j) b h k = rw add-one (sym (first-stays _ i j h))
+      go Nothing true h k = rw add-one (sym (first-here _ i h k))
+      go Nothing false h k = sym (first-on _ i false h (sym k) refl)
+
+  pub firsts-on : (i m : ℕ) (f g : Firsts) → f ≡ firstsTo limit row i → m ≡ judgedNumber limit row i → g ≡ noted f m i
+      → g ≡ firstsTo limit row (i + 1)
+  unfolding firstsTo noted
+  firsts-on i m f g ef em eg = eg ∙ rw (ef, em, kept-on 17 i, kept-on 18 i, kept-on 19 i)
+
+-- ---- chosen
+
+module _ (f : Firsts) (k : ℕ) (a : Found) (ea : a ≡ f .beyond) where
+  pub chosen-beyond : (i : ℕ) → a ≡ At i → says (Refused (Proof 17 i)) ≡ judgedAnswer f k
+  unfolding judgedAnswer
+  chosen-beyond i h = refused-at _ a _ 17 _ ea i h (refused-says _ 17 i refl)
+
+  module _ (h : a ≡ Nothing) (b : Found) (eb : b ≡ f .negative) where
+    pub chosen-negative : (i : ℕ) → b ≡ At i → says (Refused (Proof 18 i)) ≡ judgedAnswer f k
+    unfolding judgedAnswer
+    chosen-negative i g =
+        passed-at _ a _ 17 _ ea h (refused-at _ b _ 18 _ eb i g (refused-says _ 18 i refl))
+
+    module _ (g : b ≡ Nothing) (d : Found) (ed : d ≡ f .large) where
+      pub chosen-large : (i : ℕ) → d ≡ At i → says (Refused (Proof 19 i)) ≡ judgedAnswer f k
+      unfolding judgedAnswer
+      chosen-large i l =
+          passed-at _ a _ 17 _ ea h
+          (passed-at _ b _ 18 _ eb g (refused-at _ d _ 19 _ ed i l (refused-says _ 19 i refl)))
+
+      pub chosen-accepted : d ≡ Nothing → says (Accepted k) ≡ judgedAnswer f k
+      unfolding judgedAnswer
+      chosen-accepted l =
+          passed-at _ a _ 17 _ ea h (passed-at _ b _ 18 _ eb g (passed-at _ d _ 19 _ ed l (accepted-says k)))
+
+-- ---- judged_number: row i of the shifted proof
+
+pub judged-number : (limit : ℕ) (row : ℕ → Row) (i : ℕ) (a : Value.Row) (j : Judgement) (m : ℕ) → a ≡ byValue (row i)
+    → j ≡ judgementOf limit (a .weights) → m ≡ numberOf j → m ≡ judgedNumber limit row i
+unfolding judgedNumber
+judged-number limit row i a j m ea ej em = em ∙ rw (ej, value-weights _ a ea)
+
+-- ---- judge_all and check_judged
+
+module _ (limit : ℕ) (row : ℕ → Row) (f : Firsts) where
+  pub firsts-end : (i k : ℕ) → f ≡ firstsTo limit row i → k ≤ i → i ≤ k → f ≡ firstsTo limit row k
+  firsts-end i k h l m = let q : i ≡ k = omega arith in rw q at h
+
+  pub judged-is : (k m : ℕ) (v : Verdict) → says v ≡ judgedAnswer f k → f ≡ firstsTo limit row k → k ≡ m
+      → says v ≡ judgedAnswer (firstsTo limit row m) m
+  judged-is k m v ev ef ek = ev ∙ rw (ef, ek)
+
+-- ---- a row is judged to hold exactly where its weights are within the limit and it holds
+
+not-negative : (x : ℤ) → pos 0 ≤ℤ x → negative x ≡ false
+unfolding negative
+not-negative x h = le-ltZ h
+
+pair-judged : (limit : ℕ) (x : Triple) → judgePair limit x ≡ Holds
+    → Within limit x × Formal.Holds (Pair (x .p) (x .q) (x .r))
+unfolding judgePair negative large
+pair-judged limit x h =
+    go (anyBeyond limit x) (ltZ (x .p) (pos 0)) (ltZ (x .q) (pos 0)) (ltZ (x .p *ℤ x .q *ℤ pos 4) (x .r *ℤ x .r))
+    refl refl refl refl h
+  where
+    go : (a b d e : Bool) → anyBeyond limit x ≡ a → ltZ (x .p) (pos 0) ≡ b → ltZ (x .q) (pos 0) ≡ d
+        → ltZ (x .p *ℤ x .q *ℤ pos 4) (x .r *ℤ x .r) ≡ e
+        → _≡_ {A = Judgement} (cond a Beyond (cond (b || d) Negative (cond e Large Holds))) Holds
+        → Within limit x × Formal.Holds (Pair (x .p) (x .q) (x .r))
+    go true b d e ea eb ed ee k = let z : _≡_ {A = ℕ} 0 1 = cc in absurd (omega arith)
+    go false true d e ea eb ed ee k = let z : _≡_ {A = ℕ} 0 1 = cc in absurd (omega arith)
+    go false false true e ea eb ed ee k = let z : _≡_ {A = ℕ} 0 1 = cc in absurd (omega arith)
+    go false false false true ea eb ed ee k = let z : _≡_ {A = ℕ} 0 1 = cc in absurd (omega arith)
+    go false false false false ea eb ed ee k =
+        (none-beyond limit x ea, (ltZ-false _ _ eb, ltZ-false _ _ ed, ltZ-false _ _ ee))
+
+lone-judged : (limit : ℕ) (p : ℤ) → judgeLone limit p ≡ Holds
+    → Within limit (record { p = p; q = pos 0; r = pos 0 }) × (pos 0 ≤ℤ p)
+unfolding judgeLone negative
+lone-judged limit p h = go (beyond limit p) (ltZ p (pos 0)) refl refl h
+  where
+    go : (a b : Bool) → beyond limit p ≡ a → ltZ p (pos 0) ≡ b
+        → _≡_ {A = Judgement} (cond a Beyond (cond b Negative Holds)) Holds
+        → Within limit (record { p = p; q = pos 0; r = pos 0 }) × (pos 0 ≤ℤ p)
+    go true b ea eb k = let z : _≡_ {A = ℕ} 0 1 = cc in absurd (omega arith)
+    go false true ea eb k = let z : _≡_ {A = ℕ} 0 1 = cc in absurd (omega arith)
+    go false false ea eb k =
+        (record { p-within = within-bound limit p ea; q-within = omega arith; r-within = omega arith }, ltZ-false _ _ eb)
+
+pub judged-holds : (limit : ℕ) (a : Weights) → judgementOf limit a ≡ Holds → Within limit (tripleFor a) × Formal.Holds a
+unfolding judgementOf
+judged-holds limit (Pair p q r) h = rw (← for-pair (Pair p q r) p p q q r r refl refl refl refl) (pair-judged limit _ h)
+judged-holds limit (Lone p) h = rw (← for-lone (Lone p) p p refl refl) (lone-judged limit p h)
+
+pub holds-judged : (limit : ℕ) (a : Weights) → Within limit (tripleFor a) → Formal.Holds a → judgementOf limit a ≡ Holds
+unfolding judgementOf judgePair judgeLone large
+holds-judged limit (Pair p q r) w h =
+    let v : Within limit (record { p = p; q = q; r = r }) = rw (for-pair (Pair p q r) p p q q r r refl refl refl refl) w in
+    rw (within-none limit _ v, not-negative p (h .0), not-negative q (h .1), le-ltZ (h .2))
+holds-judged limit (Lone p) w h =
+    let v : Within limit (record { p = p; q = pos 0; r = pos 0 }) = rw (for-lone (Lone p) p p refl refl) w in
+    rw (bound-within limit p (v .p-within), not-negative p h)
+
+-- ---- and all are exactly where 17 to 19 are passed
+
+numbered : (j : Judgement) → eqb (numberOf j) 17 ≡ false → eqb (numberOf j) 18 ≡ false → eqb (numberOf j) 19 ≡ false
+    → j ≡ Holds
+unfolding numberOf
+numbered Holds a b d = refl
+numbered Beyond a b d = absurd (eqb-false 17 17 a refl)
+numbered Negative a b d = absurd (eqb-false 18 18 b refl)
+numbered Large a b d = absurd (eqb-false 19 19 d refl)
+
+module _ (limit : ℕ) (row : ℕ → Row) (k : ℕ) where
+  pub judged-passed : Passes (judgedAnswer (firstsTo limit row k) k) → (i : ℕ) → i < k
+      → Within limit (tripleFor (row i .weights)) × Formal.Holds (row i .weights)
+  unfolding judgedAnswer firstsTo judgedAs judgedNumber
+  judged-passed h i l =
+      let a = passes-at _ 17 _ refl h in
+      let b = passes-at _ 18 _ refl (a .1) in
+      let d = passes-at _ 19 _ refl (b .1) in
+      judged-holds limit (row i .weights)
+      (numbered _ (first-nothing _ k (a .0) i l) (first-nothing _ k (b .0) i l) (first-nothing _ k (d .0) i l))
+
+  not-judged : (number i : ℕ) → eqb 0 number ≡ false → judgementOf limit (row i .weights) ≡ Holds
+      → judgedAs number limit row i ≡ false
+  unfolding judgedAs judgedNumber numberOf
+  not-judged number i z h = rw h z
+
+  pub judged-accepted : ((i : ℕ) → i < k → Within limit (tripleFor (row i .weights)) × Formal.Holds (row i .weights))
+      → judgedAnswer (firstsTo limit row k) k ≡ accepted k
+  unfolding judgedAnswer firstsTo
+  judged-accepted h =
+      sym
+      (passed-at (Accepted k) Nothing _ 17 _ (none 17 (ne-eqb 0 17 (λ q. omega arith))) refl
+      (passed-at (Accepted k) Nothing _ 18 _ (none 18 (ne-eqb 0 18 (λ q. omega arith))) refl
+      (passed-at (Accepted k) Nothing _ 19 _ (none 19 (ne-eqb 0 19 (λ q. omega arith))) refl (accepted-says k))))
+      ∙ accepted-says k
+    where
+      none : (number : ℕ) → eqb 0 number ≡ false → Nothing ≡ first (judgedAs number limit row) k
+      none number z =
+          nothing-first _ k (λ i l. let w = h i l in not-judged number i z (holds-judged limit (row i .weights) (w .0) (w .1)))
+
+pub judged-short : (limit : ℕ) (row : ℕ → Row) (k : ℕ) → k < 65536 → Short (judgedAnswer (firstsTo limit row k) k)
+unfolding judgedAnswer firstsTo
+judged-short limit row k l =
+    short-at 17 _ (omega arith)
+    (short-at 18 _ (omega arith)
+    (short-at 19 _ (omega arith) (short-accepted k l) _ _ (omega arith)) _ _ (omega arith)) _ _ (omega arith)

@@ -1,0 +1,24 @@
+use mir.Facts.{toZ-ofZ}
+use Rattle.judgements.proofs.judgements.Laws.{lone-beyond, lone-negative, lone-holds}
+use borrow.Author.Needs.{needs}
+use Rattle.judgements.proofs.judgements.judge_lone.Statement.{statement}
+use Rattle.judgements.proofs.judgements.judge_lone.Tie as tie
+
+is-beyond-requires : tie.Need-is-beyond-requires
+is-beyond-requires c κs = search needs
+
+returns : tie.Need-returns
+returns c = search (lone-beyond, toZ-ofZ)
+
+is-negative-requires : tie.Need-is-negative-requires
+is-negative-requires c κs = search needs
+
+returns-2 : tie.Need-returns-2
+returns-2 c = search (lone-negative, toZ-ofZ)
+
+returns-3 : tie.Need-returns-3
+returns-3 c = search (lone-holds, toZ-ofZ)
+
+pub judge-lone-spec : {M : Type 1} → statement M
+judge-lone-spec =
+    tie.close (tie.spec is-beyond-requires returns is-negative-requires returns-2 returns-3)

@@ -1,0 +1,46 @@
+use mir.Facts.{toZ-ofZ}
+use Rattle.judgements.proofs.judgements.Laws.{pair-beyond, pair-within, pair-negative-p, pair-negative-q, pair-large, pair-holds}
+use borrow.Author.Needs.{needs}
+use Rattle.judgements.proofs.judgements.judge_pair.Statement.{statement}
+use Rattle.judgements.proofs.judgements.judge_pair.Tie as tie
+
+any-beyond-requires : tie.Need-any-beyond-requires
+any-beyond-requires c κs = search needs
+
+returns : tie.Need-returns
+returns c = search pair-beyond
+
+is-negative-requires : tie.Need-is-negative-requires
+is-negative-requires c κs = search needs
+
+returns-2 : tie.Need-returns-2
+returns-2 c = search (pair-negative-p, toZ-ofZ)
+
+is-negative-requires-2 : tie.Need-is-negative-requires-2
+is-negative-requires-2 c κs = search needs
+
+returns-3 : tie.Need-returns-3
+returns-3 c = search (pair-negative-q, toZ-ofZ)
+
+is-large-requires : tie.Need-is-large-requires
+is-large-requires c κs = search pair-within
+
+returns-4 : tie.Need-returns-4
+returns-4 c = search (pair-large, toZ-ofZ)
+
+returns-5 : tie.Need-returns-5
+returns-5 c = search (pair-holds, toZ-ofZ)
+
+pub judge-pair-spec : {M : Type 1} → statement M
+judge-pair-spec =
+    tie.close
+    (tie.spec
+    any-beyond-requires
+    returns
+    is-negative-requires
+    returns-2
+    is-negative-requires-2
+    returns-3
+    is-large-requires
+    returns-4
+    returns-5)

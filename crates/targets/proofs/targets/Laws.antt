@@ -1,0 +1,244 @@
+-- Laws of targets: the term found by its key is the one at the point, and the ways through the code. A prime marks a
+-- number as the machine reads it back.
+use mathlib.Core.Path.{_≡_, refl, sym, _∙_}
+use mathlib.Core.Bool.{Bool, true, false, cond}
+use mathlib.Core.List.{List}
+use Prim.Native.Nat.{ℕ, zero, suc, _+_, _*_, _^_, _<_, _≤_}
+use native.Mathlib.Nat.{mul-le-mul}
+use native.Mathlib.Numerals.{add-one}
+use native.Mathlib.Omega.{arith}
+use lib.Dec.{eqb, lit<}
+use lib.IntN.{ℤ, pos, negℤ, natAbs, _+ℤ_, _-ℤ_, _*ℤ_, +ℤ-idr, +ℤ-idl}
+use lib.ListN.{replicate}
+use lib.Signed.{ltZ}
+use borrow.Author.Tests.{eq-eqb, ne-eqb}
+use mir.Syntax.{w64}
+use mir.Val.{SFits, toZ}
+use mir.Facts.{toZ-pos, toZ-ofZ}
+use Rattle.integers.proofs.Integers.{back, abs-add, abs-neg, abs-mul, fits-within, ltZ-true, ltZ-false}
+use Rattle.points.specs.Lists.{table}
+use Rattle.points.specs.Points.{Exponents, exponents, samePoint, keepsSign}
+use Rattle.points.specs.Keys.{keyOf}
+use Rattle.squares.specs.Sums.{Sum, coefficient}
+use Rattle.squares.specs.Targets.{lowered, worst, target}
+use Rattle.points.specs.declared.points.Point.{Point}
+use Rattle.squares.proofs.Targets.{worst-kept, worst-negative, worst-positive, target-is, lowered-constant, lowered-other}
+use Rattle.points.proofs.Lists.{table-none, table-more}
+use Rattle.squares.proofs.Sums.{coefficient-nil, coefficient-cons, coefficient-append}
+use Rattle.points.proofs.points.Laws.{same-eq}
+use Rattle.points.proofs.keys.Laws.{key-zeros}
+use Rattle.answers.specs.Bounds.{greatestWeight, greatestScale}
+use Rattle.sheets.specs.Layout.{variables, termCount}
+use Rattle.answers.specs.Searches.{first}
+use Rattle.sheets.specs.ClaimSheet.{floorOf, termPoint, coefficientOf, termOf, termsOf}
+use Rattle.sheets.specs.ProofSheet.{scaleOf}
+use Rattle.claims.specs.ClaimChecks.{ClaimFacts}
+use Rattle.answers.specs.declared.searches.Found.{Found}
+use Rattle.answers.specs.declared.searches.Found.the-variants.{At, Nothing}
+use Rattle.answers.proofs.searches.Laws.{first-none, first-here, first-stays, first-on, first-inside}
+use Rattle.sheets.proofs.claim_sheet.Laws.{terms-table, term-point, term-coefficient}
+use Rattle.claims.proofs.claim_checks.Facts.{points-differ}
+use Rattle.targets.specs.declared.targets.Aim.{Aim}
+use Rattle.targets.specs.Targets.{AimWithin, aimOf, targetOf, hasKey, loweredBy, foundAt, loweredAt}
+use Rattle.targets.specs.Carried.{Carried}
+use Rattle.targets.proofs.Carried.{term-carried, constant-carried, carried-same}
+
+-- a bound, of what the machine reads back
+pub back-small : (r r′ : ℤ) (m : ℕ) → natAbs r ≤ m → r′ ≡ r → natAbs r′ ≤ m
+back-small r r′ m h e = rw e h
+
+-- ---- lowered_by: x is a coefficient
+
+difference-small : (x b : ℤ) → natAbs x ≤ greatestWeight → natAbs b ≤ greatestWeight → natAbs (x -ℤ b) ≤ 2 ^ 31
+difference-small x b hx hb = omega (arith, abs-add x (negℤ b), abs-neg b)
+
+module _ (x x′ : ℤ) (a : Aim) (key : ℕ) (hx : natAbs x ≤ greatestWeight) (ha : AimWithin a) (ex : x′ ≡ x) where
+  floor-back : back (a .floor) ≡ a .floor
+  floor-back = toZ-ofZ (fits-within {w = w64} (a .floor) greatestWeight (ha .floor) (lit< tt))
+
+  pub lowered-fits : SFits w64 (x′ -ℤ back (a .floor))
+  lowered-fits =
+      rw (ex, floor-back) (fits-within (x -ℤ a .floor) (2 ^ 31) (difference-small x (a .floor) hx (ha .floor)) (lit< tt))
+
+  pub lowered-here : key ≡ 0 → back (x′ -ℤ back (a .floor)) ≡ loweredBy a key x
+  unfolding loweredBy
+  lowered-here h = toZ-ofZ lowered-fits ∙ rw (ex, floor-back, eq-eqb key 0 h)
+
+  pub constant-small : natAbs (back (x′ -ℤ back (a .floor))) ≤ 2 ^ 31
+  constant-small = rw (toZ-ofZ lowered-fits, ex, floor-back) (difference-small x (a .floor) hx (ha .floor))
+
+module _ (x x′ : ℤ) (ex : x′ ≡ x) where
+  pub lowered-elsewhere : (a : Aim) (key : ℕ) → (key ≡ 0 → ⊥) → x′ ≡ loweredBy a key x
+  unfolding loweredBy
+  lowered-elsewhere a key h = rw (ex, ne-eqb key 0 h)
+
+  pub other-small : natAbs x ≤ greatestWeight → natAbs x′ ≤ 2 ^ 31
+  other-small h = rw ex (omega arith)
+
+-- ---- worst: x is a coefficient
+
+module _ (keeps : Bool) (x x′ : ℤ) (ex : x′ ≡ x) where
+  pub kept-is : keeps ≡ true → x′ ≡ worst keeps x
+  kept-is h = ex ∙ worst-kept keeps x h
+
+  pub negative-is : keeps ≡ false → ltZ x′ (pos 0) ≡ true → x′ ≡ worst keeps x
+  negative-is h t = ex ∙ worst-negative keeps x h (rw ex at (ltZ-true x′ (pos 0) t))
+
+  module _ (h : natAbs x ≤ 2 ^ 31) where
+    negated-small : natAbs (pos 0 -ℤ x) ≤ 2 ^ 31
+    negated-small = rw (+ℤ-idl (negℤ x), abs-neg x) h
+
+    pub negated-fits : SFits w64 (pos 0 -ℤ x′)
+    negated-fits = rw ex (fits-within (pos 0 -ℤ x) (2 ^ 31) negated-small (lit< tt))
+
+    pub positive-is : keeps ≡ false → ltZ x′ (pos 0) ≡ false → back (pos 0 -ℤ x′) ≡ worst keeps x
+    positive-is k t = toZ-ofZ negated-fits ∙ rw ex (worst-positive keeps x k (rw ex at (ltZ-false x′ (pos 0) t)))
+
+    pub positive-small : natAbs (back (pos 0 -ℤ x′)) ≤ 2 ^ 31
+    positive-small = rw (toZ-ofZ negated-fits, ex) negated-small
+
+-- ---- scaled: x is a number with the worst sign
+
+module _ (S : ℕ) (x x′ : ℤ) (hS : S ≤ greatestScale) (h : natAbs x ≤ 2 ^ 31) (ex : x′ ≡ x) where
+  scale-is : toZ w64 S ≡ pos S
+  scale-is = toZ-pos w64 (omega arith)
+
+  product-small : natAbs (pos S *ℤ x) ≤ 2 ^ 51
+  product-small = rw (abs-mul (pos S) x) (mul-le-mul {n₂ = 1048576} hS h)
+
+  pub product-fits : SFits w64 (toZ w64 S *ℤ x′)
+  product-fits = rw (scale-is, ex) (fits-within (pos S *ℤ x) (2 ^ 51) product-small (lit< tt))
+
+  pub product-is : back (toZ w64 S *ℤ x′) ≡ pos S *ℤ x
+  product-is = toZ-ofZ product-fits ∙ rw (scale-is, ex)
+
+  pub scaled-small : natAbs (back (toZ w64 S *ℤ x′)) ≤ 2 ^ 51
+  scaled-small = rw product-is product-small
+
+-- ---- aim_of: b and S are what the sheets say
+
+pub aim-is : (c s : List ℕ) (b b′ : ℤ) (S : ℕ) → b ≡ floorOf c → S ≡ scaleOf s → b′ ≡ b
+    → record { floor = b′; scale = S } ≡ aimOf c s
+unfolding aimOf
+aim-is c s b b′ S eb eS e = rw (e, eb, eS)
+
+-- the aim of sheets with a floor and a scale in their bounds, and its targets
+pub aim-within : (c s : List ℕ) → natAbs (floorOf c) ≤ greatestWeight → scaleOf s ≤ greatestScale → AimWithin (aimOf c s)
+unfolding aimOf
+aim-within c s b S = record { floor = b; scale = S }
+
+pub targets-are : (c s : List ℕ) (α : Exponents)
+    → targetOf c (aimOf c s) α ≡ target (scaleOf s) (lowered (variables c) (floorOf c) (termsOf c)) α
+unfolding aimOf targetOf
+targets-are c s α = refl
+
+-- ---- has_key
+
+pub key-tested : (c : List ℕ) (n i key k : ℕ) → k ≡ keyOf (termPoint c n i) → eqb key k ≡ hasKey c n key i
+unfolding hasKey
+key-tested c n i key k e = rw e
+
+-- ---- lowered_at: f is what was found, r what was taken from it
+
+module _ (c : List ℕ) (n t key : ℕ) (a : Aim) (f : Found) (ef : f ≡ first (hasKey c n key) t) where
+  pub lowered-none : (r r′ : ℤ) → r ≡ loweredBy a key (pos 0) → f ≡ Nothing → r′ ≡ r → r′ ≡ loweredAt c n t a key
+  unfolding loweredAt foundAt
+  lowered-none r r′ er h e = e ∙ er ∙ rw (← ef, h)
+
+  module _ (i : ℕ) (h : f ≡ At i) where
+    pub found-inside : i < t
+    found-inside = first-inside (hasKey c n key) t i (sym ef ∙ h) .0
+
+    pub found-within : (x x′ : ℤ) → ClaimFacts c n t → x ≡ coefficientOf c n t i → x′ ≡ x → natAbs x′ ≤ greatestWeight
+    found-within x x′ facts ex e = rw (e, ex) (facts .coefficient-within i found-inside)
+
+    pub lowered-found : (x x′ r r′ : ℤ) → r ≡ loweredBy a key x′ → x ≡ coefficientOf c n t i → r′ ≡ r → x′ ≡ x
+        → r′ ≡ loweredAt c n t a key
+    unfolding loweredAt foundAt
+    lowered-found x x′ r r′ er ex e e₂ = e ∙ er ∙ rw (← ef, h, e₂, ex)
+
+-- ---- the term found by its key is the one at the point
+
+module _ (c : List ℕ) (n t : ℕ) (facts : ClaimFacts c n t) (α : Exponents) (carried : Carried n α) where
+  key-there : (i : ℕ) → i < t → hasKey c n (keyOf α) i ≡ samePoint α (termPoint c n i)
+  unfolding hasKey
+  key-there i l = carried-same n α (termPoint c n i) carried (term-carried c n t i facts l)
+
+  constant-there : eqb (keyOf α) 0 ≡ samePoint α (replicate n 0)
+  constant-there = rw key-zeros at (carried-same n α (replicate n 0) carried (constant-carried n))
+
+  abbrev terms : ℕ → Sum
+  terms m = table (termOf c n t) m
+
+  here : ℕ → Bool
+  here = hasKey c n (keyOf α)
+
+  -- one term more
+  term-more : (m : ℕ) → m < t
+      → coefficient α (terms (suc m)) ≡ coefficient α (terms m) +ℤ cond (here m) (coefficientOf c n t m) (pos 0)
+  unfolding here
+  term-more m l =
+      rw (table-more (termOf c n t) m, coefficient-append, coefficient-cons, coefficient-nil)
+      (rw (term-point, term-coefficient, key-there m l, +ℤ-idr))
+
+  -- a later term is at another point
+  later : (i m : ℕ) → m < t → first here m ≡ At i → here m ≡ false
+  unfolding here
+  later i m l e =
+      let f = first-inside here m i e in
+      let q : α ≡ termPoint c n i = same-eq α (termPoint c n i) (sym (key-there i (omega arith)) ∙ f .1) in
+      key-there m l ∙ rw q (points-differ c n t facts i m (f .0) l)
+
+  found-coefficient : (m : ℕ) → m ≤ t → foundAt c n t (first here m) ≡ coefficient α (terms m)
+  unfolding foundAt
+  found-coefficient zero l = rw (first-none here, table-none, coefficient-nil)
+  found-coefficient (suc m) l =
+      go (first here m) refl (here m) refl (found-coefficient m (omega arith)) ∙ sym (term-more m l)
+    where
+      go : (f : Found) → first here m ≡ f → (b : Bool) → here m ≡ b
+          → foundAt c n t (first here m) ≡ coefficient α (terms m)
+          → foundAt c n t (first here (suc m)) ≡ coefficient α (terms m) +ℤ cond (here m) (coefficientOf c n t m) (pos 0)
+      go (At i) e b h ih =
+          rw (first-stays here m i e, later i m l e, +ℤ-idr) (rw e at ih)
+      go Nothing e true h ih =
+          rw (first-here here m e h, h, ← ih, e) (sym (+ℤ-idl (coefficientOf c n t m)))
+      go Nothing e false h ih =
+          let s : first here (suc m) ≡ Nothing = rw add-one at (first-on here m false e (sym h) refl) in
+          rw (s, h, ← ih, e)
+
+  abbrev f : Sum
+  f = termsOf c
+
+  pub at-point : (a : Aim) → n ≡ variables c → t ≡ termCount c
+      → loweredAt c n t a (keyOf α) ≡ coefficient α (lowered (variables c) (a .floor) (termsOf c))
+  unfolding loweredAt loweredBy here
+  at-point a en et =
+      rw (found-coefficient t (omega arith), terms-table c n t en et, ← en) (go (samePoint α (replicate n 0)) refl)
+    where
+      go : (k : Bool) → samePoint α (replicate n 0) ≡ k
+          → cond (eqb (keyOf α) 0) (coefficient α f -ℤ a .floor) (coefficient α f) ≡ coefficient α (lowered n (a .floor) f)
+      go true e = rw (constant-there, e) (sym (lowered-constant n (a .floor) f α e))
+      go false e = rw (constant-there, e) (sym (lowered-other n (a .floor) f α e))
+
+-- ---- target: x is the coefficient of g, y the same with the worst sign, z the target
+
+module _ (c : List ℕ) (n t : ℕ) (en : n ≡ variables c) (et : t ≡ termCount c)
+    (facts : ClaimFacts c (variables c) (termCount c)) where
+  pub facts-here : ClaimFacts c n t
+  facts-here = rw (en, et) facts
+
+  pub target-made : (key : ℕ) (a : Aim) (x x′ y y′ z z′ : ℤ) (p : Point) (k : Bool) → z ≡ pos (a .scale) *ℤ y′
+      → y ≡ worst k x′
+      → x ≡ loweredAt c n t a key → k ≡ keepsSign (exponents p) → key ≡ keyOf (exponents p)
+      → Carried (variables c) (exponents p) → z′ ≡ z → y′ ≡ y → x′ ≡ x → z′ ≡ targetOf c a (exponents p)
+  unfolding targetOf
+  target-made key a x x′ y y′ z z′ p k ez ey ex ek e carried bz by bx =
+      bz ∙ ez ∙ rw (by, ey, bx, ex, ek, e, at-point c n t facts-here (exponents p) (rw en carried) a en et)
+      (sym (target-is (a .scale) (lowered (variables c) (a .floor) (termsOf c)) (exponents p)))
+
+-- ---- for the crates above
+
+pub target-of : (c : List ℕ) (a : Aim) (α : Exponents)
+    → targetOf c a α ≡ target (a .scale) (lowered (variables c) (a .floor) (termsOf c)) α
+unfolding targetOf
+target-of c a α = refl

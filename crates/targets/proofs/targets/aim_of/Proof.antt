@@ -1,0 +1,17 @@
+use mir.Facts.{toZ-ofZ}
+use Rattle.targets.proofs.targets.Laws.{aim-is}
+use borrow.Author.Needs.{needs}
+use Rattle.targets.proofs.targets.aim_of.Statement.{statement}
+use Rattle.targets.proofs.targets.aim_of.Tie as tie
+
+floor-requires : tie.Need-floor-requires
+floor-requires c κs = search needs
+
+scale-requires : tie.Need-scale-requires
+scale-requires c κs = search needs
+
+returns : tie.Need-returns
+returns c = search (aim-is, toZ-ofZ)
+
+pub aim-of-spec : {M : Type 1} → statement M
+aim-of-spec = tie.close (tie.spec floor-requires scale-requires returns)

@@ -1,0 +1,14 @@
+use Rattle.claims.proofs.claim_checks.Facts.{claim-room}
+use Rattle.targets.proofs.targets.Laws.{key-tested}
+use borrow.Author.Needs.{needs}
+use Rattle.targets.proofs.targets.has_key.Statement.{statement}
+use Rattle.targets.proofs.targets.has_key.Tie as tie
+
+term-key-requires : tie.Need-term-key-requires
+term-key-requires c κs = search (needs, claim-room)
+
+returns : tie.Need-returns
+returns c = search key-tested
+
+pub has-key-spec : {M : Type 1} → statement M
+has-key-spec = tie.close (tie.spec term-key-requires returns)

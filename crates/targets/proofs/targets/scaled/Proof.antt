@@ -1,0 +1,17 @@
+use mir.Facts.{toZ-ofZ}
+use Rattle.targets.proofs.targets.Laws.{product-fits, product-is, scaled-small}
+use borrow.Author.Needs.{needs}
+use Rattle.targets.proofs.targets.scaled.Statement.{statement}
+use Rattle.targets.proofs.targets.scaled.Tie as tie
+
+cast-result : tie.Need-cast-result
+cast-result c = search needs
+
+mul-result : tie.Need-mul-result
+mul-result c = search (product-fits, toZ-ofZ)
+
+returns : tie.Need-returns
+returns c = search (product-is, scaled-small, toZ-ofZ)
+
+pub scaled-spec : {M : Type 1} → statement M
+scaled-spec = tie.close (tie.spec cast-result mul-result returns)

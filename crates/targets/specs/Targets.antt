@@ -1,0 +1,49 @@
+-- Targets of a claim sheet, for any floor and scale.
+use mathlib.Core.Bool.{Bool, cond}
+use mathlib.Core.List.{List}
+use Prim.Native.Nat.{ℕ, _≤_}
+use lib.Dec.{eqb}
+use lib.IntN.{ℤ, pos, natAbs, _-ℤ_}
+use Rattle.points.specs.Points.{Exponents}
+use Rattle.points.specs.Keys.{keyOf}
+use Rattle.squares.specs.Targets.{lowered, target}
+use Rattle.sheets.specs.Layout.{variables}
+use Rattle.sheets.specs.ClaimSheet.{floorOf, termPoint, coefficientOf, termsOf}
+use Rattle.sheets.specs.ProofSheet.{scaleOf}
+use Rattle.answers.specs.Bounds.{greatestWeight, greatestScale}
+use Rattle.answers.specs.Searches.{first}
+use Rattle.answers.specs.declared.searches.Found.{Found}
+use Rattle.answers.specs.declared.searches.Found.the-variants.{At, Nothing}
+use Rattle.targets.specs.declared.targets.Aim.{Aim}
+
+-- a floor and a scale that the sheets can hold
+pub record AimWithin (a : Aim) : Type 0 where
+  pub floor : natAbs (a .floor) ≤ greatestWeight
+  pub scale : a .scale ≤ greatestScale
+
+-- the claim's floor and the proof's scale
+unfoldable pub aimOf : List ℕ → List ℕ → Aim
+aimOf c s = record { floor = floorOf c; scale = scaleOf s }
+
+-- "Let g be f with b taken from its constant coefficient": the target at a point
+unfoldable pub targetOf : List ℕ → Aim → Exponents → ℤ
+targetOf c a α = target (a .scale) (lowered (variables c) (a .floor) (termsOf c)) α
+
+-- ---- by keys, as the code finds it: `at-point` of proofs/targets/Laws.antt shows that it is the coefficient of g
+
+-- whether term i has a key
+unfoldable pub hasKey : List ℕ → ℕ → ℕ → ℕ → Bool
+hasKey c n key i = eqb key (keyOf (termPoint c n i))
+
+-- a coefficient, with the floor taken from it where it is the constant's
+unfoldable pub loweredBy : Aim → ℕ → ℤ → ℤ
+loweredBy a key x = cond (eqb key 0) (x -ℤ a .floor) x
+
+-- the coefficient of the term that was found, 0 where none was
+unfoldable pub foundAt : List ℕ → ℕ → ℕ → Found → ℤ
+foundAt c n t (At i) = coefficientOf c n t i
+foundAt c n t Nothing = pos 0
+
+-- the coefficient at a key, with the floor taken from the constant
+unfoldable pub loweredAt : List ℕ → ℕ → ℕ → Aim → ℕ → ℤ
+loweredAt c n t a key = loweredBy a key (foundAt c n t (first (hasKey c n key) t))

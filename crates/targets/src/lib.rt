@@ -1,0 +1,2 @@
+// Targets: what the weights at a point are to add up to.
+pub mod targets;

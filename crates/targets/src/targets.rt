@@ -1,0 +1,120 @@
+// Targets: what the weights at a point are to add up to.
+use answers::searches::Found;
+use points::keys::key_of;
+use points::points::Point;
+use points::points::keeps_sign;
+use sheets::claim_sheet::coefficient;
+use sheets::claim_sheet::floor;
+use sheets::claim_sheet::term_count;
+use sheets::claim_sheet::term_key;
+use sheets::layout::variables;
+use sheets::proof_sheet::scale;
+ghost use mathlib.Core.Path.{_≡_};
+ghost use Prim.Native.Nat.{_^_, _<_, _≤_};
+ghost use lib.IntN.{pos, natAbs, _*ℤ_};
+ghost use lib.ListN.{length};
+ghost use Rattle.points.specs.Points.{exponents};
+ghost use Rattle.squares.specs.Targets.{worst};
+ghost use Rattle.answers.specs.Bounds.{greatestWeight, greatestScale};
+ghost use Rattle.sheets.specs.Layout.{variables, termCount};
+ghost use Rattle.answers.specs.Searches.{first};
+ghost use Rattle.claims.specs.ClaimChecks.{ClaimFacts};
+ghost use Rattle.targets.specs.Targets.{aimOf, AimWithin, targetOf, hasKey, loweredBy, loweredAt};
+ghost use Rattle.targets.specs.Carried.{Carried};
+
+// What the weights are to aim at: the floor, and the scale.
+pub struct Aim {
+    pub floor: i64,
+    pub scale: u64,
+}
+
+// The claim's floor with the proof's scale.
+pub fn aim_of(claim: &[u8], proof: &[u8]) -> Aim
+    requires { ⌜ (8 ≤ length (now claim)) × (8 ≤ length (now proof)) ⌝ }
+    ensures { λ r. ⌜ r ≡ aimOf (now (claim .entry)) (now (proof .entry)) ⌝ }
+{
+    Aim {
+        floor: floor(claim),
+        scale: scale(proof),
+    }
+}
+
+// Whether term i has a key.
+fn has_key(claim: &[u8], n: usize, t: usize, i: usize, key: u64) -> bool
+    requires { ⌜ (ClaimFacts (now claim) n t) × (i < t) ⌝ }
+    ensures { λ r. ⌜ r ≡ hasKey (now (claim .entry)) n key i ⌝ }
+{
+    key == term_key(claim, n, t, i)
+}
+
+// The term that has a key.
+fn find_term(claim: &[u8], n: usize, t: usize, key: u64) -> Found
+    requires { ⌜ ClaimFacts (now claim) n t ⌝ }
+    ensures { λ r. ⌜ r ≡ first (hasKey (now (claim .entry)) n key) t ⌝ }
+{
+    let mut i = 0;
+    while i < t {
+        if has_key(claim, n, t, i, key) {
+            return Found::At(i);
+        }
+        i += 1;
+    }
+    Found::Nothing
+}
+
+// A coefficient, less the floor where it is the constant's.
+fn lowered_by(c: i64, aim: Aim, key: u64) -> i64
+    requires { ⌜ (natAbs c ≤ greatestWeight) × (AimWithin aim) ⌝ }
+    ensures { λ r. ⌜ (r ≡ loweredBy aim key c) × (natAbs r ≤ 2 ^ 31) ⌝ }
+{
+    if key == 0 {
+        return c - aim.floor;
+    }
+    c
+}
+
+// The coefficient at a key, with the floor taken from the constant.
+fn lowered_at(claim: &[u8], n: usize, t: usize, aim: Aim, key: u64) -> i64
+    requires { ⌜ (ClaimFacts (now claim) n t) × (AimWithin aim) ⌝ }
+    ensures { λ r. ⌜ (r ≡ loweredAt (now (claim .entry)) n t aim key) × (natAbs r ≤ 2 ^ 31) ⌝ }
+{
+    let Found::At(i) = find_term(claim, n, t, key) else {
+        return lowered_by(0, aim, key);
+    };
+    lowered_by(coefficient(claim, n, t, i), aim, key)
+}
+
+// A coefficient with the worst sign: as it stands where the point keeps its sign, else minus its absolute value.
+fn worst(keeps: bool, c: i64) -> i64
+    requires { ⌜ natAbs c ≤ 2 ^ 31 ⌝ }
+    ensures { λ r. ⌜ (r ≡ worst keeps c) × (natAbs r ≤ 2 ^ 31) ⌝ }
+{
+    if keeps {
+        return c;
+    }
+    if c < 0 {
+        return c;
+    }
+    0 - c
+}
+
+// A number times the scale.
+fn scaled(scale: u64, c: i64) -> i64
+    requires { ⌜ (scale ≤ greatestScale) × (natAbs c ≤ 2 ^ 31) ⌝ }
+    ensures { λ r. ⌜ (r ≡ pos scale *ℤ c) × (natAbs r ≤ 2 ^ 51) ⌝ }
+{
+    scale as i64 * c
+}
+
+// The target at a point.
+pub fn target_at(claim: &[u8], aim: Aim, p: Point) -> i64
+    requires { ⌜ (ClaimFacts (now claim) (variables (now claim)) (termCount (now claim))) × (AimWithin aim) × (Carried (variables (now claim)) (exponents p)) ⌝ }
+    ensures { λ r. ⌜ (r ≡ targetOf (now (claim .entry)) aim (exponents p)) × (natAbs r ≤ 2 ^ 51) ⌝ }
+{
+    let n = variables(claim);
+    let t = term_count(claim);
+    scaled(
+        aim.scale,
+        worst(keeps_sign(p), lowered_at(claim, n, t, aim, key_of(p))),
+    )
+}

@@ -1,0 +1,69 @@
+-- Laws of lines: the ways through the code whose last part has numbers of either sign, and how long lines are; a prime
+-- marks a number as the machine reads it back.
+use mathlib.Core.Path.{_≡_}
+use mathlib.Core.List.{List, _++_}
+use Prim.Native.Nat.{ℕ, suc, _+_, _^_, _<_, _≤_}
+use native.Mathlib.Omega.{arith}
+use lib.IntN.{ℤ}
+use lib.ListN.{length, length-append}
+use mir.Syntax.{w32}
+use mir.Val.{SFits}
+use Rattle.integers.proofs.Integers.{ints, sizes}
+use Rattle.sheets.specs.declared.proof_sheet.Triple.{Triple}
+use Rattle.text.specs.Text.{ascii, natural, integer, counted, numbered, Room, Written}
+use Rattle.text.specs.Lines.{scaleText, acceptedLine, laterText, weightsText, rowLine, refusedLine}
+use Rattle.text.proofs.text.Laws.{natural-short, integer-short, written-then, numbered-room, numbered-then}
+
+-- accepted_line: a is what stands before the scale
+pub scale-then : (a l m o : List ℕ) (at mid end scale : ℕ) (floor floor′ : ℤ) → Written l at a m mid
+    → Written m mid (scaleText scale floor′) o end → floor′ ≡ floor → Written l at (a ++ scaleText scale floor) o end
+scale-then a l m o at mid end scale floor floor′ w u e = written-then a (scaleText scale floor) w (rw e at u)
+
+-- weights_text
+module _ (label l m : List ℕ) (at mid : ℕ) (p p′ q q′ r r′ : ℤ) (w : Written l at (numbered label p′) m mid)
+    (ep : p′ ≡ p) (eq : q′ ≡ q) (er : r′ ≡ r) where
+  pub later-room : Room l at (numbered label p ++ laterText q r) → Room m mid (laterText q′ r′)
+  later-room h = rw (eq, er) (numbered-room label p p′ w ep (laterText q r) h)
+
+  pub later-then : (o : List ℕ) (end : ℕ) → Written m mid (laterText q′ r′) o end
+      → Written l at (numbered label p ++ laterText q r) o end
+  later-then o end u = numbered-then label p p′ w ep (laterText q r) (rw (eq, er) at u)
+
+-- ---- how long they are, with numbers of 32 bits
+
+counted-short : (label : List ℕ) (k n : ℕ) → n < 10 ^ suc k → length (counted label n) ≤ length label + suc k
+unfolding counted
+counted-short label k n h = rw (length-append label (natural n)) (omega (arith, natural-short k n h))
+
+word-short : (label : List ℕ) (z : ℤ) → SFits w32 z → length (numbered label z) ≤ length label + 11
+unfolding numbered
+word-short label z f = rw (length-append label (integer z)) (omega (ints, integer-short 9 z (omega (ints, sizes z))))
+
+pub accepted-short : (k S : ℕ) (b : ℤ) → k < 10 ^ 3 → S < 10 ^ 10 → SFits w32 b → length (acceptedLine k S b) ≤ 52
+unfolding acceptedLine scaleText
+accepted-short k S b hk hS f =
+    simp length-append
+    (omega (
+      arith,
+      counted-short (ascii "accepted rows ") 2 k hk,
+      counted-short (ascii " scale ") 9 S hS,
+      word-short (ascii " floor ") b f,
+    ))
+
+pub line-short : (i : ℕ) (x : Triple) → i < 10 ^ 3 → SFits w32 (x .p) → SFits w32 (x .q) → SFits w32 (x .r)
+    → length (rowLine i x) ≤ 49
+unfolding rowLine weightsText laterText
+line-short i x h p q r =
+    simp length-append
+    (omega (
+      arith,
+      counted-short (ascii "row ") 2 i h,
+      word-short (ascii " p ") (x .p) p,
+      word-short (ascii " q ") (x .q) q,
+      word-short (ascii " r ") (x .r) r,
+    ))
+
+pub refusal-short : (number index : ℕ) → number < 10 ^ 10 → index < 10 ^ 20 → length (refusedLine number index) ≤ 42
+unfolding refusedLine
+refusal-short number index h l =
+    simp length-append (omega (arith, counted-short (ascii "refused ") 9 number h, counted-short (ascii " at ") 19 index l))

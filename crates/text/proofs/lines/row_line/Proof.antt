@@ -1,0 +1,28 @@
+use Rattle.text.specs.Lines.{rowLine}
+use Rattle.text.proofs.text.Laws.{room-first, room-then, written-then}
+use borrow.Author.Needs.{needs}
+use Rattle.text.proofs.lines.row_line.Statement.{statement}
+use Rattle.text.proofs.lines.row_line.Tie as tie
+
+slice-aggregate-counted : tie.Need-slice-aggregate-counted
+slice-aggregate-counted c = search needs
+
+counted-requires : tie.Need-counted-requires
+unfolding rowLine
+counted-requires c κs = search room-first
+
+weights-text-requires : tie.Need-weights-text-requires
+unfolding rowLine
+weights-text-requires c κs = search room-then
+
+same-length : tie.Need-same-length
+same-length c = search needs
+
+returns : tie.Need-returns
+unfolding rowLine
+returns c = search written-then
+
+pub row-line-spec : {M : Type 1} → statement M
+row-line-spec =
+    tie.close
+    (tie.spec slice-aggregate-counted counted-requires weights-text-requires same-length returns)

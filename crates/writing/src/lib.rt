@@ -1,0 +1,2 @@
+// Weights written back into a proof sheet.
+pub mod writing;
