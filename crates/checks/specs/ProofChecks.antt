@@ -42,7 +42,8 @@ anyBeyond limit x = beyond limit (x .p) || beyond limit (x .q) || beyond limit (
 -- row i breaks a rule: "exponent over" the limit, "no whole midpoint", "lone row, q or r not zero", "proposed weight
 -- beyond" the limit
 unfoldable pub breaks : RowRule → List ℕ → Shape → ℕ → Bool
-breaks (Exponent limit) s shape i = not (exponentsWithin limit (vOf s shape i)) || not (exponentsWithin limit (wOf s shape i))
+breaks (Exponent limit) s shape i =
+    not (exponentsWithin limit (vOf s shape i)) || not (exponentsWithin limit (wOf s shape i))
 breaks Midpoint s shape i = not (hasMidpoint (vOf s shape i) (wOf s shape i))
 breaks Unused s shape i = samePoint (vOf s shape i) (wOf s shape i) && carries (tripleOf s shape i)
 breaks (Weight limit) s shape i = anyBeyond limit (tripleOf s shape i)

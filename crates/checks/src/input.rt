@@ -1,4 +1,4 @@
-// The checks 1 to 15, in the order of their numbers. Up to 10 they say how long the sheets are and how many rows there are.
+// The checks 1 to 15, in the order of their numbers, in two parts: up to 10, and what follows.
 use crate::proof_checks::check_header;
 use crate::proof_checks::check_rows;
 use answers::answers::Sheet;

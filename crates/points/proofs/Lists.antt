@@ -17,7 +17,8 @@ pub all-map : {A : Type 0} (P Q : A → Type 0) (L : List A) → ((a : A) → P 
 all-map P Q [] f h = tt
 all-map P Q (a ∷ L) f h = (f a (h .0), all-map P Q L f (h .1))
 
-pub all-both : {A : Type 0} (P Q R : A → Type 0) (L : List A) → ((a : A) → P a → Q a → R a) → All P L → All Q L → All R L
+pub all-both : {A : Type 0} (P Q R : A → Type 0) (L : List A) → ((a : A) → P a → Q a → R a) → All P L → All Q L
+    → All R L
 all-both P Q R [] f h k = tt
 all-both P Q R (a ∷ L) f h k = (f a (h .0) (k .0), all-both P Q R L f (h .1) (k .1))
 

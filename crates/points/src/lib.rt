@@ -1,3 +1,2 @@
-// Points by value: their exponents, order, midpoint and parity, and their keys.
-pub mod keys;
+// Points by value: their exponents, order, midpoint and parity.
 pub mod points;

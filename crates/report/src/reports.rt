@@ -37,7 +37,8 @@ fn row_text(proof: &[u8], shape: Shape, i: usize, out: &mut [u8], at: usize) -> 
 // The lines of all rows.
 fn rows_text(proof: &[u8], shape: Shape, out: &mut [u8], at: usize) -> usize
     requires { ⌜ (ProofRoom (now proof) shape) × (Room (now out) at (rowsText (now proof) shape (shape .k))) ⌝ }
-    ensures { λ r. ⌜ Written (now (out .entry)) at (rowsText (now (proof .entry)) shape (shape .k)) (now (out .exit)) r ⌝ }
+    ensures { λ r. ⌜ Written (now (out .entry)) at (rowsText (now (proof .entry)) shape (shape .k)) (now (out .exit))
+        r ⌝ }
 {
     let mut end = at;
     let mut i = 0;
@@ -50,8 +51,10 @@ fn rows_text(proof: &[u8], shape: Shape, out: &mut [u8], at: usize) -> usize
 
 // The first line of an acceptance of k rows.
 fn first_text(claim: &[u8], proof: &[u8], k: usize, out: &mut [u8], at: usize) -> usize
-    requires { ⌜ (8 ≤ length (now claim)) × (8 ≤ length (now proof)) × (Room (now out) at (firstText (now claim) (now proof) k)) ⌝ }
-    ensures { λ r. ⌜ Written (now (out .entry)) at (firstText (now (claim .entry)) (now (proof .entry)) k) (now (out .exit)) r ⌝ }
+    requires { ⌜ (8 ≤ length (now claim)) × (8 ≤ length (now proof))
+        × (Room (now out) at (firstText (now claim) (now proof) k)) ⌝ }
+    ensures { λ r. ⌜ Written (now (out .entry)) at (firstText (now (claim .entry)) (now (proof .entry)) k)
+        (now (out .exit)) r ⌝ }
 {
     let first = accepted_line(k as u64, scale(proof), floor(claim), out, at);
     put_byte(b'\n', out, first)
@@ -59,8 +62,10 @@ fn first_text(claim: &[u8], proof: &[u8], k: usize, out: &mut [u8], at: usize) -
 
 // All lines of an acceptance of k rows.
 fn accepted_text(claim: &[u8], proof: &[u8], k: usize, out: &mut [u8], at: usize) -> usize
-    requires { ⌜ (carries (now claim) (now proof) k ≡ true) × (Room (now out) at (acceptedText (now claim) (now proof) k)) ⌝ }
-    ensures { λ r. ⌜ Written (now (out .entry)) at (acceptedText (now (claim .entry)) (now (proof .entry)) k) (now (out .exit)) r ⌝ }
+    requires { ⌜ (carries (now claim) (now proof) k ≡ true)
+        × (Room (now out) at (acceptedText (now claim) (now proof) k)) ⌝ }
+    ensures { λ r. ⌜ Written (now (out .entry)) at (acceptedText (now (claim .entry)) (now (proof .entry)) k)
+        (now (out .exit)) r ⌝ }
 {
     let rows = first_text(claim, proof, k, out, at);
     rows_text(
@@ -106,7 +111,8 @@ fn carries(claim: &[u8], proof: &[u8], k: usize) -> bool
 // The report of a verdict on a claim, with its exact proof where it is accepted; the answer is where the text ends. An
 // acceptance that the sheets do not carry, which is no check's verdict, has no text.
 pub fn report_text(claim: &[u8], proof: &[u8], verdict: Verdict, out: &mut [u8; LONGEST]) -> usize
-    ensures { λ r. ⌜ Written (now (out .entry)) 0 (reportText (now (claim .entry)) (now (proof .entry)) (says verdict)) (now (out .exit)) r ⌝ }
+    ensures { λ r. ⌜ Written (now (out .entry)) 0 (reportText (now (claim .entry)) (now (proof .entry)) (says verdict))
+        (now (out .exit)) r ⌝ }
 {
     let Verdict::Accepted(k) = verdict else {
         let said = numbers_of(verdict);

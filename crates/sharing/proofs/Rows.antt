@@ -20,9 +20,9 @@ use Rattle.sheets.specs.Layout.{variables, rowCount, shapeOf}
 use Rattle.sheets.specs.ProofSheet.{vOf, wOf, rowOf, rowsOf, Suits}
 use Rattle.sheets.proofs.proof_sheet.Laws.{row-placed, row-lone, row-pair, row-v, row-w, v-length, w-length, rows-table}
 use Rattle.checks.specs.ProofChecks.{ProofFacts}
-use Rattle.sharing.specs.Sharing.{count, shiftedWeight, shiftedFrom, shiftedSlots}
+use Rattle.sharing.specs.Sharing.{count, shiftedWeight, shiftedFrom, shiftedSlots, rankOf}
 use Rattle.sharing.specs.Slots.{slotsTo}
-use Rattle.sharing.specs.Shifts.{rankOf, shiftedWeights, shiftRow, slotsBefore, shiftedRow, shiftedRows}
+use Rattle.sharing.specs.Shifts.{shiftedWeights, shiftRow, slotsBefore, shiftedRow, shiftedRows}
 use Rattle.sharing.proofs.Sharing.{count-append, from-nil, from-cons, shifted-adds, shifted-unheld, weight-stays, gathered-shifted}
 use Rattle.sharing.proofs.slots.Laws.{all-slots}
 
@@ -47,7 +47,8 @@ module _ (τ : Exponents → ℤ) (s : List ℕ) where
   abbrev L : Sum
   L = slots (rowsOf s)
 
-  each-shifted : (i : ℕ) → slotsOf (shiftedRow τ s i) ≡ shiftedFrom τ L (slotsBefore s i) (slotsOf (rowOf s (shapeOf s) i))
+  each-shifted : (i : ℕ)
+      → slotsOf (shiftedRow τ s i) ≡ shiftedFrom τ L (slotsBefore s i) (slotsOf (rowOf s (shapeOf s) i))
   unfolding shiftedRow shiftRow
   each-shifted i = let a = rowOf s (shapeOf s) i in row-slots τ L (slotsBefore s i) (a .v) (a .w) (a .weights)
 

@@ -1,5 +1,5 @@
--- Laws of sharing, on a list of slots alone, gathered from rows whatever a row is: where a point has a slot the shifted weights add up to its target, where it
--- has none to 0, and weights that add up stay as they are.
+-- Laws of sharing, on a list of slots alone: where a point has a slot the shifted weights add up to its target, where it
+-- has none to 0, and weights that add up stay as they are; and of slots gathered from rows, whatever a row is.
 use mathlib.Core.Path.{_≡_, refl, _∙_, ap}
 use mathlib.Core.Bool.{Bool, true, false, cond}
 use mathlib.Core.List.{[], _∷_, _++_, append-nil, append-assoc}
@@ -142,7 +142,7 @@ module _ {A : Type 0} (own : A → Sum) (row : ℕ → A) where
       let m = ap (count α) (gathered-more own row i) ∙ count-append α (to i) (own (row i)) in
       omega (arith, g, m)
 
-  -- where `shifted` gives rows whose slots are those of `row` shifted, the slots of all its rows are all slots L shifted
+  -- where each row of `shifted` has the slots of that of `row`, shifted, all its rows have all slots, shifted
   module _ (τ : Exponents → ℤ) (shifted : ℕ → A) (L : Sum) (k : ℕ) (all : to k ≡ L)
       (each : (i : ℕ) → own (shifted i) ≡ shiftedFrom τ L (to i) (own (row i))) where
     first-shifted : (i : ℕ) → gathered own (table shifted i) ≡ shiftedFrom τ L [] (to i)

@@ -1,7 +1,7 @@
 -- Sharing the error: on a list of slots alone, points with proposed weights in row order. τ gives each point's target.
 use mathlib.Core.Bool.{cond}
 use mathlib.Core.List.{[], _∷_, _++_}
-use Prim.Native.Nat.{ℕ, suc}
+use Prim.Native.Nat.{ℕ, suc, _+_}
 use lib.IntN.{ℤ, _+ℤ_, _-ℤ_}
 use Rattle.integers.specs.Division.{share}
 use Rattle.points.specs.Points.{Exponents, samePoint}
@@ -16,7 +16,11 @@ count α (t ∷ L) = cond (samePoint α (t .0)) (suc (count α L)) (count α L)
 unfoldable pub errorAt : (Exponents → ℤ) → Sum → Exponents → ℤ
 errorAt τ L α = τ α -ℤ coefficient α L
 
--- the weight x of a slot at α with its share, which goes by the slot's rank: how many slots at α come before it
+-- a slot's rank at its point: the slots there of the rows before its own, and those of its own row before it
+unfoldable pub rankOf : Exponents → Sum → Sum → ℕ
+rankOf α before own = count α before + count α own
+
+-- the weight x of a slot at α with its share, which goes by the slot's rank
 unfoldable pub shiftedWeight : (Exponents → ℤ) → Sum → ℕ → Exponents → ℤ → ℤ
 shiftedWeight τ L rank α x = x +ℤ share (errorAt τ L α) (count α L) rank
 

@@ -1,7 +1,7 @@
 -- Shifted rows: each row of a proof with the shifted weights of its slots. Its points stay.
 use mathlib.Core.Path.{_≡_}
 use mathlib.Core.List.{List, [], _∷_}
-use Prim.Native.Nat.{ℕ, _+_}
+use Prim.Native.Nat.{ℕ}
 use lib.IntN.{ℤ}
 use Rattle.points.specs.Lists.{table}
 use Rattle.points.specs.Points.{Exponents, pointOf, midpointOf}
@@ -14,14 +14,10 @@ use Rattle.sheets.specs.Layout.{variables, termCount, rowCount, shapeOf}
 use Rattle.sheets.specs.ProofSheet.{vOf, wOf, rowOf, rowsOf}
 use Rattle.claims.specs.ClaimChecks.{ClaimFacts}
 use Rattle.checks.specs.ProofChecks.{ProofFacts}
-use Rattle.sharing.specs.Sharing.{count, shiftedWeight}
+use Rattle.sharing.specs.Sharing.{rankOf, shiftedWeight}
 use Rattle.targets.specs.Targets.{AimWithin}
 use Rattle.sharing.specs.Slots.{slotsTo}
 use Rattle.targets.specs.declared.targets.Aim.{Aim}
-
--- a slot's rank at its point: the slots there of the rows before its own, and those of its own row before it
-unfoldable pub rankOf : Exponents → Sum → Sum → ℕ
-rankOf α before own = count α before + count α own
 
 -- the shifted weights of a row's slots "p at v, q at w and r at u"; L are all slots, `before` those of the rows before
 unfoldable pub shiftedWeights : (Exponents → ℤ) → Sum → Sum → Exponents → Exponents → Weights → Weights

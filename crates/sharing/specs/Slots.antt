@@ -6,7 +6,7 @@ use lib.Dec.{eqb}
 use lib.IntN.{ℤ, pos, natAbs, _+ℤ_}
 use Rattle.points.specs.Lists.{table}
 use Rattle.points.specs.Points.{Exponents}
-use Rattle.points.specs.Keys.{keyOf}
+use Rattle.keys.specs.Keys.{keyOf}
 use Rattle.squares.specs.Sums.{Sum, coefficient}
 use Rattle.squares.specs.Rows.{slots}
 use Rattle.sheets.specs.ProofSheet.{vOf, wOf, rowOf}
@@ -19,8 +19,8 @@ use Rattle.sharing.specs.declared.slots.Tally.{Tally}
 unfoldable pub slotsTo : List ℕ → Shape → ℕ → Sum
 slotsTo s shape i = slots (table (rowOf s shape) i)
 
--- the sum of the weights at a point, its count of slots, and a slot's rank there: those before its row, and so many of its
--- own row
+-- the sum of the weights at a point, its count of slots, and a slot's rank there: those before its row, and so many of
+-- its own row
 unfoldable pub holdingOf : Exponents → Sum → Sum → ℕ → Holding
 holdingOf α L before own = record { sum = coefficient α L; count = count α L; rank = count α before + own }
 
@@ -30,7 +30,8 @@ holdingOf α L before own = record { sum = coefficient α L; count = count α L;
 -- row i has a slot at the point with a key: v, w, or the midpoint, where twice the key is the sum of their keys
 unfoldable pub holdsKey : List ℕ → Shape → ℕ → ℕ → Bool
 holdsKey s shape key i =
-    eqb key (keyOf (vOf s shape i)) || eqb key (keyOf (wOf s shape i)) || eqb (keyOf (vOf s shape i) + keyOf (wOf s shape i)) (key * 2)
+    eqb key (keyOf (vOf s shape i)) || eqb key (keyOf (wOf s shape i))
+    || eqb (keyOf (vOf s shape i) + keyOf (wOf s shape i)) (key * 2)
 
 -- a tally that leaves room for more
 pub record Small (a : Tally) : Type 0 where

@@ -26,7 +26,8 @@ ghost use Rattle.sharing.specs.Shifts.{CheckedSheets, IsRow, slotsBefore
 
 // A weight with its share of the error.
 fn moved(x: i64, target: i64, h: Holding) -> i64
-    requires { ⌜ (natAbs x ≤ greatestWeight) × (natAbs target ≤ 2 ^ 51) × (natAbs (h .sum) ≤ 2 ^ 42) × (0 < h .count) ⌝ }
+    requires { ⌜ (natAbs x ≤ greatestWeight) × (natAbs target ≤ 2 ^ 51) × (natAbs (h .sum) ≤ 2 ^ 42)
+        × (0 < h .count) ⌝ }
     ensures { λ r. ⌜ r ≡ x +ℤ share (target -ℤ h .sum) (h .count) (h .rank) ⌝ }
 {
     x + share(target - h.sum, h.count, h.rank)
@@ -34,8 +35,11 @@ fn moved(x: i64, target: i64, h: Holding) -> i64
 
 // The weight x of a slot of row i at p, shifted; so many slots of the row are before it there.
 fn shifted(claim: &[u8], proof: &[u8], aim: Aim, i: usize, own: u32, p: Point, x: i64) -> i64
-    requires { ⌜ (CheckedSheets (now claim) (now proof) aim) × (i < rowCount (now proof)) × (Carried (variables (now claim)) (exponents p)) × (natAbs x ≤ greatestWeight) × (count (exponents p) (slotsBefore (now proof) i) + own < count (exponents p) (slots (rowsOf (now proof)))) ⌝ }
-    ensures { λ r. ⌜ r ≡ shiftedWeight (targetOf (now (claim .entry)) aim) (slots (rowsOf (now (proof .entry)))) (count (exponents p) (slotsBefore (now (proof .entry)) i) + own) (exponents p) x ⌝ }
+    requires { ⌜ (CheckedSheets (now claim) (now proof) aim) × (i < rowCount (now proof))
+        × (Carried (variables (now claim)) (exponents p)) × (natAbs x ≤ greatestWeight)
+        × (count (exponents p) (slotsBefore (now proof) i) + own < count (exponents p) (slots (rowsOf (now proof)))) ⌝ }
+    ensures { λ r. ⌜ r ≡ shiftedWeight (targetOf (now (claim .entry)) aim) (slots (rowsOf (now (proof .entry))))
+        (count (exponents p) (slotsBefore (now (proof .entry)) i) + own) (exponents p) x ⌝ }
 {
     let h = held(proof, shape_of(proof), i, own, p);
     moved(x, target_at(claim, aim, p), h)
@@ -51,7 +55,8 @@ fn shifted_weights(
     w: Point,
     weights: Weights,
 ) -> Weights
-    requires { ⌜ (CheckedSheets (now claim) (now proof) aim) × (i < rowCount (now proof)) × (IsRow (now proof) i v w weights) ⌝ }
+    requires { ⌜ (CheckedSheets (now claim) (now proof) aim) × (i < rowCount (now proof))
+        × (IsRow (now proof) i v w weights) ⌝ }
     ensures { λ r. ⌜ r ≡ shiftedRow (targetOf (now (claim .entry)) aim) (now (proof .entry)) i .weights ⌝ }
 {
     match weights {

@@ -1,6 +1,6 @@
 // Slots of a proof sheet at one point, each time found by going over the rows.
 use integers::words::read_i32;
-use points::keys::key_of;
+use keys::keys::key_of;
 use points::points::Point;
 use sheets::layout::Shape;
 use sheets::proof_sheet::triple_place;
@@ -47,7 +47,8 @@ fn add_if(hit: bool, proof: &[u8], at: usize, a: Tally) -> Tally
 
 // The slots of one row more: a pair's midpoint has the key where twice the key is the sum of its ends' keys.
 fn add_row(proof: &[u8], shape: Shape, i: usize, key: u64, a: Tally) -> Tally
-    requires { ⌜ (ProofFacts (now proof) shape) × (i < shape .k) × (key < 2 ^ 63) × (a ≡ tallyOf key (slotsTo (now proof) shape i)) ⌝ }
+    requires { ⌜ (ProofFacts (now proof) shape) × (i < shape .k) × (key < 2 ^ 63)
+        × (a ≡ tallyOf key (slotsTo (now proof) shape i)) ⌝ }
     ensures { λ r. ⌜ r ≡ tallyOf key (slotsTo (now (proof .entry)) shape (i + 1)) ⌝ }
 {
     let v = v_key(proof, shape, i);
@@ -63,7 +64,8 @@ fn add_row(proof: &[u8], shape: Shape, i: usize, key: u64, a: Tally) -> Tally
 
 // From the slots of the first rows to those of more.
 fn scan(proof: &[u8], shape: Shape, from: usize, to: usize, key: u64, a: Tally) -> Tally
-    requires { ⌜ (ProofFacts (now proof) shape) × (from ≤ to) × (to ≤ shape .k) × (key < 2 ^ 63) × (a ≡ tallyOf key (slotsTo (now proof) shape from)) ⌝ }
+    requires { ⌜ (ProofFacts (now proof) shape) × (from ≤ to) × (to ≤ shape .k) × (key < 2 ^ 63)
+        × (a ≡ tallyOf key (slotsTo (now proof) shape from)) ⌝ }
     ensures { λ r. ⌜ r ≡ tallyOf key (slotsTo (now (proof .entry)) shape to) ⌝ }
 {
     let mut b = a;
@@ -77,8 +79,10 @@ fn scan(proof: &[u8], shape: Shape, from: usize, to: usize, key: u64, a: Tally) 
 
 // What the slots at a point are, seen from one of row i that has so many of its own row's before it there.
 pub(crate) fn held(proof: &[u8], shape: Shape, i: usize, own: u32, p: Point) -> Holding
-    requires { ⌜ (ProofFacts (now proof) shape) × (i < shape .k) × (Carried (shape .n) (exponents p)) × (count (exponents p) (slotsTo (now proof) shape i) + own < count (exponents p) (slotsTo (now proof) shape (shape .k))) ⌝ }
-    ensures { λ r. ⌜ r ≡ holdingOf (exponents p) (slotsTo (now (proof .entry)) shape (shape .k)) (slotsTo (now (proof .entry)) shape i) own ⌝ }
+    requires { ⌜ (ProofFacts (now proof) shape) × (i < shape .k) × (Carried (shape .n) (exponents p))
+        × (count (exponents p) (slotsTo (now proof) shape i) + own < count (exponents p) (slotsTo (now proof) shape (shape .k))) ⌝ }
+    ensures { λ r. ⌜ r ≡ holdingOf (exponents p) (slotsTo (now (proof .entry)) shape (shape .k))
+        (slotsTo (now (proof .entry)) shape i) own ⌝ }
 {
     let key = key_of(p);
     let before = scan(proof, shape, 0, i, key, Tally { sum: 0, count: 0 });

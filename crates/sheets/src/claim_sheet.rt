@@ -2,14 +2,14 @@
 use crate::layout::count;
 use crate::layout::place_of;
 use integers::words::read_i32;
-use points::keys::key_at;
+use keys::keys::key_at;
 use points::points::Point;
 use points::points::point_at;
 ghost use mathlib.Core.Path.{_≡_};
 ghost use Prim.Native.Nat.{_<_, _≤_};
 ghost use lib.ListN.{length};
 ghost use Rattle.points.specs.Points.{pointOf};
-ghost use Rattle.points.specs.Keys.{keyOf};
+ghost use Rattle.keys.specs.Keys.{keyOf};
 ghost use Rattle.sheets.specs.Layout.{termCount, ClaimRoom};
 ghost use Rattle.sheets.specs.ClaimSheet.{floorOf, termPoint, coefficientOf};
 

@@ -5,7 +5,7 @@ use crate::layout::place_of;
 use crate::layout::variables;
 use integers::words::read_i32;
 use integers::words::read_u32;
-use points::keys::key_at;
+use keys::keys::key_at;
 use points::points::Point;
 use points::points::point_at;
 use points::points::same;
@@ -14,7 +14,7 @@ ghost use mathlib.Core.Path.{_≡_};
 ghost use Prim.Native.Nat.{_<_, _≤_};
 ghost use lib.ListN.{length};
 ghost use Rattle.points.specs.Points.{pointOf};
-ghost use Rattle.points.specs.Keys.{keyOf};
+ghost use Rattle.keys.specs.Keys.{keyOf};
 ghost use Rattle.sheets.specs.Layout.{rowCount, shapeOf, vAt, tripleAt, proofLength, ProofRoom};
 ghost use Rattle.sheets.specs.ProofSheet.{scaleOf, vOf, wOf, tripleOf, weightsOf, rowOf, byValue, tripleFor};
 

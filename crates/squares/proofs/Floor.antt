@@ -90,7 +90,8 @@ raise : (b v : ℤ) → pos 0 ≤ℤ (negℤ b *ℤ pos 1 +ℤ v) → b ≤ℤ v
 raise b v h = let s = simp ring at (read-le h) in by-le (simp ring (omega arith))
 
 pub slots-floor : (n S : ℕ) (b : ℤ) (f M : Sum) → 0 < S → Sized n f → Sized n M
-    → AddsUp n (target S (lowered n b f)) M → (x : List ℤ) → pos 0 ≤ℤ value (absolute (monomialOf x)) M → b ≤ℤ valueAt x f
+    → AddsUp n (target S (lowered n b f)) M → (x : List ℤ) → pos 0 ≤ℤ value (absolute (monomialOf x)) M
+    → b ≤ℤ valueAt x f
 unfolding lowered value
 slots-floor n S b f M s sf sm e x h =
     raise b (valueAt x f)

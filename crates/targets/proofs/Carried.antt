@@ -5,9 +5,9 @@ use Prim.Native.Nat.{ℕ, _*_, _^_, _<_, _≤_}
 use lib.Dec.{eqb, lit<}
 use lib.ListN.{replicate, length-replicate}
 use Rattle.points.specs.Points.{Exponents, samePoint}
-use Rattle.points.specs.Keys.{keyOf}
+use Rattle.keys.specs.Keys.{keyOf}
 use Rattle.points.proofs.points.Laws.{zeros-within}
-use Rattle.points.proofs.keys.Laws.{Below, within-below, key-same, key-low}
+use Rattle.keys.proofs.keys.Laws.{Below, within-below, key-same, key-low}
 use Rattle.answers.specs.Bounds.{greatestExponent}
 use Rattle.sheets.specs.ClaimSheet.{termPoint}
 use Rattle.claims.specs.ClaimChecks.{ClaimFacts}

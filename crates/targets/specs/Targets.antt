@@ -5,7 +5,7 @@ use Prim.Native.Nat.{ℕ, _≤_}
 use lib.Dec.{eqb}
 use lib.IntN.{ℤ, pos, natAbs, _-ℤ_}
 use Rattle.points.specs.Points.{Exponents}
-use Rattle.points.specs.Keys.{keyOf}
+use Rattle.keys.specs.Keys.{keyOf}
 use Rattle.squares.specs.Targets.{lowered, target}
 use Rattle.sheets.specs.Layout.{variables}
 use Rattle.sheets.specs.ClaimSheet.{floorOf, termPoint, coefficientOf, termsOf}

@@ -1,6 +1,6 @@
 // Targets: what the weights at a point are to add up to.
 use answers::searches::Found;
-use points::keys::key_of;
+use keys::keys::key_of;
 use points::points::Point;
 use points::points::keeps_sign;
 use sheets::claim_sheet::coefficient;
@@ -108,7 +108,8 @@ fn scaled(scale: u64, c: i64) -> i64
 
 // The target at a point.
 pub fn target_at(claim: &[u8], aim: Aim, p: Point) -> i64
-    requires { ⌜ (ClaimFacts (now claim) (variables (now claim)) (termCount (now claim))) × (AimWithin aim) × (Carried (variables (now claim)) (exponents p)) ⌝ }
+    requires { ⌜ (ClaimFacts (now claim) (variables (now claim)) (termCount (now claim))) × (AimWithin aim)
+        × (Carried (variables (now claim)) (exponents p)) ⌝ }
     ensures { λ r. ⌜ (r ≡ targetOf (now (claim .entry)) aim (exponents p)) × (natAbs r ≤ 2 ^ 51) ⌝ }
 {
     let n = variables(claim);

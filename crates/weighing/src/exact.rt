@@ -16,8 +16,11 @@ ghost use Rattle.weighing.specs.Exact.{AllWithin, weightsFor, exactProof
 
 // The shifted weights of every row, in bytes that have room for the proof.
 fn write_rows(claim: &[u8], proof: &[u8], aim: Aim, out: &mut [u8])
-    requires { ⌜ (CheckedSheets (now claim) (now proof) aim) × (AllWithin greatestWeight (targetOf (now claim) aim) (now proof)) × (length (now proof) ≤ length (now out)) ⌝ }
-    ensures { λ _. ⌜ now (out .exit) ≡ withRows (weightsFor (targetOf (now (claim .entry)) aim) (now (proof .entry))) (now (out .entry)) (shapeOf (now (proof .entry))) (rowCount (now (proof .entry))) ⌝ }
+    requires { ⌜ (CheckedSheets (now claim) (now proof) aim)
+        × (AllWithin greatestWeight (targetOf (now claim) aim) (now proof))
+        × (length (now proof) ≤ length (now out)) ⌝ }
+    ensures { λ _. ⌜ now (out .exit) ≡ withRows (weightsFor (targetOf (now (claim .entry)) aim) (now (proof .entry)))
+        (now (out .entry)) (shapeOf (now (proof .entry))) (rowCount (now (proof .entry))) ⌝ }
 {
     let shape = shape_of(proof);
     let mut i = 0;
@@ -31,8 +34,11 @@ fn write_rows(claim: &[u8], proof: &[u8], aim: Aim, out: &mut [u8])
 
 // The exact proof in the output's first bytes; the later ones keep their values.
 pub fn write_exact(claim: &[u8], proof: &[u8], aim: Aim, out: &mut [u8])
-    requires { ⌜ (CheckedSheets (now claim) (now proof) aim) × (AllWithin greatestWeight (targetOf (now claim) aim) (now proof)) × (length (now proof) ≤ length (now out)) ⌝ }
-    ensures { λ _. ⌜ now (out .exit) ≡ exactProof (targetOf (now (claim .entry)) aim) (now (proof .entry)) ++ drop (length (now (proof .entry))) (now (out .entry)) ⌝ }
+    requires { ⌜ (CheckedSheets (now claim) (now proof) aim)
+        × (AllWithin greatestWeight (targetOf (now claim) aim) (now proof))
+        × (length (now proof) ≤ length (now out)) ⌝ }
+    ensures { λ _. ⌜ now (out .exit) ≡ exactProof (targetOf (now (claim .entry)) aim) (now (proof .entry)) ++ drop
+        (length (now (proof .entry))) (now (out .entry)) ⌝ }
 {
     bytes::copy(proof, out);
     write_rows(claim, proof, aim, out);

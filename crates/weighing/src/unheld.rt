@@ -1,7 +1,7 @@
 // Check 16: a target that is not zero needs a slot.
 use answers::searches::Found;
 use integers::magnitudes::magnitude;
-use points::keys::key_of;
+use keys::keys::key_of;
 use points::points::Point;
 use sharing::slots::holds_key;
 use sheets::claim_sheet::term_count;
@@ -36,7 +36,8 @@ fn point_for(claim: &[u8], n: usize, t: usize, i: usize) -> Point
 
 // Whether the target at a point is zero.
 fn no_target(claim: &[u8], aim: Aim, p: Point) -> bool
-    requires { ⌜ (ClaimFacts (now claim) (variables (now claim)) (termCount (now claim))) × (AimWithin aim) × (Carried (variables (now claim)) (exponents p)) ⌝ }
+    requires { ⌜ (ClaimFacts (now claim) (variables (now claim)) (termCount (now claim))) × (AimWithin aim)
+        × (Carried (variables (now claim)) (exponents p)) ⌝ }
     ensures { λ r. ⌜ r ≡ eqb (natAbs (targetOf (now (claim .entry)) aim (exponents p))) 0 ⌝ }
 {
     magnitude(target_at(claim, aim, p)) == 0
@@ -45,7 +46,8 @@ fn no_target(claim: &[u8], aim: Aim, p: Point) -> bool
 // The first term whose target is not zero and that no row holds, then the constant.
 pub(crate) fn first_unheld(claim: &[u8], proof: &[u8], aim: Aim) -> Found
     requires { ⌜ CheckedSheets (now claim) (now proof) aim ⌝ }
-    ensures { λ r. ⌜ r ≡ first (unheld (targetOf (now (claim .entry)) aim) (now (claim .entry)) (now (proof .entry))) (suc (termCount (now (claim .entry)))) ⌝ }
+    ensures { λ r. ⌜ r ≡ first (unheld (targetOf (now (claim .entry)) aim) (now (claim .entry)) (now (proof .entry)))
+        (suc (termCount (now (claim .entry)))) ⌝ }
 {
     let n = variables(claim);
     let t = term_count(claim);

@@ -1,4 +1,5 @@
 pub mod Sheets
+pub mod Answers
 pub mod Checks
 pub mod Judging
 pub mod Evaluations

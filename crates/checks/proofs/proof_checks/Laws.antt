@@ -66,7 +66,8 @@ module _ (s : List ℕ) (sh : Shape) (i : ℕ) (v : Point) (ev : v ≡ pointOf (
     unfolding breaks
     v-high h = rw (← v-is, ← ea, h)
 
-    pub w-judged : a ≡ true → (w : Point) (b : Bool) → w ≡ pointOf (wOf s sh i) → b ≡ exponentsWithin limit (exponents w)
+    pub w-judged : a ≡ true → (w : Point) (b : Bool) → w ≡ pointOf (wOf s sh i)
+        → b ≡ exponentsWithin limit (exponents w)
         → not b ≡ breaks (Exponent limit) s sh i
     unfolding breaks
     w-judged h w b ew eb = rw (← v-is, ← ea, h, eb, ew, exponents-of (wOf s sh i))
@@ -116,7 +117,8 @@ module _ (limit : ℕ) (x : Triple) (p : ℤ) (a : Bool) (ep : p ≡ x .p) (ea :
     unfolding anyBeyond
     beyond-r g r d er ed = rw (← ep, ← ea, h, ← eq, ← eb, g, ed, er)
 
-pub weight-judged : (s : List ℕ) (sh : Shape) (i limit : ℕ) (rule : RowRule) (x : Triple) (r : Bool) → x ≡ tripleOf s sh i
+pub weight-judged : (s : List ℕ) (sh : Shape) (i limit : ℕ) (rule : RowRule) (x : Triple) (r : Bool)
+    → x ≡ tripleOf s sh i
     → r ≡ anyBeyond limit x → rule ≡ Weight limit → r ≡ breaks rule s sh i
 unfolding breaks
 weight-judged s sh i limit rule x r ex er e = er ∙ rw (e, ex)

@@ -318,6 +318,12 @@ bytes-split s at m n =
     table-split (λ i. getD s (at + i) 0) m n
     ∙ ap (_++_ (table (λ i. getD s (at + i) 0) m)) (table-same _ (λ i. getD s (at + m + i) 0) n (λ i l. rw (add-assoc at m i)))
 
+pub bytes-eight : (s : List ℕ) (at : ℕ) → bytesAt s at 8
+    ≡ getD s (at + 0) 0 ∷ getD s (at + 1) 0 ∷ getD s (at + 2) 0 ∷ getD s (at + 3) 0
+    ∷ getD s (at + 4) 0 ∷ getD s (at + 5) 0 ∷ getD s (at + 6) 0 ∷ getD s (at + 7) 0 ∷ []
+unfolding bytesAt table
+bytes-eight s at = refl
+
 pub exponents-of : (α : Exponents) → exponents (pointOf α) ≡ α
 unfolding exponents pointOf
 exponents-of α = take-append-seam α (replicate (8 - length α) 0)
@@ -346,6 +352,13 @@ keeps-more e α h =
 pub midpoint-none : (w : Exponents) → midpointOf [] w ≡ []
 unfolding midpointOf
 midpoint-none w = refl
+
+pub within-more : (limit a : ℕ) (α : Exponents) → exponentsWithin limit (a ∷ α) ≡ true
+    → (a ≤ limit) × (exponentsWithin limit α ≡ true)
+unfolding exponentsWithin every
+within-more limit a α h =
+    let q = and-eq-true-iff (leb a limit) (every (λ b. leb b limit) α) .0 h in
+    (leb-true a limit (q .0), q .1)
 
 module _ (a b : ℕ) (v w : Exponents) where
   pub midpoint-more : midpointOf (a ∷ v) (b ∷ w) ≡ (a + b) / 2 ∷ midpointOf v w

@@ -151,7 +151,8 @@ module _ (c s : List ℕ) (k : ℕ) where
         unfolding carries
         many-rows h = rw (long, ← en, le-leb n 8 few, lt-leb k 256 h)
 
-        pub rows-carried : k ≤ 256 → (l : ℕ) → l ≡ proofLength (record { n = n; k = k }) → leb l (length s) ≡ carries c s k
+        pub rows-carried : k ≤ 256 → (l : ℕ) → l ≡ proofLength (record { n = n; k = k })
+            → leb l (length s) ≡ carries c s k
         unfolding carries
         rows-carried h l el = rw (long, ← en, le-leb n 8 few, le-leb k 256 h, el)
 

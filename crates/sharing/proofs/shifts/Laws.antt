@@ -15,10 +15,10 @@ use Rattle.integers.specs.Division.{share}
 use Rattle.integers.proofs.Integers.{back, abs-add, abs-neg, fits-within}
 use Rattle.integers.proofs.division.Laws.{share-abs}
 use Rattle.points.specs.Points.{Exponents, exponents, pointOf, samePoint, midpointOf}
-use Rattle.points.specs.Keys.{keyOf}
+use Rattle.keys.specs.Keys.{keyOf}
 use Rattle.points.specs.declared.points.Point.{Point}
 use Rattle.points.proofs.points.Laws.{exponents-of, same-eq, same-refl}
-use Rattle.points.proofs.keys.Laws.{key-midpoint}
+use Rattle.keys.proofs.keys.Laws.{key-midpoint}
 use Rattle.squares.specs.Sums.{Sum}
 use Rattle.squares.specs.Rows.{slotsOf, slots}
 use Rattle.squares.specs.declared.rows.Weights.{Weights}
@@ -39,9 +39,9 @@ use Rattle.targets.specs.Carried.{Carried}
 use Rattle.targets.specs.declared.targets.Aim.{Aim}
 use Rattle.targets.proofs.Carried.{carried-same}
 use Rattle.targets.proofs.targets.Laws.{aim-within}
-use Rattle.sharing.specs.Sharing.{count, errorAt, shiftedWeight}
+use Rattle.sharing.specs.Sharing.{count, errorAt, shiftedWeight, rankOf}
 use Rattle.sharing.specs.Slots.{slotsTo, holdingOf}
-use Rattle.sharing.specs.Shifts.{CheckedSheets, IsRow, rankOf, slotsBefore, shiftedWeights, shiftRow, shiftedRow}
+use Rattle.sharing.specs.Shifts.{CheckedSheets, IsRow, slotsBefore, shiftedWeights, shiftRow, shiftedRow}
 use Rattle.sharing.specs.declared.slots.Holding.{Holding}
 use Rattle.sharing.proofs.Sharing.{count-nil, count-cons}
 use Rattle.sharing.proofs.slots.Laws.{all-slots, among, v-carried, w-carried, middle-carried, slots-are, tally-bound, tally-sum}
@@ -100,7 +100,8 @@ module _ (c s : List ℕ) (a : Aim) (given : CheckedSheets c s a) (sh : Shape) (
   pub row-here : (i : ℕ) → i < rowCount s → i < sh .k
   row-here i l = rw e l
 
-  module _ (i own : ℕ) (p : Point) (ranked : count (exponents p) (slotsBefore s i) + own < count (exponents p) (slots (rowsOf s))) where
+  module _ (i own : ℕ) (p : Point)
+      (ranked : count (exponents p) (slotsBefore s i) + own < count (exponents p) (slots (rowsOf s))) where
     pub ranked-here : count (exponents p) (slotsTo s sh i) + own < count (exponents p) (slotsTo s sh (sh .k))
     unfolding slotsBefore
     ranked-here = rw (all-slots s sh e, e) ranked
@@ -113,7 +114,8 @@ module _ (c s : List ℕ) (a : Aim) (given : CheckedSheets c s a) (sh : Shape) (
           let m = slots-are s sh f (sh .k) (omega arith) in
           let g = tally-bound (sh .n) (sh .k * 3) (keyOf (exponents p)) (slotsTo s sh (sh .k)) m .0 in
           let rows = f .rows in
-          let same = tally-sum (sh .n) (exponents p) (carried-here (exponents p) carried) (slotsTo s sh (sh .k)) (m .each) in
+          let here = carried-here (exponents p) carried in
+          let same = tally-sum (sh .n) (exponents p) here (slotsTo s sh (sh .k)) (m .each) in
           rw (eh, ← same) (omega (arith, g))
 
       pub held-some : 0 < h .count
@@ -122,7 +124,8 @@ module _ (c s : List ℕ) (a : Aim) (given : CheckedSheets c s a) (sh : Shape) (
 
       pub shifted-is : (x x′ z z′ r r′ : ℤ) → r ≡ x′ +ℤ share (z′ -ℤ h .sum) (h .count) (h .rank)
           → z ≡ targetOf c a (exponents p) → r′ ≡ r → z′ ≡ z → x′ ≡ x
-          → r′ ≡ shiftedWeight (targetOf c a) (slots (rowsOf s)) (count (exponents p) (slotsBefore s i) + own) (exponents p) x
+          → r′
+          ≡ shiftedWeight (targetOf c a) (slots (rowsOf s)) (count (exponents p) (slotsBefore s i) + own) (exponents p) x
       unfolding holdingOf slotsBefore shiftedWeight errorAt
       shifted-is x x′ z z′ r r′ er ez br bz bx = br ∙ er ∙ rw (bz, ez, bx, eh, all-slots s sh e, e)
 
@@ -181,13 +184,20 @@ module _ (c s : List ℕ) (t : Aim) (i : ℕ) (given : CheckedSheets c s t) (l :
   proof-here : ProofFacts s sh
   proof-here = given .proof
 
+  -- the weight x of the row's slot at p, shifted
+  abbrev shiftedAt : Point → ℤ → ℤ
+  shiftedAt p x =
+      shiftedWeight (targetOf c t) (slots (rowsOf s)) (count (exponents p) (slotsBefore s i) + 0) (exponents p) x
+
   -- a point of the row's own slots is held by more than the rows before
   abbrev Held : Exponents → Type 0
   Held γ = count γ (slotsBefore s i) + 0 < count γ (slots (rowsOf s))
 
   own-held : (γ : Exponents) (L : Sum) → slotsOf (rowOf s sh i) ≡ L → 0 < count γ L → Held γ
   unfolding slotsBefore
-  own-held γ L e h = rw (← (all-slots s sh refl)) (let g = among s sh i γ l in let k = rw (← e) at h in omega (arith, g, k))
+  own-held γ L e h =
+      let own = rw (← e) at h in
+      rw (← (all-slots s sh refl)) (omega (arith, among s sh i γ l, own))
 
   module _ (v w : Point) (a : Weights) (row : IsRow s i v w a) where
     v-is : exponents v ≡ α
@@ -223,7 +233,7 @@ module _ (c s : List ℕ) (t : Aim) (i : ℕ) (given : CheckedSheets c s t) (l :
           (rw (count-cons, same-refl) (omega arith))
 
       pub lone-shifted : (p′ x x′ : ℤ)
-          → x ≡ shiftedWeight (targetOf c t) (slots (rowsOf s)) (count (exponents v) (slotsBefore s i) + 0) (exponents v) p′
+          → x ≡ shiftedAt v p′
           → x′ ≡ x → p′ ≡ p → Lone x′ ≡ shiftedRow (targetOf c t) s i .weights
       unfolding shiftedRow shiftRow shiftedWeights
       lone-shifted p′ x x′ ex bx bp = rw (lone-row, row-v, rank-none, bx, ex, bp, v-is)
@@ -271,9 +281,9 @@ module _ (c s : List ℕ) (t : Aim) (i : ℕ) (given : CheckedSheets c s t) (l :
             (rw (u-is u eu, count-cons, mid-off-α, count-cons, mid-off-β, count-cons, same-refl) (omega arith))
 
         pub pair-shifted : (p′ q′ r′ x x′ y y′ z z′ : ℤ)
-            → x ≡ shiftedWeight (targetOf c t) (slots (rowsOf s)) (count (exponents v) (slotsBefore s i) + 0) (exponents v) p′
-            → y ≡ shiftedWeight (targetOf c t) (slots (rowsOf s)) (count (exponents w) (slotsBefore s i) + 0) (exponents w) q′
-            → z ≡ shiftedWeight (targetOf c t) (slots (rowsOf s)) (count (exponents u) (slotsBefore s i) + 0) (exponents u) r′
+            → x ≡ shiftedAt v p′
+            → y ≡ shiftedAt w q′
+            → z ≡ shiftedAt u r′
             → x′ ≡ x → y′ ≡ y → z′ ≡ z → p′ ≡ p → q′ ≡ q → r′ ≡ r
             → Pair x′ y′ z′ ≡ shiftedRow (targetOf c t) s i .weights
         unfolding shiftedRow shiftRow shiftedWeights

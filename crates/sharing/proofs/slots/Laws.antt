@@ -1,5 +1,5 @@
--- Laws of slots: those of one row more, how much they can weigh, the slots with a point's key are those at the point; and
--- the ways through the code.
+-- Laws of slots: those of one row more, how much they can weigh, the slots with a point's key are those at the point;
+-- and the ways through the code.
 use mathlib.Core.Path.{_≡_, refl, sym, _∙_, ap}
 use mathlib.Core.Bool.{Bool, true, false, cond, _||_}
 use mathlib.Core.List.{List, [], _∷_, _++_}
@@ -19,11 +19,11 @@ use Rattle.integers.specs.Words.{i32At}
 use Rattle.integers.proofs.Integers.{back, abs-add, fits-within}
 use Rattle.points.specs.Lists.{table, All}
 use Rattle.points.specs.Points.{Exponents, exponents, samePoint, midpointOf}
-use Rattle.points.specs.Keys.{keyOf}
+use Rattle.keys.specs.Keys.{keyOf}
 use Rattle.points.specs.declared.points.Point.{Point}
 use Rattle.points.proofs.Lists.{all-append}
 use Rattle.points.proofs.points.Laws.{same-eq, midpoint-sized, midpoint-within}
-use Rattle.points.proofs.keys.Laws.{key-midpoint}
+use Rattle.keys.proofs.keys.Laws.{key-midpoint}
 use Rattle.squares.specs.Sums.{Sum, coefficient}
 use Rattle.squares.specs.Rows.{slotsOf, slots}
 use Rattle.squares.proofs.Sums.{coefficient-nil, coefficient-cons}
@@ -126,7 +126,8 @@ module _ (s : List ℕ) (sh : Shape) (f : ProofFacts s sh) where
       go : (b : Bool) → samePoint (vOf s sh i) (wOf s sh i) ≡ b → Slots (sh .n) (i * 3) (slotsTo s sh i)
           → Slots (sh .n) (i * 3 + 3) (slotsTo s sh (suc i))
       go true e h =
-          rw (lone-slots s sh i e) (slots-append (sh .n) (i * 3) 3 _ _ h (record { short = omega arith; each = (p, tt) }))
+          rw (lone-slots s sh i e)
+          (slots-append (sh .n) (i * 3) 3 _ _ h (record { short = omega arith; each = (p, tt) }))
       go false e h =
           rw (pair-slots s sh i e)
           (slots-append (sh .n) (i * 3) 3 _ _ h (record { short = omega arith; each = (p, (q, (r, tt))) }))
@@ -283,7 +284,8 @@ module _ (s : List ℕ) (sh : Shape) (i : ℕ) (f : ProofFacts s sh) (l : i < sh
     some : (m : ℕ) → true ≡ ltb 0 (suc m)
     some m = sym (lt-ltb 0 (suc m) (omega arith))
 
-    any-held : (a b d : Bool) → a || b || d ≡ ltb 0 (cond a (suc (cond b (suc (cond d 1 0)) (cond d 1 0))) (cond b (suc (cond d 1 0)) (cond d 1 0)))
+    any-held : (a b d : Bool)
+        → a || b || d ≡ ltb 0 (cond a (suc (cond b (suc (cond d 1 0)) (cond d 1 0))) (cond b (suc (cond d 1 0)) (cond d 1 0)))
     any-held true b d = some (cond b (suc (cond d 1 0)) (cond d 1 0))
     any-held false true d = some (cond d 1 0)
     any-held false false true = refl
@@ -309,7 +311,8 @@ module _ (s : List ℕ) (sh : Shape) (i : ℕ) (f : ProofFacts s sh) (l : i < sh
         once false = refl
 
         go : (b : Bool) → samePoint (vOf s sh i) (wOf s sh i) ≡ b
-            → eqb (keyOf α) (keyOf (vOf s sh i)) || eqb (keyOf α) (keyOf (wOf s sh i)) || eqb (keyOf (vOf s sh i) + keyOf (wOf s sh i)) (keyOf α * 2)
+            → eqb (keyOf α) (keyOf (vOf s sh i)) || eqb (keyOf α) (keyOf (wOf s sh i))
+            || eqb (keyOf (vOf s sh i) + keyOf (wOf s sh i)) (keyOf α * 2)
             ≡ ltb 0 (count α own)
         go true e =
             let q = same-eq (vOf s sh i) (wOf s sh i) e in
@@ -339,72 +342,73 @@ keys-unheld s sh α f carried h = go (sh .k) (omega arith)
 
 -- ---- add_row: v and w are the keys of the row's ends
 
-module _ (s : List ℕ) (sh : Shape) (i : ℕ) (f : ProofFacts s sh) (l : i < sh .k) (at : ℕ) (ea : at ≡ tripleAt sh i) where
-  weights : Within greatestWeight (tripleOf s sh i)
-  weights = f .weights-within i l
+module _ (s : List ℕ) (sh : Shape) (i : ℕ) (f : ProofFacts s sh) (l : i < sh .k) (at : ℕ) (ea : at ≡ tripleAt sh i)
+  where
+    weights : Within greatestWeight (tripleOf s sh i)
+    weights = f .weights-within i l
 
-  inside : at + 12 ≤ length s
-  inside = triple-inside s sh i at (proof-room s sh f) l ea
+    inside : at + 12 ≤ length s
+    inside = triple-inside s sh i at (proof-room s sh f) l ea
 
-  pub p-inside : at + 4 ≤ length s
-  p-inside = omega (arith, inside)
+    pub p-inside : at + 4 ≤ length s
+    p-inside = omega (arith, inside)
 
-  pub q-inside : at + 4 + 4 ≤ length s
-  q-inside = omega (arith, inside)
+    pub q-inside : at + 4 + 4 ≤ length s
+    q-inside = omega (arith, inside)
 
-  pub r-inside : at + 8 + 4 ≤ length s
-  r-inside = omega (arith, inside)
+    pub r-inside : at + 8 + 4 ≤ length s
+    r-inside = omega (arith, inside)
 
-  pub p-within : natAbs (i32At s at) ≤ greatestWeight
-  p-within = rw (p-there s sh i at ea) (weights .p-within)
+    pub p-within : natAbs (i32At s at) ≤ greatestWeight
+    p-within = rw (p-there s sh i at ea) (weights .p-within)
 
-  pub q-within : natAbs (i32At s (at + 4)) ≤ greatestWeight
-  q-within = rw (q-there s sh i at ea) (weights .q-within)
+    pub q-within : natAbs (i32At s (at + 4)) ≤ greatestWeight
+    q-within = rw (q-there s sh i at ea) (weights .q-within)
 
-  pub r-within : natAbs (i32At s (at + 8)) ≤ greatestWeight
-  r-within = rw (r-there s sh i at ea) (weights .r-within)
+    pub r-within : natAbs (i32At s (at + 8)) ≤ greatestWeight
+    r-within = rw (r-there s sh i at ea) (weights .r-within)
 
-  module _ (key v w : ℕ) (ev : v ≡ keyOf (vOf s sh i)) (ew : w ≡ keyOf (wOf s sh i)) where
-    module _ (a b : Tally) (ha : a ≡ tallyOf key (slotsTo s sh i)) (hb : b ≡ added (eqb key v) (i32At s at) a) where
-      pub lone-added : v ≡ w → b ≡ tallyOf key (slotsTo s sh (i + 1))
-      unfolding tallyOf
-      lone-added e =
-          let row = lone-slots s sh i (sym (lone s sh i f l v w ev ew) ∙ eq-eqb v w e) in
-          hb ∙ rw (add-one, row, tally-append, tally-cons, tally-nil, ← ha, p-there s sh i at ea, ← ev)
+    module _ (key v w : ℕ) (ev : v ≡ keyOf (vOf s sh i)) (ew : w ≡ keyOf (wOf s sh i)) where
+      module _ (a b : Tally) (ha : a ≡ tallyOf key (slotsTo s sh i)) (hb : b ≡ added (eqb key v) (i32At s at) a) where
+        pub lone-added : v ≡ w → b ≡ tallyOf key (slotsTo s sh (i + 1))
+        unfolding tallyOf
+        lone-added e =
+            let row = lone-slots s sh i (sym (lone s sh i f l v w ev ew) ∙ eq-eqb v w e) in
+            hb ∙ rw (add-one, row, tally-append, tally-cons, tally-nil, ← ha, p-there s sh i at ea, ← ev)
 
-      pub pair-added : (c r : Tally) → c ≡ added (eqb key w) (i32At s (at + 4)) b
-          → r ≡ added (eqb (v + w) (key * 2)) (i32At s (at + 8)) c
-          → (v ≡ w → ⊥) → r ≡ tallyOf key (slotsTo s sh (i + 1))
-      unfolding tallyOf
-      pair-added c r hc hr e =
-          let row = pair-slots s sh i (sym (lone s sh i f l v w ev ew) ∙ ne-eqb v w e) in
-          hr ∙ rw (hc, hb, middle s sh i f l v w ev ew key, p-there s sh i at ea, q-there s sh i at ea, r-there s sh i at ea)
-          (sym (rw (add-one, row, tally-append, tally-cons, tally-cons, tally-cons, tally-nil, ← ha, ← ev, ← ew)))
+        pub pair-added : (c r : Tally) → c ≡ added (eqb key w) (i32At s (at + 4)) b
+            → r ≡ added (eqb (v + w) (key * 2)) (i32At s (at + 8)) c
+            → (v ≡ w → ⊥) → r ≡ tallyOf key (slotsTo s sh (i + 1))
+        unfolding tallyOf
+        pair-added c r hc hr e =
+            let row = pair-slots s sh i (sym (lone s sh i f l v w ev ew) ∙ ne-eqb v w e) in
+            hr ∙ rw (hc, hb, middle s sh i f l v w ev ew key, p-there s sh i at ea, q-there s sh i at ea, r-there s sh i at ea)
+            (sym (rw (add-one, row, tally-append, tally-cons, tally-cons, tally-cons, tally-nil, ← ha, ← ev, ← ew)))
 
-  -- the tallies before the row's first, second and third slot
-  module _ (key : ℕ) (a : Tally) (ha : a ≡ tallyOf key (slotsTo s sh i)) where
-    bound : (natAbs (a .sum) ≤ 2 ^ 41) × (a .count ≤ 768)
-    bound =
-        let g = tally-bound (sh .n) (i * 3) key (slotsTo s sh i) (slots-are s sh f i (omega arith)) in
-        let rows = f .rows in
-        rw ha (omega (arith, g .0), omega (arith, g .1))
+    -- the tallies before the row's first, second and third slot
+    module _ (key : ℕ) (a : Tally) (ha : a ≡ tallyOf key (slotsTo s sh i)) where
+      bound : (natAbs (a .sum) ≤ 2 ^ 41) × (a .count ≤ 768)
+      bound =
+          let g = tally-bound (sh .n) (i * 3) key (slotsTo s sh i) (slots-are s sh f i (omega arith)) in
+          let rows = f .rows in
+          rw ha (omega (arith, g .0), omega (arith, g .1))
 
-    pub small-first : Small a
-    small-first = record { sum-small = omega (arith, bound .0); count-small = omega (arith, bound .1) }
+      pub small-first : Small a
+      small-first = record { sum-small = omega (arith, bound .0); count-small = omega (arith, bound .1) }
 
-    module _ (t : Bool) (b : Tally) (hb : b ≡ added t (i32At s at) a) where
-      bound-b : (natAbs (b .sum) ≤ 2 ^ 41 + greatestWeight) × (b .count ≤ 769)
-      bound-b =
-          let g = added-bound t (i32At s at) a p-within in
-          rw hb (omega (arith, bound .0, g .0), omega (arith, bound .1, g .1))
+      module _ (t : Bool) (b : Tally) (hb : b ≡ added t (i32At s at) a) where
+        bound-b : (natAbs (b .sum) ≤ 2 ^ 41 + greatestWeight) × (b .count ≤ 769)
+        bound-b =
+            let g = added-bound t (i32At s at) a p-within in
+            rw hb (omega (arith, bound .0, g .0), omega (arith, bound .1, g .1))
 
-      pub small-second : Small b
-      small-second = record { sum-small = omega (arith, bound-b .0); count-small = omega (arith, bound-b .1) }
+        pub small-second : Small b
+        small-second = record { sum-small = omega (arith, bound-b .0); count-small = omega (arith, bound-b .1) }
 
-      pub small-third : (t₂ : Bool) (c : Tally) → c ≡ added t₂ (i32At s (at + 4)) b → Small c
-      small-third t₂ c hc =
-          let g = added-bound t₂ (i32At s (at + 4)) b q-within in
-          rw hc (record { sum-small = omega (arith, bound-b .0, g .0); count-small = omega (arith, bound-b .1, g .1) })
+        pub small-third : (t₂ : Bool) (c : Tally) → c ≡ added t₂ (i32At s (at + 4)) b → Small c
+        small-third t₂ c hc =
+            let g = added-bound t₂ (i32At s (at + 4)) b q-within in
+            rw hc (record { sum-small = omega (arith, bound-b .0, g .0); count-small = omega (arith, bound-b .1, g .1) })
 
 -- ---- scan and held
 
@@ -430,7 +434,8 @@ module _ (s : List ℕ) (sh : Shape) (f : ProofFacts s sh) (p : Point) (carried 
   module _ (i own : ℕ) (before all : Tally) (eb : before ≡ tallyOf key (slotsTo s sh i)) (l : i < sh .k) where
     pub rank-fits : count α (slotsTo s sh i) + own < count α (slotsTo s sh (sh .k)) → Fits w32 (before .count + own)
     rank-fits h =
-        let g = tally-bound (sh .n) (sh .k * 3) key (slotsTo s sh (sh .k)) (slots-are s sh f (sh .k) (omega arith)) .1 in
+        let m = slots-are s sh f (sh .k) (omega arith) in
+        let g = tally-bound (sh .n) (sh .k * 3) key (slotsTo s sh (sh .k)) m .1 in
         let rows = f .rows in
         rw eb (omega (arith, h, g, tallied i (omega arith), tallied (sh .k) (omega arith)))
 

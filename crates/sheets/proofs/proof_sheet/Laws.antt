@@ -44,17 +44,19 @@ module _ (s : List ℕ) (sh : Shape) (i from : ℕ) (room : ProofRoom s sh) (l :
   pub w-inside : from + sh .n + sh .n ≤ length s
   w-inside = omega (arith, mul-le-mul-right (2 * sh .n) l)
 
-module _ (sh : Shape) (i : ℕ) (few : sh .n ≤ 8) (rows : sh .k ≤ 256) (from : ℕ) (e : from ≡ place 8 (sh .k) (2 * sh .n)) where
-  pub rows-low : from ≤ 16777216
-  rows-low = omega (arith, mul-le-mul rows few)
+module _ (sh : Shape) (i : ℕ) (few : sh .n ≤ 8) (rows : sh .k ≤ 256) (from : ℕ) (e : from ≡ place 8 (sh .k) (2 * sh .n))
+  where
+    pub rows-low : from ≤ 16777216
+    rows-low = omega (arith, mul-le-mul rows few)
 
-  pub triple-low : (at : ℕ) → i < sh .k → at ≡ place from i 12 → at ≤ 7164
-  triple-low at l f = omega (arith, mul-le-mul rows few)
+    pub triple-low : (at : ℕ) → i < sh .k → at ≡ place from i 12 → at ≤ 7164
+    triple-low at l f = omega (arith, mul-le-mul rows few)
 
-  pub triple-here : (at : ℕ) → at ≡ place from i 12 → at ≡ tripleAt sh i
-  triple-here at f = rw (f, e)
+    pub triple-here : (at : ℕ) → at ≡ place from i 12 → at ≡ tripleAt sh i
+    triple-here at f = rw (f, e)
 
-pub triple-inside : (s : List ℕ) (sh : Shape) (i at : ℕ) → ProofRoom s sh → i < sh .k → at ≡ tripleAt sh i → at + 12 ≤ length s
+pub triple-inside : (s : List ℕ) (sh : Shape) (i at : ℕ) → ProofRoom s sh → i < sh .k → at ≡ tripleAt sh i
+    → at + 12 ≤ length s
 triple-inside s sh i at room l e = omega (arith, mul-le-mul-right 12 l)
 
 -- a prime marks a number as the machine reads it back
@@ -73,7 +75,8 @@ pub weights-pair : (lone : Bool) (x : Triple) (p q r : ℤ) → lone ≡ false �
 unfolding weightsOf
 weights-pair lone x p q r h ep eq er = rw (h, ep, eq, er)
 
-pub row-read : (s : List ℕ) (sh : Shape) (i : ℕ) (v w : Point) (lone : Bool) (x : Triple) (a : Weights) → v ≡ pointOf (vOf s sh i)
+pub row-read : (s : List ℕ) (sh : Shape) (i : ℕ) (v w : Point) (lone : Bool) (x : Triple) (a : Weights)
+    → v ≡ pointOf (vOf s sh i)
     → w ≡ pointOf (wOf s sh i) → lone ≡ samePoint (exponents v) (exponents w) → x ≡ tripleOf s sh i
     → a ≡ weightsOf lone x → record { v = v; w = w; weights = a } ≡ byValue (rowOf s sh i)
 unfolding byValue rowOf
@@ -164,17 +167,25 @@ module _ (s z : List ℕ) (sh : Shape) (same : (j : ℕ) → j < place 8 (sh .k)
   module _ (i : ℕ) (l : i < sh .k) where
     pub v-same : vOf s sh i ≡ vOf z sh i
     unfolding vOf
-    v-same = bytes-same s z (vAt sh i) (sh .n) (λ j m. same (vAt sh i + j) (omega (arith, mul-le-mul-right (2 * sh .n) l)))
+    v-same =
+        bytes-same s z (vAt sh i) (sh .n)
+        (λ j m. same (vAt sh i + j) (omega (arith, mul-le-mul-right (2 * sh .n) l)))
 
     pub w-same : wOf s sh i ≡ wOf z sh i
     unfolding wOf
-    w-same = bytes-same s z (wAt sh i) (sh .n) (λ j m. same (wAt sh i + j) (omega (arith, mul-le-mul-right (2 * sh .n) l)))
+    w-same =
+        bytes-same s z (wAt sh i) (sh .n)
+        (λ j m. same (wAt sh i + j) (omega (arith, mul-le-mul-right (2 * sh .n) l)))
 
 -- ---- rows by their index
 
 module _ (s : List ℕ) (sh : Shape) (i : ℕ) where
   pub row-is : rowOf s sh i
-      ≡ record { v = vOf s sh i; w = wOf s sh i; weights = weightsOf (samePoint (vOf s sh i) (wOf s sh i)) (tripleOf s sh i) }
+      ≡ record {
+        v = vOf s sh i;
+        w = wOf s sh i;
+        weights = weightsOf (samePoint (vOf s sh i) (wOf s sh i)) (tripleOf s sh i);
+      }
   unfolding rowOf
   row-is = refl
 
@@ -223,7 +234,8 @@ module _ (s : List ℕ) (sh : Shape) (i : ℕ) where
   w-length = bytes-length s (wAt sh i) (sh .n)
 
 -- a row has its two points, a pair with a whole midpoint
-pub row-placed : (s : List ℕ) (sh : Shape) (i : ℕ) → hasMidpoint (vOf s sh i) (wOf s sh i) ≡ true → Placed (sh .n) (rowOf s sh i)
+pub row-placed : (s : List ℕ) (sh : Shape) (i : ℕ) → hasMidpoint (vOf s sh i) (wOf s sh i) ≡ true
+    → Placed (sh .n) (rowOf s sh i)
 unfolding rowOf weightsOf
 row-placed s sh i h = record {
   v-length = v-length s sh i;

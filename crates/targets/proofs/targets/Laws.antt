@@ -18,7 +18,7 @@ use mir.Facts.{toZ-pos, toZ-ofZ}
 use Rattle.integers.proofs.Integers.{back, abs-add, abs-neg, abs-mul, fits-within, ltZ-true, ltZ-false}
 use Rattle.points.specs.Lists.{table}
 use Rattle.points.specs.Points.{Exponents, exponents, samePoint, keepsSign}
-use Rattle.points.specs.Keys.{keyOf}
+use Rattle.keys.specs.Keys.{keyOf}
 use Rattle.squares.specs.Sums.{Sum, coefficient}
 use Rattle.squares.specs.Targets.{lowered, worst, target}
 use Rattle.points.specs.declared.points.Point.{Point}
@@ -26,7 +26,7 @@ use Rattle.squares.proofs.Targets.{worst-kept, worst-negative, worst-positive, 
 use Rattle.points.proofs.Lists.{table-none, table-more}
 use Rattle.squares.proofs.Sums.{coefficient-nil, coefficient-cons, coefficient-append}
 use Rattle.points.proofs.points.Laws.{same-eq}
-use Rattle.points.proofs.keys.Laws.{key-zeros}
+use Rattle.keys.proofs.keys.Laws.{key-zeros}
 use Rattle.answers.specs.Bounds.{greatestWeight, greatestScale}
 use Rattle.sheets.specs.Layout.{variables, termCount}
 use Rattle.answers.specs.Searches.{first}
@@ -123,7 +123,8 @@ unfolding aimOf
 aim-is c s b b′ S eb eS e = rw (e, eb, eS)
 
 -- the aim of sheets with a floor and a scale in their bounds, and its targets
-pub aim-within : (c s : List ℕ) → natAbs (floorOf c) ≤ greatestWeight → scaleOf s ≤ greatestScale → AimWithin (aimOf c s)
+pub aim-within : (c s : List ℕ) → natAbs (floorOf c) ≤ greatestWeight → scaleOf s ≤ greatestScale
+    → AimWithin (aimOf c s)
 unfolding aimOf
 aim-within c s b S = record { floor = b; scale = S }
 

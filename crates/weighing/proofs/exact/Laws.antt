@@ -62,16 +62,17 @@ module _ (c s : List ℕ) (t : Aim) (given : CheckedSheets c s t) (sh : Shape) (
     pub length-kept : length out ≡ length out₀
     length-kept = rw e (all-length weights out₀ sh i)
 
-    module _ (row : Row) (a : Weights) (er : row ≡ byValue (shiftedRow (targetOf c t) s i)) (ea : a ≡ row .weights) where
-      weights-are : a ≡ weights i
-      unfolding weightsFor
-      weights-are = ea ∙ value-weights _ row er
+    module _ (row : Row) (a : Weights) (er : row ≡ byValue (shiftedRow (targetOf c t) s i)) (ea : a ≡ row .weights)
+      where
+        weights-are : a ≡ weights i
+        unfolding weightsFor
+        weights-are = ea ∙ value-weights _ row er
 
-      pub weights-narrow : AllWithin greatestWeight (targetOf c t) s → i < sh .k → Narrow (tripleFor a)
-      weights-narrow w l = rw weights-are (within-narrow _ (w .within i (rw es at l)))
+        pub weights-narrow : AllWithin greatestWeight (targetOf c t) s → i < sh .k → Narrow (tripleFor a)
+        weights-narrow w l = rw weights-are (within-narrow _ (w .within i (rw es at l)))
 
-      pub row-written : (out′ : List ℕ) → out′ ≡ withWeights out sh i a → out′ ≡ withRows weights out₀ sh (i + 1)
-      row-written out′ eo = eo ∙ rw (e, weights-are) (sym (all-more weights out₀ sh i))
+        pub row-written : (out′ : List ℕ) → out′ ≡ withWeights out sh i a → out′ ≡ withRows weights out₀ sh (i + 1)
+        row-written out′ eo = eo ∙ rw (e, weights-are) (sym (all-more weights out₀ sh i))
 
     pub rows-written : sh .k ≤ i → i ≤ sh .k → out ≡ withRows weights out₀ (shapeOf s) (rowCount s)
     rows-written l m = let q : i ≡ sh .k = omega arith in e ∙ rw (q, es)
@@ -133,7 +134,8 @@ module _ (τ : Exponents → ℤ) (s : List ℕ) where
 
 -- ---- where the proposed weights add up, they stay, and so does the proof
 
-module _ (τ : Exponents → ℤ) (s : List ℕ) (f : ProofFacts s (shapeOf s)) (adds : AddsUp (variables s) τ (slots (rowsOf s))) where
+module _ (τ : Exponents → ℤ) (s : List ℕ) (f : ProofFacts s (shapeOf s))
+    (adds : AddsUp (variables s) τ (slots (rowsOf s))) where
   same-weights : (i : ℕ) → weightsFor τ s i ≡ rowOf s (shapeOf s) i .weights
   unfolding weightsFor
   same-weights i = ap (λ (a : Formal.Row). a .weights) (row-stays τ s adds i)

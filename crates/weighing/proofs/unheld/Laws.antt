@@ -13,7 +13,7 @@ use Rattle.integers.proofs.Integers.{abs-zero}
 use Rattle.integers.proofs.words.Laws.{Bytes}
 use Rattle.points.specs.Lists.{All}
 use Rattle.points.specs.Points.{Exponents, exponents, pointOf, samePoint}
-use Rattle.points.specs.Keys.{keyOf}
+use Rattle.keys.specs.Keys.{keyOf}
 use Rattle.squares.specs.Sums.{coefficient}
 use Rattle.squares.specs.Rows.{slots}
 use Rattle.points.specs.declared.points.Point.{Point}

@@ -47,7 +47,7 @@ module _ (τ : Exponents → ℤ) (c s : List ℕ) (f : Found) (e : f ≡ first 
   unfolding weighedAnswer unheldAnswer
   weighed-judged v h ev = then-passed (Accepted 0) _ (passed-at _ f _ 16 _ e h (accepted-says 0)) 0 refl v _ ev
 
--- ---- 16 to 19 are passed exactly where the weights are within the limit, every row holds and they add up to the target
+-- ---- 16 to 19 are passed exactly where the weights are within the limit, every row holds, and they add up
 
 module _ (c s : List ℕ) (a : Aim) where
   abbrev τ : Exponents → ℤ

@@ -1,5 +1,5 @@
--- Laws of weights written back: no other byte changes, what is written reads back, and a sheet written back as it was is
--- the same; and the ways through the code.
+-- Laws of weights written back: no other byte changes, what is written reads back, and a sheet written back as it was
+-- is the same; and the ways through the code.
 use mathlib.Core.Path.{_≡_, refl, sym, _∙_, ap}
 use mathlib.Core.Bool.{Bool, true}
 use mathlib.Core.List.{List, _++_}
@@ -160,16 +160,18 @@ module _ (s : List ℕ) (sh : Shape) where
   lone i = samePoint (vOf s sh i) (wOf s sh i)
 
   -- a row's weights are written as they were, and a sheet whose rows all are is the same sheet
-  module _ (unused : (i : ℕ) → i < sh .k → lone i ≡ true → (tripleOf s sh i .q ≡ pos 0) × (tripleOf s sh i .r ≡ pos 0)) where
-    pub row-again : (i : ℕ) → i < sh .k → tripleFor (rowOf s sh i .weights) ≡ tripleOf s sh i
-    row-again i l = rw row-is (lone-again (lone i) (tripleOf s sh i) (unused i l))
+  module _ (unused : (i : ℕ) → i < sh .k → lone i ≡ true → (tripleOf s sh i .q ≡ pos 0) × (tripleOf s sh i .r ≡ pos 0))
+    where
+      pub row-again : (i : ℕ) → i < sh .k → tripleFor (rowOf s sh i .weights) ≡ tripleOf s sh i
+      row-again i l = rw row-is (lone-again (lone i) (tripleOf s sh i) (unused i l))
 
-    pub sheet-again : (weights : ℕ → Weights) → Bytes s → ((i : ℕ) → i < sh .k → weights i ≡ rowOf s sh i .weights)
-        → withRows weights s sh (sh .k) ≡ s
-    sheet-again weights b same = all-again weights s sh (sh .k) b (λ i l. ap tripleFor (same i l) ∙ row-again i l)
+      pub sheet-again : (weights : ℕ → Weights) → Bytes s → ((i : ℕ) → i < sh .k → weights i ≡ rowOf s sh i .weights)
+          → withRows weights s sh (sh .k) ≡ s
+      sheet-again weights b same = all-again weights s sh (sh .k) b (λ i l. ap tripleFor (same i l) ∙ row-again i l)
 
   -- what is written reads back as the same rows with those weights
-  module _ (weights : ℕ → Weights) (room : ProofRoom s sh) (narrow : (i : ℕ) → i < sh .k → Narrow (tripleFor (weights i)))
+  module _ (weights : ℕ → Weights) (room : ProofRoom s sh)
+      (narrow : (i : ℕ) → i < sh .k → Narrow (tripleFor (weights i)))
       (suits : (i : ℕ) → i < sh .k → Suits (lone i) (weights i)) where
     abbrev written : List ℕ
     written = withRows weights s sh (sh .k)

@@ -6,7 +6,7 @@ use mathlib.Core.Logic.{⊎-elim}
 use native.Mathlib.Omega.{arith}
 use lib.Dec.{eqb}
 use lib.IntN.{natAbs}
-use Rattle.points.specs.Keys.{keyOf}
+use Rattle.keys.specs.Keys.{keyOf}
 use Rattle.answers.specs.Searches.{first}
 use Rattle.answers.specs.declared.searches.Found.the-variants.{Nothing}
 use Rattle.answers.proofs.searches.Laws.{first-none, first-on}
@@ -19,7 +19,9 @@ use Rattle.weighing.proofs.unheld.first_unheld.Tie as tie
 
 abbrev Inv-loop : tie.InvT-loop
 Inv-loop claim proof aim n t shape i₀ key j₀ i j =
-    (i ≡ i₀) × (i ≤ t) × (j ≤ shape .k) × (key ≡ keyOf (pointFor claim n t i)) × (eqb (natAbs (targetOf claim aim (pointFor claim n t i))) 0 ≡ false) × (first (holdsKey proof shape key) j ≡ Nothing) × (first (unheld (targetOf claim aim) claim proof) i ≡ Nothing)
+    (i ≡ i₀) × (i ≤ t) × (j ≤ shape .k) × (key ≡ keyOf (pointFor claim n t i))
+    × (eqb (natAbs (targetOf claim aim (pointFor claim n t i))) 0 ≡ false) × (first (holdsKey proof shape key) j ≡ Nothing)
+    × (first (unheld (targetOf claim aim) claim proof) i ≡ Nothing)
 
 abbrev μ-loop : tie.MeasureT-loop
 μ-loop claim proof aim n t shape i₀ key j₀ i j = shape .k - j

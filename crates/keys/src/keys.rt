@@ -1,12 +1,12 @@
 // Keys: the exponents of a point as one number, so that two points are compared at once.
-use crate::points::Point;
 use integers::words::read_u32;
 use integers::words::wide;
+use points::points::Point;
 ghost use mathlib.Core.Path.{_≡_};
 ghost use Prim.Native.Nat.{_+_, _≤_};
 ghost use lib.ListN.{length};
 ghost use Rattle.points.specs.Points.{exponents, bytesAt};
-ghost use Rattle.points.specs.Keys.{keyOf};
+ghost use Rattle.keys.specs.Keys.{keyOf};
 
 // The key of eight bytes.
 fn eight_at(s: &[u8], at: usize) -> u64

@@ -1,7 +1,7 @@
-use Rattle.points.proofs.keys.Laws.{key-here}
+use Rattle.keys.proofs.keys.Laws.{key-here}
 use borrow.Author.Needs.{needs}
-use Rattle.points.proofs.keys.key_at.Statement.{statement}
-use Rattle.points.proofs.keys.key_at.Tie as tie
+use Rattle.keys.proofs.keys.key_at.Statement.{statement}
+use Rattle.keys.proofs.keys.key_at.Tie as tie
 
 add-eight-at : tie.Need-add-eight-at
 add-eight-at c = search needs

@@ -1,14 +1,14 @@
 -- Laws of keys: points with as many exponents are the same where their keys are, and a midpoint's key is half the sum.
 use mathlib.Core.Path.{_≡_, refl, sym, _∙_, ap, ap₂}
-use mathlib.Core.Bool.{Bool, true, false, and-eq-true-iff, false≢true}
+use mathlib.Core.Bool.{Bool, true, false, false≢true}
 use mathlib.Core.List.{List, [], _∷_, _++_}
-use Prim.Native.Nat.{ℕ, zero, suc, _+_, _*_, _-_, _/_, _%_, _^_, _<_, _≤_}
+use Prim.Native.Nat.{ℕ, zero, suc, _+_, _*_, _-_, _/_, _^_, _<_, _≤_}
 use native.Mathlib.Decide.{decLt}
 use native.Mathlib.Nat.{add-assoc, add-zero}
 use native.Mathlib.Omega.{arith}
 use lib.Arith.{digits-div}
-use borrow.Author.Tests.{leb-true, eqb-true, eq-eqb, ne-eqb}
-use lib.Dec.{eqb, leb}
+use borrow.Author.Tests.{eq-eqb, ne-eqb}
+use lib.Dec.{eqb}
 use lib.ListN.{length, getD, replicate, take, drop, length-take, drop-of-length-le, List·getD-eq-default}
 use mir.Syntax.{w64}
 use mir.Val.{Fits}
@@ -16,24 +16,19 @@ use lib.Seq.{drop-cons, getD-take}
 use lib.Pow.{pow-add, pow-pos, pow-mono}
 use Rattle.integers.specs.Words.{u32At}
 use Rattle.integers.proofs.words.Laws.{Bytes, u32-bytes}
-use Rattle.points.specs.Lists.{table}
-use Rattle.points.specs.Points.{Exponents, exponents, bytesAt, every, everyPair, samePoint, evenSum, hasMidpoint, midpointOf, exponentsWithin}
-use Rattle.points.specs.Keys.{keyOf}
+use Rattle.points.specs.Points.{Exponents, exponents, bytesAt, samePoint, hasMidpoint, midpointOf, exponentsWithin}
+use Rattle.keys.specs.Keys.{keyOf}
 use Rattle.points.specs.declared.points.Point.{Point}
-use Rattle.points.proofs.points.Laws.{exponents-counted, same-eq, same-refl, bytes-length, bytes-get, bytes-split}
+use Rattle.points.proofs.points.Laws.{exponents-counted, same-eq, same-refl, bytes-length, bytes-get, bytes-split, bytes-eight, within-more, midpoint-none, midpoint-more, whole-more, whole-sized}
 
 -- every exponent is below a bound
 abbrev pub Below : ℕ → Exponents → Type 0
 Below bound α = (i : ℕ) → getD α i 0 < bound
 
 pub within-below : (limit bound : ℕ) (α : Exponents) → limit < bound → exponentsWithin limit α ≡ true → Below bound α
-unfolding exponentsWithin every
 within-below limit bound [] h e i = omega arith
-within-below limit bound (a ∷ α) h e zero =
-    let q = and-eq-true-iff (leb a limit) (every (λ b. leb b limit) α) .0 e in
-    omega (arith, leb-true a limit (q .0))
-within-below limit bound (a ∷ α) h e (suc i) =
-    within-below limit bound α h (and-eq-true-iff (leb a limit) (every (λ b. leb b limit) α) .0 e .1) i
+within-below limit bound (a ∷ α) h e zero = omega (arith, within-more limit a α e .0)
+within-below limit bound (a ∷ α) h e (suc i) = within-below limit bound α h (within-more limit a α e .1) i
 
 key-cons : (a : ℕ) (α : Exponents) → keyOf (a ∷ α) ≡ a + keyOf α * 256
 unfolding keyOf
@@ -81,13 +76,13 @@ key-zeros (suc n) = omega (arith, key-zeros n)
 
 -- a midpoint's key is half the sum of its ends' keys
 pub key-midpoint : (v w : Exponents) → hasMidpoint v w ≡ true → keyOf v + keyOf w ≡ keyOf (midpointOf v w) * 2
-unfolding keyOf hasMidpoint everyPair evenSum midpointOf
-key-midpoint [] [] e = refl
-key-midpoint [] (b ∷ w) e = absurd (false≢true e)
-key-midpoint (a ∷ v) [] e = absurd (false≢true e)
+unfolding keyOf
+key-midpoint [] [] e = rw midpoint-none
+key-midpoint [] (b ∷ w) e = let l = whole-sized [] (b ∷ w) e in absurd (omega arith)
+key-midpoint (a ∷ v) [] e = let l = whole-sized (a ∷ v) [] e in absurd (omega arith)
 key-midpoint (a ∷ v) (b ∷ w) e =
-    let q = and-eq-true-iff (eqb ((a + b) % 2) 0) (everyPair evenSum v w) .0 e in
-    omega (arith, eqb-true ((a + b) % 2) 0 (q .0), key-midpoint v w (q .1))
+    let q = whole-more a b v w e in
+    rw midpoint-more (omega (arith, q .0, key-midpoint v w (q .1)))
 
 -- the keys of two points with low exponents have a sum of 64 bits
 key-half : (α : Exponents) → Below 128 α → keyOf α * 2 < 2 ^ (8 * length α)
@@ -102,9 +97,9 @@ key-low α l h = let e : 8 * length α ≤ 64 = omega arith in omega (arith, key
 
 pub eight-key : (s : List ℕ) (at low high : ℕ) → low ≡ u32At s at → high ≡ u32At s (at + 4)
     → low + high * 4294967296 ≡ keyOf (bytesAt s at 8)
-unfolding keyOf bytesAt table
+unfolding keyOf
 eight-key s at low high l h =
-    rw (l, h, u32-bytes s at, u32-bytes s (at + 4)) (simp (add-assoc, add-zero) (omega arith))
+    rw (l, h, u32-bytes s at, u32-bytes s (at + 4), bytes-eight) (simp (add-assoc, add-zero) (omega arith))
 
 bytes-small : (s : List ℕ) (at n : ℕ) → Bytes s → Below 256 (bytesAt s at n)
 bytes-small s at n b i = go (decLt i n)

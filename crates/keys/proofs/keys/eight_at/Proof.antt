@@ -1,7 +1,7 @@
-use Rattle.points.proofs.keys.Laws.{eight-key}
+use Rattle.keys.proofs.keys.Laws.{eight-key}
 use borrow.Author.Needs.{needs}
-use Rattle.points.proofs.keys.eight_at.Statement.{statement}
-use Rattle.points.proofs.keys.eight_at.Tie as tie
+use Rattle.keys.proofs.keys.eight_at.Statement.{statement}
+use Rattle.keys.proofs.keys.eight_at.Tie as tie
 
 read-u32-requires : tie.Need-read-u32-requires
 read-u32-requires c κs = search needs

@@ -2,9 +2,9 @@ use borrow.Author.Needs.{needs}
 use Prim.Native.Nat.{_≤_, _<_, _^_, _-_, _*_}
 use mathlib.Core.Path.{_≡_}
 use lib.ListN.{length}
-use Rattle.points.proofs.keys.Laws.{keyFrom, from-none, from-on, from-first, from-low, from-lower, times-fits, plus-fits}
-use Rattle.points.proofs.keys.key_of.Statement.{statement}
-use Rattle.points.proofs.keys.key_of.Tie as tie
+use Rattle.keys.proofs.keys.Laws.{keyFrom, from-none, from-on, from-first, from-low, from-lower, times-fits, plus-fits}
+use Rattle.keys.proofs.keys.key_of.Statement.{statement}
+use Rattle.keys.proofs.keys.key_of.Tie as tie
 
 abbrev Inv-loop : tie.InvT-loop
 Inv-loop x i₀ key₀ i key = (i ≤ i₀) × (i₀ ≤ 8) × (length x ≡ 8) × (key ≡ keyFrom x i₀ i) × (key < 2 ^ (8 * (8 - i)))

@@ -1,0 +1,2 @@
+// Points as one number each, so that two are compared at once.
+pub mod keys;
