@@ -7,7 +7,6 @@ use claims::claim_checks::check_claim;
 use sheets::layout::variables;
 use sheets::proof_sheet::shape_of;
 ghost use mathlib.Core.Path.{_≡_};
-ghost use lib.ListN.{length};
 ghost use Rattle.answers.specs.Answers.{says};
 ghost use Rattle.sheets.specs.Layout.{shapeOf, ProofRoom};
 ghost use Rattle.checks.specs.Input.{headAnswer, roomAnswer, bodyAnswer, inputAnswer};

@@ -1,6 +1,6 @@
 -- Laws of shifted rows, for the crates above: their slots are the shifted slots, so that the weights add up to the target
 -- at every held point and to 0 at any other; rows keep their points; and a proof whose weights add up stays as it is.
-use mathlib.Core.Path.{_≡_, refl, sym, _∙_, ap, ap₂}
+use mathlib.Core.Path.{_≡_, refl, sym, _∙_, ap₂}
 use mathlib.Core.Bool.{Bool, true, false}
 use mathlib.Core.List.{List, _++_, append-nil, append-assoc}
 use Prim.Native.Nat.{ℕ, _<_}
