@@ -33,7 +33,7 @@ fn moved(x: i64, target: i64, h: Holding) -> i64
     x + share(target - h.sum, h.count, h.rank)
 }
 
-// The weight x of a slot of row i at p, shifted; so many slots of the row are before it there.
+// The weight x of a slot of row i at p, shifted; `own` says how many of the row's own are before it there.
 fn shifted(claim: &[u8], proof: &[u8], aim: Aim, i: usize, own: u32, p: Point, x: i64) -> i64
     requires { ⌜ (CheckedSheets (now claim) (now proof) aim) × (i < rowCount (now proof))
         × (Carried (variables (now claim)) (exponents p)) × (natAbs x ≤ greatestWeight)

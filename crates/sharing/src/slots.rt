@@ -77,7 +77,7 @@ fn scan(proof: &[u8], shape: Shape, from: usize, to: usize, key: u64, a: Tally) 
     b
 }
 
-// What the slots at a point are, seen from one of row i that has so many of its own row's before it there.
+// The slots at a point, seen from one of row i; `own` says how many of the row's own are before it there.
 pub(crate) fn held(proof: &[u8], shape: Shape, i: usize, own: u32, p: Point) -> Holding
     requires { ⌜ (ProofFacts (now proof) shape) × (i < shape .k) × (Carried (shape .n) (exponents p))
         × (count (exponents p) (slotsTo (now proof) shape i) + own < count (exponents p) (slotsTo (now proof) shape (shape .k))) ⌝ }
