@@ -23,10 +23,10 @@ fn code(verdict: Verdict) -> u64
 // Checks a claim and its proof, and writes the exact proof into the output where they are accepted.
 #[no_mangle]
 pub extern "C" fn burmelox_check(claim: &[u8], proof: &[u8], output: &mut [u8]) -> u64
-    ensures code { λ r. ⌜ r ≡ codeOf
-        (checkAnswer (now (claim .entry)) (now (proof .entry)) (length (now (output .entry)))) ⌝ }
-    ensures written { λ r. ⌜ now (output .exit) ≡ outputOf (now (claim .entry)) (now (proof .entry))
-        (now (output .entry)) ⌝ }
+    ensures code { λ r. ⌜ r
+        ≡ codeOf (checkAnswer (now (claim .entry)) (now (proof .entry)) (length (now (output .entry)))) ⌝ }
+    ensures written { λ r. ⌜ now (output .exit)
+        ≡ outputOf (now (claim .entry)) (now (proof .entry)) (now (output .entry)) ⌝ }
 {
     code(check(claim, proof, output))
 }
@@ -35,8 +35,8 @@ pub extern "C" fn burmelox_check(claim: &[u8], proof: &[u8], output: &mut [u8]) 
 #[no_mangle]
 pub extern "C" fn burmelox_evaluate(claim: &[u8], offsets: &[i32], value: &mut i64) -> u64
     ensures code { λ r. ⌜ r ≡ toldCode (evaluationOf (now (claim .entry)) (now (offsets .entry))) ⌝ }
-    ensures written { λ r. ⌜ now (value .exit) ≡ toldValue (evaluationOf (now (claim .entry)) (now (offsets .entry)))
-        (now (value .entry)) ⌝ }
+    ensures written { λ r. ⌜ now (value .exit)
+        ≡ toldValue (evaluationOf (now (claim .entry)) (now (offsets .entry))) (now (value .entry)) ⌝ }
 {
     match evaluate(claim, offsets) {
         Evaluation::Refused(sheet) => code(Verdict::Refused(sheet)),

@@ -24,10 +24,10 @@ fn decide(claim: &[u8], proof: &[u8], room: usize) -> Verdict
 // Checks a claim and its proof. Where they are accepted the output's first bytes become the exact proof, and the later
 // ones keep their values; a refusal writes nothing.
 pub fn check(claim: &[u8], proof: &[u8], output: &mut [u8]) -> Verdict
-    ensures verdict { λ r. ⌜ says r ≡ checkAnswer (now (claim .entry)) (now (proof .entry))
-        (length (now (output .entry))) ⌝ }
-    ensures written { λ r. ⌜ now (output .exit) ≡ outputOf (now (claim .entry)) (now (proof .entry))
-        (now (output .entry)) ⌝ }
+    ensures verdict { λ r. ⌜ says r
+        ≡ checkAnswer (now (claim .entry)) (now (proof .entry)) (length (now (output .entry))) ⌝ }
+    ensures written { λ r. ⌜ now (output .exit)
+        ≡ outputOf (now (claim .entry)) (now (proof .entry)) (now (output .entry)) ⌝ }
     ensures decision { λ r. ⌜ Decides (now (claim .entry)) (now (proof .entry)) (now (output .entry)) r ⌝ }
     ensures floors { λ r. ⌜ Floors (now (claim .entry)) r ⌝ }
     ensures exact { λ r. ⌜ Keeps (now (claim .entry)) (now (proof .entry)) (now (output .entry)) r

@@ -37,8 +37,8 @@ fn row_text(proof: &[u8], shape: Shape, i: usize, out: &mut [u8], at: usize) -> 
 // The lines of all rows.
 fn rows_text(proof: &[u8], shape: Shape, out: &mut [u8], at: usize) -> usize
     requires { ⌜ (ProofRoom (now proof) shape) × (Room (now out) at (rowsText (now proof) shape (shape .k))) ⌝ }
-    ensures { λ r. ⌜ Written (now (out .entry)) at (rowsText (now (proof .entry)) shape (shape .k)) (now (out .exit))
-        r ⌝ }
+    ensures { λ r. ⌜ Written (now (out .entry)) at (rowsText (now (proof .entry)) shape (shape .k))
+        (now (out .exit)) r ⌝ }
 {
     let mut end = at;
     let mut i = 0;

@@ -80,7 +80,8 @@ fn scan(proof: &[u8], shape: Shape, from: usize, to: usize, key: u64, a: Tally) 
 // The slots at a point, seen from one of row i; `own` says how many of the row's own are before it there.
 pub(crate) fn held(proof: &[u8], shape: Shape, i: usize, own: u32, p: Point) -> Holding
     requires { ⌜ (ProofFacts (now proof) shape) × (i < shape .k) × (Carried (shape .n) (exponents p))
-        × (count (exponents p) (slotsTo (now proof) shape i) + own < count (exponents p) (slotsTo (now proof) shape (shape .k))) ⌝ }
+        × (count (exponents p) (slotsTo (now proof) shape i) + own
+        < count (exponents p) (slotsTo (now proof) shape (shape .k))) ⌝ }
     ensures { λ r. ⌜ r ≡ holdingOf (exponents p) (slotsTo (now (proof .entry)) shape (shape .k))
         (slotsTo (now (proof .entry)) shape i) own ⌝ }
 {

@@ -1,4 +1,4 @@
-// The claim sheet and the proof sheet: their fields, and weights written back.
+// The claim sheet and the proof sheet: their layout and their fields.
 pub mod claim_sheet;
 pub mod layout;
 pub mod proof_sheet;

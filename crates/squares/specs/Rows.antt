@@ -17,6 +17,7 @@ unfoldable pub slotsAt : Exponents → Exponents → Weights → Sum
 slotsAt v w (Pair p q r) = (v, p) ∷ (w, q) ∷ (midpointOf v w, r) ∷ []
 slotsAt v w (Lone p) = (v, p) ∷ []
 
+-- of one row, and of all
 abbrev pub slotsOf : Row → Sum
 slotsOf a = slotsAt (a .v) (a .w) (a .weights)
 

@@ -37,8 +37,8 @@ pub fn write_exact(claim: &[u8], proof: &[u8], aim: Aim, out: &mut [u8])
     requires { ⌜ (CheckedSheets (now claim) (now proof) aim)
         × (AllWithin greatestWeight (targetOf (now claim) aim) (now proof))
         × (length (now proof) ≤ length (now out)) ⌝ }
-    ensures { λ _. ⌜ now (out .exit) ≡ exactProof (targetOf (now (claim .entry)) aim) (now (proof .entry)) ++ drop
-        (length (now (proof .entry))) (now (out .entry)) ⌝ }
+    ensures { λ _. ⌜ now (out .exit) ≡ exactProof (targetOf (now (claim .entry)) aim) (now (proof .entry))
+        ++ drop (length (now (proof .entry))) (now (out .entry)) ⌝ }
 {
     bytes::copy(proof, out);
     write_rows(claim, proof, aim, out);

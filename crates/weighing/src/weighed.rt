@@ -25,8 +25,8 @@ ghost use Rattle.weighing.specs.Weighed.{weighedAnswer};
 // The number of row i's judgement.
 fn judged_number(claim: &[u8], proof: &[u8], aim: Aim, i: usize) -> u32
     requires { ⌜ (CheckedSheets (now claim) (now proof) aim) × (i < rowCount (now proof)) ⌝ }
-    ensures { λ r. ⌜ r ≡ judgedNumber greatestWeight
-        (shiftedRow (targetOf (now (claim .entry)) aim) (now (proof .entry))) i ⌝ }
+    ensures { λ r. ⌜ r
+        ≡ judgedNumber greatestWeight (shiftedRow (targetOf (now (claim .entry)) aim) (now (proof .entry))) i ⌝ }
 {
     number_of(judge(shifted_row(claim, proof, aim, i), GREATEST_WEIGHT))
 }
@@ -34,8 +34,8 @@ fn judged_number(claim: &[u8], proof: &[u8], aim: Aim, i: usize) -> u32
 // Every row judged, in one pass.
 fn judge_all(claim: &[u8], proof: &[u8], aim: Aim, k: usize) -> Firsts
     requires { ⌜ (CheckedSheets (now claim) (now proof) aim) × (k ≡ rowCount (now proof)) ⌝ }
-    ensures { λ r. ⌜ r ≡ firstsTo greatestWeight (shiftedRow (targetOf (now (claim .entry)) aim) (now (proof .entry)))
-        k ⌝ }
+    ensures { λ r. ⌜ r
+        ≡ firstsTo greatestWeight (shiftedRow (targetOf (now (claim .entry)) aim) (now (proof .entry))) k ⌝ }
 {
     let mut f = Firsts {
         beyond: Found::Nothing,
@@ -54,7 +54,8 @@ fn judge_all(claim: &[u8], proof: &[u8], aim: Aim, k: usize) -> Firsts
 fn check_judged(claim: &[u8], proof: &[u8], aim: Aim) -> Verdict
     requires { ⌜ CheckedSheets (now claim) (now proof) aim ⌝ }
     ensures { λ r. ⌜ says r ≡ judgedAnswer
-        (firstsTo greatestWeight (shiftedRow (targetOf (now (claim .entry)) aim) (now (proof .entry))) (rowCount (now (proof .entry))))
+        (firstsTo greatestWeight (shiftedRow (targetOf (now (claim .entry)) aim) (now (proof .entry)))
+        (rowCount (now (proof .entry))))
         (rowCount (now (proof .entry))) ⌝ }
 {
     let k = row_count(proof);
@@ -64,8 +65,8 @@ fn check_judged(claim: &[u8], proof: &[u8], aim: Aim) -> Verdict
 // The checks 16 to 19, for an aim.
 pub fn weigh(claim: &[u8], proof: &[u8], aim: Aim) -> Verdict
     requires { ⌜ CheckedSheets (now claim) (now proof) aim ⌝ }
-    ensures { λ r. ⌜ says r ≡ weighedAnswer (targetOf (now (claim .entry)) aim) (now (claim .entry))
-        (now (proof .entry)) ⌝ }
+    ensures { λ r. ⌜ says r
+        ≡ weighedAnswer (targetOf (now (claim .entry)) aim) (now (claim .entry)) (now (proof .entry)) ⌝ }
 {
     if let Found::At(i) = first_unheld(claim, proof, aim) {
         return Verdict::Refused(Sheet::Proof(16, i));

@@ -317,7 +317,8 @@ module _ (s : List ℕ) (sh : Shape) (i : ℕ) (f : ProofFacts s sh) (l : i < sh
         go true e =
             let q = same-eq (vOf s sh i) (wOf s sh i) e in
             let d : keyOf (wOf s sh i) + keyOf (wOf s sh i) ≡ keyOf (wOf s sh i) * 2 = omega arith in
-            rw (row-lone s sh i e, row-v, slots-lone, count-cons, count-nil, q, d, halved, w-at) (once (at (wOf s sh i)))
+            rw (row-lone s sh i e, row-v, slots-lone, count-cons, count-nil, q, d, halved, w-at)
+            (once (at (wOf s sh i)))
         go false e =
             rw (row-pair s sh i e, row-v, row-w, slots-pair, count-cons, count-cons, count-cons, count-nil, v-at, w-at, u-at)
             (any-held (at (vOf s sh i)) (at (wOf s sh i)) (at (midpointOf (vOf s sh i) (wOf s sh i))))

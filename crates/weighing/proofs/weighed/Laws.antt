@@ -86,4 +86,5 @@ module _ (c s : List ℕ) (a : Aim) where
   pub weighed-short : Bytes c → Bytes s → Short (weighedAnswer τ c s)
   unfolding weighedAnswer
   weighed-short bc bs =
-      short-then _ _ (unheld-short τ c s bc) (judged-short greatestWeight (shiftedRow τ s) (rowCount s) (rows-counted s bs))
+      short-then _ _ (unheld-short τ c s bc)
+      (judged-short greatestWeight (shiftedRow τ s) (rowCount s) (rows-counted s bs))
