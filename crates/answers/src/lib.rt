@@ -1,4 +1,3 @@
-// The answers that every check gives: verdicts with their numbers, the first offending index, and the greatest numbers.
+// The answers that every check gives: verdicts with their numbers, and the first offending index.
 pub mod answers;
-pub mod bounds;
 pub mod searches;

@@ -9,8 +9,8 @@ use lib.ListN.{length, getD}
 use Rattle.points.specs.Points.{samePoint, hasMidpoint, exponentsWithin}
 use Rattle.answers.specs.Answers.{Answer, accepted, refuseIf, refuseAt}
 use Rattle.answers.specs.Searches.{first}
-use Rattle.answers.specs.Bounds.{greatestExponent, greatestWeight, greatestRows, greatestScale, beyond}
-use Rattle.sheets.specs.Layout.{variables, rowCount, shapeOf, proofLength}
+use Rattle.bounds.specs.Bounds.{greatestExponent, greatestWeight, mostRows, greatestScale, beyond}
+use Rattle.sheets.specs.Layout.{variables, rowCount, shapeOf, proofLength, ProofRoom}
 use Rattle.sheets.specs.ProofSheet.{scaleOf, vOf, wOf, tripleOf}
 use Rattle.checks.specs.declared.proof_checks.RowRule.{RowRule}
 use Rattle.checks.specs.declared.proof_checks.RowRule.the-variants.{Exponent, Midpoint, Unused, Weight}
@@ -27,13 +27,13 @@ headerRight limit n s =
 unfoldable pub headerAnswer : ℕ → List ℕ → Answer
 headerAnswer n s =
     refuseIf (ltb (length s) 8) 8
-    (refuseIf (not (headerRight greatestRows n s)) 9
+    (refuseIf (not (headerRight mostRows n s)) 9
     (refuseIf (not (eqb (length s) (proofLength (shapeOf s)))) 10
     (accepted 0)))
 
 -- "q or r not zero"
-unfoldable pub carries : Triple → Bool
-carries x = not (eqb (natAbs (x .q)) 0) || not (eqb (natAbs (x .r)) 0)
+unfoldable pub qOrR : Triple → Bool
+qOrR x = not (eqb (natAbs (x .q)) 0) || not (eqb (natAbs (x .r)) 0)
 
 -- one of three numbers beyond ± a limit
 unfoldable pub anyBeyond : ℕ → Triple → Bool
@@ -45,7 +45,7 @@ unfoldable pub breaks : RowRule → List ℕ → Shape → ℕ → Bool
 breaks (Exponent limit) s shape i =
     not (exponentsWithin limit (vOf s shape i)) || not (exponentsWithin limit (wOf s shape i))
 breaks Midpoint s shape i = not (hasMidpoint (vOf s shape i) (wOf s shape i))
-breaks Unused s shape i = samePoint (vOf s shape i) (wOf s shape i) && carries (tripleOf s shape i)
+breaks Unused s shape i = samePoint (vOf s shape i) (wOf s shape i) && qOrR (tripleOf s shape i)
 breaks (Weight limit) s shape i = anyBeyond limit (tripleOf s shape i)
 
 -- 12 to 15
@@ -63,14 +63,17 @@ pub record Within (limit : ℕ) (x : Triple) : Type 0 where
   pub q-within : natAbs (x .q) ≤ limit
   pub r-within : natAbs (x .r) ≤ limit
 
--- a proof that passes 8 to 10 and 12 to 15, beside a claim that passes 1 to 7
-pub record ProofFacts (s : List ℕ) (shape : Shape) : Type 0 where
+-- a proof that passes 8 to 10, beside a claim that passes 1 to 7
+pub record HeaderFacts (s : List ℕ) (shape : Shape) : Type 0 where
   pub some : 1 ≤ shape .n
-  pub few : shape .n ≤ 8
-  pub rows : shape .k ≤ greatestRows
-  pub scaled : 1 ≤ scaleOf s
-  pub scale : scaleOf s ≤ greatestScale
+  pub room : ProofRoom s shape
   pub sized : length s ≡ proofLength shape
+  pub scale-positive : 1 ≤ scaleOf s
+  pub scale-within : scaleOf s ≤ greatestScale
+
+-- and 12 to 15 too
+pub record ProofFacts (s : List ℕ) (shape : Shape) : Type 0 where
+  pub header : HeaderFacts s shape
   pub v-within : (i : ℕ) → i < shape .k → exponentsWithin greatestExponent (vOf s shape i) ≡ true
   pub w-within : (i : ℕ) → i < shape .k → exponentsWithin greatestExponent (wOf s shape i) ≡ true
   pub whole : (i : ℕ) → i < shape .k → hasMidpoint (vOf s shape i) (wOf s shape i) ≡ true

@@ -1,12 +1,12 @@
 // Checks of the proof: refusals 8 to 10 of its header, and 12 to 15 of its rows.
 use answers::answers::Sheet;
 use answers::answers::Verdict;
-use answers::bounds::GREATEST_EXPONENT;
-use answers::bounds::GREATEST_ROWS;
-use answers::bounds::GREATEST_SCALE;
-use answers::bounds::GREATEST_WEIGHT;
-use answers::bounds::is_beyond;
 use answers::searches::Found;
+use bounds::bounds::GREATEST_EXPONENT;
+use bounds::bounds::GREATEST_SCALE;
+use bounds::bounds::GREATEST_WEIGHT;
+use bounds::bounds::MOST_ROWS;
+use bounds::bounds::is_beyond;
 use integers::magnitudes::magnitude;
 use points::points::exponents_within;
 use points::points::has_midpoint;
@@ -28,7 +28,7 @@ ghost use lib.ListN.{length};
 ghost use Rattle.answers.specs.Answers.{says};
 ghost use Rattle.answers.specs.Searches.{first};
 ghost use Rattle.sheets.specs.Layout.{ProofRoom};
-ghost use Rattle.checks.specs.ProofChecks.{headerRight, headerAnswer, carries, anyBeyond, breaks, rowsAnswer};
+ghost use Rattle.checks.specs.ProofChecks.{headerRight, headerAnswer, qOrR, anyBeyond, breaks, rowsAnswer};
 ghost use Rattle.checks.specs.declared.proof_checks.RowRule.the-variants.{Exponent, Midpoint, Unused, Weight};
 
 // What every row has to keep, with its limit.
@@ -71,7 +71,7 @@ pub fn check_header(proof: &[u8], n: usize) -> Verdict
     if proof.len() < 8 {
         return Verdict::Refused(Sheet::Proof(8, 0));
     }
-    if header_wrong(proof, n, GREATEST_ROWS) {
+    if header_wrong(proof, n, MOST_ROWS) {
         return Verdict::Refused(Sheet::Proof(9, 0));
     }
     if proof.len() != proof_length(shape_of(proof)) {
@@ -100,8 +100,8 @@ fn midpoint_wrong(proof: &[u8], shape: Shape, i: usize) -> bool
 }
 
 // Whether q or r is not zero.
-fn carries_more(x: Triple) -> bool
-    ensures { λ r. ⌜ r ≡ carries x ⌝ }
+fn q_or_r(x: Triple) -> bool
+    ensures { λ r. ⌜ r ≡ qOrR x ⌝ }
 {
     if magnitude(x.q) != 0 {
         return true;
@@ -115,7 +115,7 @@ fn unused_wrong(proof: &[u8], shape: Shape, i: usize) -> bool
     ensures { λ r. ⌜ r ≡ breaks Unused (now (proof .entry)) shape i ⌝ }
 {
     if same(row_v(proof, shape, i), row_w(proof, shape, i)) {
-        return carries_more(row_triple(proof, shape, i));
+        return q_or_r(row_triple(proof, shape, i));
     }
     false
 }

@@ -9,16 +9,19 @@ use lib.ListN.{length, getD}
 use Rattle.points.specs.Points.{risesTo, exponentsWithin}
 use Rattle.answers.specs.Answers.{Answer, accepted, refuseIf, refuseAt}
 use Rattle.answers.specs.Searches.{first}
-use Rattle.answers.specs.Bounds.{greatestExponent, greatestWeight, beyond}
-use Rattle.sheets.specs.Layout.{variables, termCount, claimLength}
+use Rattle.bounds.specs.Bounds.{greatestExponent, greatestWeight, beyond, mostVariables, mostTerms}
+use Rattle.sheets.specs.Layout.{variables, termCount, claimLength, ClaimRoom}
 use Rattle.sheets.specs.ClaimSheet.{floorOf, termPoint, coefficientOf}
 use Rattle.claims.specs.declared.claim_checks.TermRule.{TermRule}
 use Rattle.claims.specs.declared.claim_checks.TermRule.the-variants.{Coefficient, Exponent, Order}
 
--- "Byte 0: n, variables, 1 to 8. Byte 1: t, terms, 0 to 64. Bytes 2 and 3: zero"
+-- "Byte 0: n, variables, 1 to 8. Byte 1: t, terms, 0 to 64."
+unfoldable pub countsRight : List ℕ → Bool
+countsRight c = leb 1 (variables c) && leb (variables c) mostVariables && leb (termCount c) mostTerms
+
+-- "Bytes 2 and 3: zero"
 unfoldable pub headerRight : List ℕ → Bool
-headerRight c =
-    leb 1 (variables c) && leb (variables c) 8 && leb (termCount c) 64 && eqb (getD c 2 0) 0 && eqb (getD c 3 0) 0
+headerRight c = countsRight c && eqb (getD c 2 0) 0 && eqb (getD c 3 0) 0
 
 -- term i breaks a rule: "coefficient zero or beyond", "exponent over" the limit, "point not above the one before"
 unfoldable pub breaks : TermRule → List ℕ → ℕ → ℕ → ℕ → Bool
@@ -46,11 +49,9 @@ claimAnswer c =
 -- a claim of n variables and t terms that passes 1 to 7
 pub record ClaimFacts (c : List ℕ) (n t : ℕ) : Type 0 where
   pub some : 1 ≤ n
-  pub few : n ≤ 8
-  pub terms : t ≤ 64
+  pub room : ClaimRoom c n t
   pub sized : length c ≡ claimLength n t
   pub floor-within : natAbs (floorOf c) ≤ greatestWeight
-  pub nonzero : (i : ℕ) → i < t → 1 ≤ natAbs (coefficientOf c n t i)
   pub coefficient-within : (i : ℕ) → i < t → natAbs (coefficientOf c n t i) ≤ greatestWeight
   pub exponents-within : (i : ℕ) → i < t → exponentsWithin greatestExponent (termPoint c n i) ≡ true
   pub rising : (i : ℕ) → suc i < t → risesTo (termPoint c n i) (termPoint c n (suc i)) ≡ true

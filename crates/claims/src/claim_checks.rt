@@ -1,10 +1,12 @@
 // Checks of the claim: refusals 1 to 7.
 use answers::answers::Sheet;
 use answers::answers::Verdict;
-use answers::bounds::GREATEST_EXPONENT;
-use answers::bounds::GREATEST_WEIGHT;
-use answers::bounds::is_beyond;
 use answers::searches::Found;
+use bounds::bounds::GREATEST_EXPONENT;
+use bounds::bounds::GREATEST_WEIGHT;
+use bounds::bounds::MOST_TERMS;
+use bounds::bounds::MOST_VARIABLES;
+use bounds::bounds::is_beyond;
 use integers::magnitudes::magnitude;
 use points::points::exponents_within;
 use points::points::rises;
@@ -21,7 +23,7 @@ ghost use lib.ListN.{length};
 ghost use Rattle.answers.specs.Answers.{says};
 ghost use Rattle.answers.specs.Searches.{first};
 ghost use Rattle.sheets.specs.Layout.{ClaimRoom};
-ghost use Rattle.claims.specs.ClaimChecks.{headerRight, breaks, termsAnswer, claimAnswer};
+ghost use Rattle.claims.specs.ClaimChecks.{countsRight, headerRight, breaks, termsAnswer, claimAnswer};
 ghost use Rattle.claims.specs.declared.claim_checks.TermRule.the-variants.{Coefficient, Exponent, Order};
 
 // What every term has to keep, with its limit.
@@ -34,18 +36,27 @@ pub enum TermRule {
     Order,
 }
 
+// Whether n or t is wrong.
+fn counts_wrong(claim: &[u8]) -> bool
+    requires { ⌜ 8 ≤ length (now claim) ⌝ }
+    ensures { λ r. ⌜ r ≡ not (countsRight (now (claim .entry))) ⌝ }
+{
+    let n = variables(claim);
+    if n < 1 {
+        return true;
+    }
+    if MOST_VARIABLES < n {
+        return true;
+    }
+    MOST_TERMS < term_count(claim)
+}
+
 // 2: whether n, t or bytes 2 and 3 are wrong.
 pub fn header_wrong(claim: &[u8]) -> bool
     requires { ⌜ 8 ≤ length (now claim) ⌝ }
     ensures { λ r. ⌜ r ≡ not (headerRight (now (claim .entry))) ⌝ }
 {
-    if claim[0] < 1 {
-        return true;
-    }
-    if 8 < claim[0] {
-        return true;
-    }
-    if 64 < claim[1] {
+    if counts_wrong(claim) {
         return true;
     }
     if claim[2] != 0 {

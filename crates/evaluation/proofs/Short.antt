@@ -8,10 +8,10 @@ use Rattle.sheets.specs.Layout.{termCount}
 use Rattle.answers.specs.Answers.{Short}
 use Rattle.answers.proofs.Short.{short-accepted, short-if, short-at, short-then}
 use Rattle.claims.proofs.claim_checks.Facts.{claim-short}
-use Rattle.evaluation.specs.Evaluations.{largeAnswer, evaluationAnswer}
+use Rattle.evaluation.specs.Evaluations.{tooLargeAnswer, evaluationAnswer}
 
 pub evaluation-short : (c : List ℕ) (x : List ℤ) → Bytes c → Short (evaluationAnswer c x)
-unfolding evaluationAnswer largeAnswer
+unfolding evaluationAnswer tooLargeAnswer
 evaluation-short c x b =
     let t : termCount c ≤ 65536 = omega (arith, b 1) in
     short-then _ _ (claim-short c b)

@@ -2,7 +2,7 @@
 use mathlib.Core.Path.{_≡_}
 use mathlib.Core.Bool.{Bool, not, cond}
 use mathlib.Core.List.{List}
-use Prim.Native.Nat.{ℕ, _^_, _<_, _≤_}
+use Prim.Native.Nat.{ℕ, _<_, _≤_}
 use lib.Dec.{eqb}
 use lib.IntN.{ℤ, natAbs, _*ℤ_}
 use lib.ListN.{length}
@@ -13,7 +13,7 @@ use Rattle.squares.specs.Sums.{valueAt}
 use Rattle.sheets.specs.Layout.{variables, termCount}
 use Rattle.sheets.specs.ClaimSheet.{floorOf, termPoint, coefficientOf, termOf, termsOf}
 use Rattle.answers.specs.Answers.{Answer, accepted, says, refuseIf, refuseAt, blameless, andThen, Passes}
-use Rattle.answers.specs.Bounds.{beyond}
+use Rattle.bounds.specs.Bounds.{beyond, greatestValue}
 use Rattle.claims.specs.ClaimChecks.{claimAnswer}
 use Rattle.answers.specs.Searches.{first}
 use Rattle.answers.specs.declared.answers.Verdict.the-variants as Verdicts
@@ -41,23 +41,19 @@ toldBy answer z = cond (blameless answer) (value z) (refusal answer)
 unfoldable pub termValue : List ℕ → ℕ → ℕ → List ℤ → ℕ → ℤ
 termValue c n t x i = coefficientOf c n t i *ℤ monomialOf x (termPoint c n i)
 
--- "at most 2^56"
-abbrev pub greatestTerm : ℕ
-greatestTerm = 2 ^ 56
-
 -- 21: "a term over 2^56", and the first such term
-unfoldable pub large : List ℕ → ℕ → ℕ → List ℤ → ℕ → Bool
-large c n t x i = beyond greatestTerm (termValue c n t x i)
+unfoldable pub tooLarge : List ℕ → ℕ → ℕ → List ℤ → ℕ → Bool
+tooLarge c n t x i = beyond greatestValue (termValue c n t x i)
 
-unfoldable pub largeAnswer : List ℕ → ℕ → ℕ → List ℤ → Answer
-largeAnswer c n t x = refuseAt (first (large c n t x) t) 21 (accepted 0)
+unfoldable pub tooLargeAnswer : List ℕ → ℕ → ℕ → List ℤ → Answer
+tooLargeAnswer c n t x = refuseAt (first (tooLarge c n t x) t) 21 (accepted 0)
 
 -- the sum of the first i terms
 unfoldable pub sumTo : List ℕ → ℕ → ℕ → List ℤ → ℕ → ℤ
 sumTo c n t x i = valueAt x (table (termOf c n t) i)
 
 unfoldable pub summed : List ℕ → ℕ → ℕ → List ℤ → Told
-summed c n t x = toldBy (largeAnswer c n t x) (sumTo c n t x t)
+summed c n t x = toldBy (tooLargeAnswer c n t x) (sumTo c n t x t)
 
 -- ---- evaluation
 
@@ -66,7 +62,7 @@ unfoldable pub evaluationAnswer : List ℕ → List ℤ → Answer
 evaluationAnswer c x =
     andThen (claimAnswer c)
     (refuseIf (not (eqb (length x) (variables c))) 20
-    (largeAnswer c (variables c) (termCount c) x))
+    (tooLargeAnswer c (variables c) (termCount c) x))
 
 unfoldable pub evaluationOf : List ℕ → List ℤ → Told
 evaluationOf c x = toldBy (evaluationAnswer c x) (valueAt x (termsOf c))
@@ -78,7 +74,7 @@ evaluationOf c x = toldBy (evaluationAnswer c x) (valueAt x (termsOf c))
 pub record Evaluable (c : List ℕ) (x : List ℤ) : Type 0 where
   pub formed : Passes (claimAnswer c)
   pub counted : length x ≡ variables c
-  pub small : (i : ℕ) → i < termCount c → natAbs (termValue c (variables c) (termCount c) x i) ≤ greatestTerm
+  pub small : (i : ℕ) → i < termCount c → natAbs (termValue c (variables c) (termCount c) x i) ≤ greatestValue
 
 -- "The exact value of f is given if every term's exact absolute value is at most 2^56", and only then
 pub record Evaluates (c : List ℕ) (x : List ℤ) (r : Evaluation) : Type 0 where

@@ -10,13 +10,13 @@ use Rattle.squares.specs.declared.rows.Weights.the-variants.{Pair, Lone}
 use Rattle.sheets.specs.declared.proof_sheet.Triple.{Triple}
 use Rattle.answers.specs.Answers.{Answer, accepted, refuseAt}
 use Rattle.answers.specs.Searches.{first}
-use Rattle.answers.specs.Bounds.{beyond}
+use Rattle.bounds.specs.Bounds.{beyond}
 use Rattle.checks.specs.ProofChecks.{anyBeyond}
 use Rattle.answers.specs.declared.searches.Found.{Found}
 use Rattle.answers.specs.declared.searches.Found.the-variants.{At, Nothing}
 use Rattle.judgements.specs.declared.judgements.Firsts.{Firsts}
 use Rattle.judgements.specs.declared.judgements.Judgement.{Judgement}
-use Rattle.judgements.specs.declared.judgements.Judgement.the-variants.{Holds, Beyond, Negative, Large}
+use Rattle.judgements.specs.declared.judgements.Judgement.the-variants.{Holds, Beyond, Negative, Indefinite}
 
 -- ---- one row, by the first rule that it breaks
 
@@ -24,13 +24,13 @@ unfoldable pub negative : ℤ → Bool
 negative x = ltZ x (pos 0)
 
 -- "r × r over 4 × p × q"
-unfoldable pub large : Triple → Bool
-large x = ltZ (x .p *ℤ x .q *ℤ pos 4) (x .r *ℤ x .r)
+unfoldable pub indefinite : Triple → Bool
+indefinite x = ltZ (x .p *ℤ x .q *ℤ pos 4) (x .r *ℤ x .r)
 
 -- "Each shifted weight is within" the limit, "p and q are at least 0, and r × r is at most 4 × p × q"
 unfoldable pub judgePair : ℕ → Triple → Judgement
 judgePair limit x =
-    cond (anyBeyond limit x) Beyond (cond (negative (x .p) || negative (x .q)) Negative (cond (large x) Large Holds))
+    cond (anyBeyond limit x) Beyond (cond (negative (x .p) || negative (x .q)) Negative (cond (indefinite x) Indefinite Holds))
 
 -- the same of a lone row's one weight
 unfoldable pub judgeLone : ℕ → ℤ → Judgement
@@ -46,27 +46,24 @@ unfoldable pub numberOf : Judgement → ℕ
 numberOf Holds = 0
 numberOf Beyond = 17
 numberOf Negative = 18
-numberOf Large = 19
+numberOf Indefinite = 19
 
 -- ---- all rows, given by an index
 
-unfoldable pub judgedNumber : ℕ → (ℕ → Row) → ℕ → ℕ
-judgedNumber limit row i = numberOf (judgementOf limit (row i .weights))
-
 unfoldable pub judgedAs : ℕ → ℕ → (ℕ → Row) → ℕ → Bool
-judgedAs number limit row i = eqb (judgedNumber limit row i) number
+judgedAs number limit row i = eqb (numberOf (judgementOf limit (row i .weights))) number
 
 -- the first row of each judgement that refuses, of the first i rows
 unfoldable pub firstsTo : ℕ → (ℕ → Row) → ℕ → Firsts
 firstsTo limit row i = record {
   beyond = first (judgedAs 17 limit row) i;
   negative = first (judgedAs 18 limit row) i;
-  large = first (judgedAs 19 limit row) i;
+  indefinite = first (judgedAs 19 limit row) i;
 }
 
 -- 17 to 19, "each over all .. rows before the next"; "The verdict carries k"
 unfoldable pub judgedAnswer : Firsts → ℕ → Answer
-judgedAnswer f k = refuseAt (f .beyond) 17 (refuseAt (f .negative) 18 (refuseAt (f .large) 19 (accepted k)))
+judgedAnswer f k = refuseAt (f .beyond) 17 (refuseAt (f .negative) 18 (refuseAt (f .indefinite) 19 (accepted k)))
 
 -- ---- one row more, as the code goes over them
 
@@ -75,9 +72,9 @@ unfoldable pub kept : Found → Bool → ℕ → Found
 kept (At j) hit i = At j
 kept Nothing hit i = cond hit (At i) Nothing
 
-unfoldable pub noted : Firsts → ℕ → ℕ → Firsts
-noted f number i = record {
-  beyond = kept (f .beyond) (eqb number 17) i;
-  negative = kept (f .negative) (eqb number 18) i;
-  large = kept (f .large) (eqb number 19) i;
+unfoldable pub noted : Firsts → Judgement → ℕ → Firsts
+noted f j i = record {
+  beyond = kept (f .beyond) (eqb (numberOf j) 17) i;
+  negative = kept (f .negative) (eqb (numberOf j) 18) i;
+  indefinite = kept (f .indefinite) (eqb (numberOf j) 19) i;
 }

@@ -1,19 +1,20 @@
 // Judgements: a row by the first rule that it breaks, and 17 to 19 over all rows.
 use answers::answers::Sheet;
 use answers::answers::Verdict;
-use answers::bounds::is_beyond;
 use answers::searches::Found;
+use bounds::bounds::is_beyond;
 use checks::proof_checks::any_beyond;
 use sheets::proof_sheet::Row;
 use sheets::proof_sheet::Triple;
 use sheets::proof_sheet::triple_for;
 use squares::rows::Weights;
 ghost use mathlib.Core.Path.{_≡_};
+ghost use mathlib.Core.Bool.{true};
 ghost use Prim.Native.Nat.{_≤_};
 ghost use Rattle.answers.specs.Answers.{says};
-ghost use Rattle.answers.specs.Bounds.{greatestWeight};
+ghost use Rattle.bounds.specs.Bounds.{greatestWeight};
 ghost use Rattle.checks.specs.ProofChecks.{Within};
-ghost use Rattle.judgements.specs.Judgements.{negative, large, judgePair, judgeLone, judgementOf, numberOf, kept, noted, judgedAnswer};
+ghost use Rattle.judgements.specs.Judgements.{negative, indefinite, judgePair, judgeLone, judgementOf, kept, noted, judgedAnswer};
 
 // How a row is judged.
 pub enum Judgement {
@@ -23,14 +24,14 @@ pub enum Judgement {
     // 18: p or q is negative
     Negative,
     // 19: r × r is over 4 × p × q
-    Large,
+    Indefinite,
 }
 
 // The first row of each judgement that refuses.
 pub struct Firsts {
     pub beyond: Found,
     pub negative: Found,
-    pub large: Found,
+    pub indefinite: Found,
 }
 
 // Whether a weight is negative.
@@ -41,9 +42,9 @@ fn is_negative(x: i64) -> bool
 }
 
 // Whether r × r is over 4 × p × q.
-fn is_large(x: Triple) -> bool
+fn is_indefinite(x: Triple) -> bool
     requires { ⌜ Within greatestWeight x ⌝ }
-    ensures { λ o. ⌜ o ≡ large x ⌝ }
+    ensures { λ o. ⌜ o ≡ indefinite x ⌝ }
 {
     x.p * x.q * 4 < x.r * x.r
 }
@@ -62,8 +63,8 @@ fn judge_pair(x: Triple, limit: u64) -> Judgement
     if is_negative(x.q) {
         return Judgement::Negative;
     }
-    if is_large(x) {
-        return Judgement::Large;
+    if is_indefinite(x) {
+        return Judgement::Indefinite;
     }
     Judgement::Holds
 }
@@ -93,42 +94,40 @@ pub fn judge(row: Row, limit: u64) -> Judgement
     judge_pair(Triple { p, q, r }, limit)
 }
 
-// The number of a judgement, 0 where the row holds.
-pub fn number_of(j: Judgement) -> u32
-    ensures { λ r. ⌜ r ≡ numberOf j ⌝ }
-{
-    match j {
-        Judgement::Holds => 0,
-        Judgement::Beyond => 17,
-        Judgement::Negative => 18,
-        Judgement::Large => 19,
-    }
-}
-
-// What was found before, or else row i where it is hit.
-fn keep(found: Found, hit: bool, i: usize) -> Found
-    ensures { λ r. ⌜ r ≡ kept found hit i ⌝ }
+// What was found before, or else index i.
+fn keep(found: Found, i: usize) -> Found
+    ensures { λ r. ⌜ r ≡ kept found true i ⌝ }
 {
     let Found::Nothing = found else {
         return found;
     };
-    if hit {
-        return Found::At(i);
-    }
-    Found::Nothing
+    Found::At(i)
 }
 
-// One row more, by its number.
-pub fn note(f: Firsts, number: u32, i: usize) -> Firsts
-    ensures { λ r. ⌜ r ≡ noted f number i ⌝ }
+// One row more, by its judgement.
+pub fn note(f: Firsts, j: Judgement, i: usize) -> Firsts
+    ensures { λ r. ⌜ r ≡ noted f j i ⌝ }
 {
     let beyond = f.beyond;
     let negative = f.negative;
-    let large = f.large;
-    Firsts {
-        beyond: keep(beyond, number == 17, i),
-        negative: keep(negative, number == 18, i),
-        large: keep(large, number == 19, i),
+    let indefinite = f.indefinite;
+    match j {
+        Judgement::Holds => f,
+        Judgement::Beyond => Firsts {
+            beyond: keep(beyond, i),
+            negative,
+            indefinite,
+        },
+        Judgement::Negative => Firsts {
+            beyond,
+            negative: keep(negative, i),
+            indefinite,
+        },
+        Judgement::Indefinite => Firsts {
+            beyond,
+            negative,
+            indefinite: keep(indefinite, i),
+        },
     }
 }
 
@@ -144,8 +143,8 @@ pub fn chosen(f: Firsts, k: usize) -> Verdict
     if let Found::At(i) = negative {
         return Verdict::Refused(Sheet::Proof(18, i));
     }
-    let large = f.large;
-    if let Found::At(i) = large {
+    let indefinite = f.indefinite;
+    if let Found::At(i) = indefinite {
         return Verdict::Refused(Sheet::Proof(19, i));
     }
     Verdict::Accepted(k)

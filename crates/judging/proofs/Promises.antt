@@ -19,7 +19,7 @@ use Rattle.sheets.specs.ClaimSheet.{floorOf, termsOf}
 use Rattle.sheets.specs.ProofSheet.{scaleOf, rowsOf}
 use Rattle.sheets.proofs.claim_sheet.Laws.{terms-sized}
 use Rattle.answers.specs.Answers.{accepted, Passes, Short}
-use Rattle.answers.specs.Bounds.{greatestWeight}
+use Rattle.bounds.specs.Bounds.{greatestWeight}
 use Rattle.answers.proofs.answers.Laws.{passes-then, then-on, accepted-passes}
 use Rattle.answers.proofs.Short.{short-then}
 use Rattle.checks.specs.Input.{WellFormed}
@@ -77,7 +77,7 @@ module _ (c s : List ℕ) where
         let d = accepted-decomposes in
         floor (variables c) (scaleOf s) (floorOf c) (termsOf c) (shiftedRows τ s)
         (record {
-          scale = own .proof .scaled;
+          scale = own .proof .header .scale-positive;
           sized = terms-sized c;
           placed = rw (own .same) at (rows-stay-placed τ s (own .proof));
           hold = d .hold;

@@ -14,7 +14,7 @@ use Rattle.sheets.specs.Layout.{variables, rowCount}
 use Rattle.sheets.specs.ClaimSheet.{floorOf, termsOf}
 use Rattle.sheets.specs.ProofSheet.{rowsOf}
 use Rattle.answers.specs.Answers.{accepted, says}
-use Rattle.answers.specs.Bounds.{greatestWeight}
+use Rattle.bounds.specs.Bounds.{greatestWeight}
 use Rattle.checks.specs.Input.{WellFormed}
 use Rattle.answers.specs.declared.answers.Verdict.{Verdict}
 use Rattle.sharing.specs.Shifts.{shiftedRows}

@@ -7,6 +7,7 @@ ghost use Prim.Native.Nat.{_+_, _≤_};
 ghost use lib.ListN.{length};
 ghost use Rattle.points.specs.Points.{exponents, bytesAt};
 ghost use Rattle.keys.specs.Keys.{keyOf};
+ghost use Rattle.bounds.specs.Bounds.{mostVariables};
 
 // The key of eight bytes.
 fn eight_at(s: &[u8], at: usize) -> u64
@@ -18,7 +19,7 @@ fn eight_at(s: &[u8], at: usize) -> u64
 
 // The key of the n bytes from a place on. They are the highest of the eight bytes that end with them.
 pub fn key_at(s: &[u8], at: usize, n: usize) -> u64
-    requires { ⌜ (1 ≤ n) × (n ≤ 8) × (8 ≤ at + n) × (at + n ≤ length (now s)) ⌝ }
+    requires { ⌜ (1 ≤ n) × (n ≤ mostVariables) × (8 ≤ at + n) × (at + n ≤ length (now s)) ⌝ }
     ensures { λ r. ⌜ r ≡ keyOf (bytesAt (now (s .entry)) at n) ⌝ }
 {
     eight_at(s, at + n - 8) >> (64 - 8 * n)

@@ -1,13 +1,14 @@
--- Powers, monomials at whole numbers, and numbers of absolute value at most 2^56.
+-- Powers, monomials at whole numbers, and exact numbers up to the greatest value.
 use mathlib.Core.Bool.{cond}
 use mathlib.Core.List.{List, [], _∷_}
 use mathlib.Core.Path.{_≡_}
-use Prim.Native.Nat.{ℕ, zero, suc, _^_, _≤_, _<_}
+use Prim.Native.Nat.{ℕ, zero, suc, _≤_, _<_}
 use lib.Dec.{leb, eqb}
 use lib.IntN.{ℤ, pos, natAbs, _*ℤ_}
 use Rattle.points.specs.Points.{Exponents}
 use Rattle.monomials.specs.declared.powers.Bounded.{Bounded}
 use Rattle.monomials.specs.declared.powers.Bounded.the-variants.{Value, TooLarge}
+use Rattle.bounds.specs.Bounds.{greatestValue}
 
 -- "A power with exponent 0 is one, also at zero; otherwise it is the base times the power with exponent one less."
 unfoldable pub powerOf : ℤ → ℕ → ℤ
@@ -21,13 +22,13 @@ monomialOf [] (e ∷ α) = pos 1
 monomialOf (x ∷ xs) (e ∷ α) = powerOf x e *ℤ monomialOf xs α
 
 -- what each answer says of the exact number z: a value is z, "at most 2^56" in absolute value; too large is "over 2^56"
-abbrev pub Says : Bounded → ℤ → Type 0
-Says (Value x) z = (x ≡ z) × (natAbs z ≤ 2 ^ 56)
-Says TooLarge z = 2 ^ 56 < natAbs z
+abbrev pub Represents : Bounded → ℤ → Type 0
+Represents (Value x) z = (x ≡ z) × (natAbs z ≤ greatestValue)
+Represents TooLarge z = greatestValue < natAbs z
 
 -- the one answer that says so
 unfoldable pub within : ℤ → Bounded
-within z = cond (leb (natAbs z) (2 ^ 56)) (Value z) TooLarge
+within z = cond (leb (natAbs z) greatestValue) (Value z) TooLarge
 
 -- a number that is too large, times a factor: "A zero offset under a positive exponent makes its term zero"
 unfoldable pub largeTimes : Bounded → Bounded

@@ -1,2 +1,2 @@
-// Exact powers, monomials and terms of absolute value at most 2^56.
+// Exact powers, monomials and terms, up to the greatest value.
 pub mod powers;

@@ -1,4 +1,5 @@
-// Exact powers, monomials and terms of absolute value at most 2^56.
+// Exact powers, monomials and terms, up to the greatest value.
+use bounds::bounds::GREATEST_VALUE;
 use integers::magnitudes::magnitude;
 use points::points::Point;
 use points::points::fewer;
@@ -9,14 +10,11 @@ ghost use lib.ListN.{length, getD};
 ghost use Rattle.points.specs.Points.{exponents};
 ghost use Rattle.monomials.specs.Powers.{powerOf, monomialOf, within, largeTimes, productOf};
 
-// An exact number, or that its absolute value is over 2^56.
+// An exact number, or that its absolute value is over the greatest.
 pub enum Bounded {
     Value(i64),
     TooLarge,
 }
-
-// 2^56
-const LIMIT: u64 = 72057594037927936;
 
 // The exact product of two numbers.
 fn times(x: i64, y: i64) -> Bounded
@@ -27,7 +25,7 @@ fn times(x: i64, y: i64) -> Bounded
     if n == 0 {
         return Bounded::Value(0);
     }
-    if LIMIT / n < m {
+    if GREATEST_VALUE / n < m {
         return Bounded::TooLarge;
     }
     Bounded::Value(x * y)

@@ -4,6 +4,7 @@ use mathlib.Core.List.{List, [], _∷_, _++_}
 use Prim.Native.Nat.{ℕ, _+_, _-_, _/_, _%_}
 use lib.Dec.{eqb, ltb, leb}
 use lib.ListN.{length, getD, take, replicate}
+use Rattle.bounds.specs.Bounds.{mostVariables}
 use Rattle.points.specs.Lists.{table}
 use Rattle.points.specs.declared.points.Point.{Point}
 
@@ -16,7 +17,7 @@ exponents p = take (p .n) (p .exps)
 
 -- the point by value with given exponents, zeros after them
 unfoldable pub pointOf : Exponents → Point
-pointOf α = record { exps = α ++ replicate (8 - length α) 0; n = length α }
+pointOf α = record { exps = α ++ replicate (mostVariables - length α) 0; n = length α }
 
 -- "points, each of n exponent bytes": the n bytes from a place on
 unfoldable pub bytesAt : List ℕ → ℕ → ℕ → Exponents

@@ -1,22 +1,28 @@
 // Points by value: their exponents, order, midpoint and parity.
+use bounds::bounds::MOST_VARIABLES;
 ghost use mathlib.Core.Path.{_≡_};
 ghost use Prim.Native.Nat.{_+_, _/_, _<_, _≤_, min};
 ghost use lib.ListN.{length};
+ghost use Rattle.bounds.specs.Bounds.{mostVariables};
 ghost use Rattle.points.specs.Points.{exponents, pointOf, bytesAt, samePoint, risesTo, evenSum, hasMidpoint, midpointOf, keepsSign, exponentsWithin};
 
-// The exponents of n variables, in the first n places; a point has eight variables at most.
+// The exponents of n variables, in the first n places; no point has more variables than places.
 pub struct Point {
-    pub exps: [u8; 8],
+    pub exps: [u8; MOST_VARIABLES],
     pub n: usize,
 }
 
 impl Point {
     // How many exponents count.
     pub fn variables(self) -> usize
-        ensures { λ r. ⌜ (r ≡ length (exponents self)) × (r ≤ 8) ⌝ }
+        ensures { λ r. ⌜ (r ≡ length (exponents self)) × (r ≤ mostVariables) ⌝ }
     {
         let n = self.n;
-        if n < 8 { n } else { 8 }
+        if n < MOST_VARIABLES {
+            n
+        } else {
+            MOST_VARIABLES
+        }
     }
 }
 
@@ -29,10 +35,10 @@ pub fn fewer(m: usize, n: usize) -> usize
 
 // The point whose n exponents are the bytes from a place on.
 pub fn point_at(s: &[u8], at: usize, n: usize) -> Point
-    requires { ⌜ (n ≤ 8) × (at + n ≤ length (now s)) ⌝ }
+    requires { ⌜ (n ≤ mostVariables) × (at + n ≤ length (now s)) ⌝ }
     ensures { λ r. ⌜ r ≡ pointOf (bytesAt (now (s .entry)) at n) ⌝ }
 {
-    let mut exps = [0u8; 8];
+    let mut exps = [0u8; MOST_VARIABLES];
     let mut i = 0;
     while i < n {
         exps[i] = s[at + i];
@@ -124,7 +130,7 @@ pub fn midpoint(a: Point, b: Point) -> Point
     let n = fewer(a.variables(), b.variables());
     let x = a.exps;
     let y = b.exps;
-    let mut exps = [0u8; 8];
+    let mut exps = [0u8; MOST_VARIABLES];
     let mut i = 0;
     while i < n {
         exps[i] = half(x[i], y[i]);

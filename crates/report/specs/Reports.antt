@@ -10,7 +10,7 @@ use Rattle.sheets.specs.ProofSheet.{scaleOf, tripleOf}
 use Rattle.sheets.specs.declared.layout.Shape.{Shape}
 use Rattle.sheets.specs.declared.proof_sheet.Triple.{Triple}
 use Rattle.answers.specs.Answers.{Answer, blameless}
-use Rattle.answers.specs.Bounds.{greatestRows}
+use Rattle.bounds.specs.Bounds.{mostRows, mostVariables}
 use Rattle.text.specs.Text.{ascii}
 use Rattle.text.specs.Lines.{acceptedLine, rowLine, refusedLine}
 
@@ -46,14 +46,14 @@ unfoldable pub refusedText : ℕ → ℕ → List ℕ
 refusedText number index = ended (refusedLine number index)
 
 -- the sheets have what an acceptance of k rows prints: a floor, a scale and k rows
-unfoldable pub carries : List ℕ → List ℕ → ℕ → Bool
-carries c s k =
-    leb 8 (length c) && leb 8 (length s) && leb (variables s) 8 && leb k greatestRows
+unfoldable pub reportable : List ℕ → List ℕ → ℕ → Bool
+reportable c s k =
+    leb 8 (length c) && leb 8 (length s) && leb (variables s) mostVariables && leb k mostRows
     && leb (proofLength (shapeWith s k)) (length s)
 
 -- the report of what a verdict says; an acceptance that the sheets do not carry, which is no check's verdict, has none
 unfoldable pub reportText : List ℕ → List ℕ → Answer → List ℕ
 reportText c s answer =
     cond (blameless answer)
-    (cond (carries c s (answer .value)) (acceptedText c s (answer .value)) [])
+    (cond (reportable c s (answer .value)) (acceptedText c s (answer .value)) [])
     (refusedText (answer .number) (answer .value))

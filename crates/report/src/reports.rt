@@ -1,7 +1,8 @@
 // Reports: what the program prints for a verdict.
 use answers::answers::Verdict;
 use answers::answers::numbers_of;
-use answers::bounds::GREATEST_ROWS;
+use bounds::bounds::MOST_ROWS;
+use bounds::bounds::MOST_VARIABLES;
 use sheets::claim_sheet::floor;
 use sheets::layout::Shape;
 use sheets::layout::variables;
@@ -19,7 +20,7 @@ ghost use lib.ListN.{length};
 ghost use Rattle.sheets.specs.Layout.{ProofRoom};
 ghost use Rattle.answers.specs.Answers.{says};
 ghost use Rattle.text.specs.Text.{Room, Written};
-ghost use Rattle.report.specs.Reports.{rowText, rowsText, carries, firstText, acceptedText, refusedText, reportText};
+ghost use Rattle.report.specs.Reports.{rowText, rowsText, reportable, firstText, acceptedText, refusedText, reportText};
 
 // The longest report: 53 bytes for the first line, and 50 for each of 256 rows.
 pub const LONGEST: usize = 12853;
@@ -62,7 +63,7 @@ fn first_text(claim: &[u8], proof: &[u8], k: usize, out: &mut [u8], at: usize) -
 
 // All lines of an acceptance of k rows.
 fn accepted_text(claim: &[u8], proof: &[u8], k: usize, out: &mut [u8], at: usize) -> usize
-    requires { ⌜ (carries (now claim) (now proof) k ≡ true)
+    requires { ⌜ (reportable (now claim) (now proof) k ≡ true)
         × (Room (now out) at (acceptedText (now claim) (now proof) k)) ⌝ }
     ensures { λ r. ⌜ Written (now (out .entry)) at (acceptedText (now (claim .entry)) (now (proof .entry)) k)
         (now (out .exit)) r ⌝ }
@@ -89,8 +90,8 @@ fn refused_text(number: u32, index: usize, out: &mut [u8], at: usize) -> usize
 }
 
 // Whether the sheets have what an acceptance of k rows prints: a floor, a scale and k rows.
-fn carries(claim: &[u8], proof: &[u8], k: usize) -> bool
-    ensures { λ r. ⌜ r ≡ carries (now (claim .entry)) (now (proof .entry)) k ⌝ }
+fn reportable(claim: &[u8], proof: &[u8], k: usize) -> bool
+    ensures { λ r. ⌜ r ≡ reportable (now (claim .entry)) (now (proof .entry)) k ⌝ }
 {
     if claim.len() < 8 {
         return false;
@@ -99,10 +100,10 @@ fn carries(claim: &[u8], proof: &[u8], k: usize) -> bool
         return false;
     }
     let n = variables(proof);
-    if 8 < n {
+    if MOST_VARIABLES < n {
         return false;
     }
-    if GREATEST_ROWS < k {
+    if MOST_ROWS < k {
         return false;
     }
     proof_length(Shape { n, k }) <= proof.len()
@@ -118,7 +119,7 @@ pub fn report_text(claim: &[u8], proof: &[u8], verdict: Verdict, out: &mut [u8; 
         let said = numbers_of(verdict);
         return refused_text(said.number, said.value, out, 0);
     };
-    if carries(claim, proof, k) {
+    if reportable(claim, proof, k) {
         return accepted_text(claim, proof, k, out, 0);
     }
     0

@@ -47,10 +47,10 @@ pub count-here : (α : Exponents) (L : Sum) (t : Exponents × ℤ) → samePoint
     → count α (L ++ (t ∷ [])) ≡ suc (count α L)
 count-here α L t h = rw (count-append α L (t ∷ []), count-cons, count-nil, h) (omega arith)
 
-pub unheld : (α : Exponents) (L : Sum) → count α L ≡ 0 → coefficient α L ≡ pos 0
+pub coefficient-unheld : (α : Exponents) (L : Sum) → count α L ≡ 0 → coefficient α L ≡ pos 0
 unfolding count
-unheld α [] h = coefficient-nil α
-unheld α (t ∷ L) h = rw (coefficient-cons α t L) (go (samePoint α (t .0)) h (unheld α L))
+coefficient-unheld α [] h = coefficient-nil α
+coefficient-unheld α (t ∷ L) h = rw (coefficient-cons α t L) (go (samePoint α (t .0)) h (coefficient-unheld α L))
   where
     go : (b : Bool) → cond b (suc (count α L)) (count α L) ≡ 0 → (count α L ≡ 0 → coefficient α L ≡ pos 0)
         → cond b (t .1 +ℤ coefficient α L) (coefficient α L) ≡ pos 0
@@ -112,7 +112,7 @@ module _ (τ : Exponents → ℤ) (L : Sum) (α : Exponents) where
 
   pub shifted-unheld : count α L ≡ 0 → coefficient α (shiftedSlots τ L) ≡ pos 0
   unfolding shiftedSlots got
-  shifted-unheld h = from-adds [] L ∙ rw (h, shares-none, unheld α L h)
+  shifted-unheld h = from-adds [] L ∙ rw (h, shares-none, coefficient-unheld α L h)
 
 -- ---- weights that add up stay
 

@@ -52,6 +52,6 @@ pub record CheckedSheets (c s : List ℕ) (a : Aim) : Type 0 where
 
 -- two points by value and the weights that are row i's
 pub record IsRow (s : List ℕ) (i : ℕ) (v w : Point) (weights : Weights) : Type 0 where
-  pub first : v ≡ pointOf (vOf s (shapeOf s) i)
-  pub second : w ≡ pointOf (wOf s (shapeOf s) i)
-  pub carries : weights ≡ rowOf s (shapeOf s) i .weights
+  pub v-is : v ≡ pointOf (vOf s (shapeOf s) i)
+  pub w-is : w ≡ pointOf (wOf s (shapeOf s) i)
+  pub weights-are : weights ≡ rowOf s (shapeOf s) i .weights

@@ -1,37 +1,36 @@
 -- The slots of a proof sheet, and those at one point tallied.
-use mathlib.Core.Bool.{Bool, cond, _||_}
+use mathlib.Core.Bool.{Bool, cond}
+use mathlib.Core.Path.{_≡_}
 use mathlib.Core.List.{List, [], _∷_}
-use Prim.Native.Nat.{ℕ, _+_, _*_, _^_, _≤_}
-use lib.Dec.{eqb}
+use Prim.Native.Nat.{ℕ, _+_, _^_, _≤_}
+use lib.Dec.{eqb, ltb}
 use lib.IntN.{ℤ, pos, natAbs, _+ℤ_}
 use Rattle.points.specs.Lists.{table}
 use Rattle.points.specs.Points.{Exponents}
 use Rattle.keys.specs.Keys.{keyOf}
-use Rattle.squares.specs.Sums.{Sum, coefficient}
-use Rattle.squares.specs.Rows.{slots}
-use Rattle.sheets.specs.ProofSheet.{vOf, wOf, rowOf}
+use Rattle.squares.specs.Sums.{Sum}
+use Rattle.squares.specs.Rows.{slotsOf, slots}
+use Rattle.sheets.specs.ProofSheet.{rowOf}
 use Rattle.sheets.specs.declared.layout.Shape.{Shape}
 use Rattle.sharing.specs.Sharing.{count}
 use Rattle.sharing.specs.declared.slots.Holding.{Holding}
 use Rattle.sharing.specs.declared.slots.Tally.{Tally}
+use Rattle.targets.specs.Carried.{Carried}
 
 -- the slots of the first i rows
 unfoldable pub slotsTo : List ℕ → Shape → ℕ → Sum
 slotsTo s shape i = slots (table (rowOf s shape) i)
 
--- the sum of the weights at a point, its count of slots, and a slot's rank there: those before its row, and so many of
--- its own row
-unfoldable pub holdingOf : Exponents → Sum → Sum → ℕ → Holding
-holdingOf α L before own = record { sum = coefficient α L; count = count α L; rank = count α before + own }
+-- row i has a slot at a point
+unfoldable pub holdsPoint : List ℕ → Shape → Exponents → ℕ → Bool
+holdsPoint s shape α i = ltb 0 (count α (slotsOf (rowOf s shape i)))
 
--- ---- the same by keys, as the code counts: `tally-sum`, `tally-count`, `key-held` and `keys-unheld` of
--- proofs/slots/Laws.antt show that it is the same
+-- the answer that row i gives for a key: whether it has a slot at the point with that key
+pub record HoldsKey (s : List ℕ) (shape : Shape) (key i : ℕ) (answer : Bool) : Type 0 where
+  pub tells : (α : Exponents) → Carried (shape .n) α → key ≡ keyOf α → answer ≡ holdsPoint s shape α i
 
--- row i has a slot at the point with a key: v, w, or the midpoint, where twice the key is the sum of their keys
-unfoldable pub holdsKey : List ℕ → Shape → ℕ → ℕ → Bool
-holdsKey s shape key i =
-    eqb key (keyOf (vOf s shape i)) || eqb key (keyOf (wOf s shape i))
-    || eqb (keyOf (vOf s shape i) + keyOf (wOf s shape i)) (key * 2)
+-- ---- by keys, as the code counts: `held-at` of proofs/slots/Laws.antt shows that it is the sum, the count and the rank
+-- at the point with the key
 
 -- a tally that leaves room for more
 pub record Small (a : Tally) : Type 0 where
@@ -49,3 +48,11 @@ tallyFrom key a (t ∷ L) = tallyFrom key (added (eqb key (keyOf (t .0))) (t .1)
 
 unfoldable pub tallyOf : ℕ → Sum → Tally
 tallyOf key L = tallyFrom key (record { sum = pos 0; count = 0 }) L
+
+-- the tally of all slots L, and a slot's rank: those before its row, and so many of its own row
+unfoldable pub holdingOf : ℕ → Sum → Sum → ℕ → Holding
+holdingOf key L before own = record {
+  sum = tallyOf key L .sum;
+  count = tallyOf key L .count;
+  rank = tallyOf key before .count + own;
+}

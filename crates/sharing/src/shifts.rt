@@ -2,6 +2,7 @@
 use crate::slots::Holding;
 use crate::slots::held;
 use integers::division::share;
+use keys::keys::key_of;
 use points::points::Point;
 use points::points::midpoint;
 use sheets::proof_sheet::Row;
@@ -16,7 +17,7 @@ ghost use lib.IntN.{natAbs, _+ℤ_, _-ℤ_};
 ghost use Rattle.integers.specs.Division.{share};
 ghost use Rattle.points.specs.Points.{exponents};
 ghost use Rattle.squares.specs.Rows.{slots};
-ghost use Rattle.answers.specs.Bounds.{greatestWeight};
+ghost use Rattle.bounds.specs.Bounds.{greatestWeight};
 ghost use Rattle.sheets.specs.Layout.{variables, rowCount};
 ghost use Rattle.sheets.specs.ProofSheet.{rowsOf, byValue};
 ghost use Rattle.sharing.specs.Sharing.{count, shiftedWeight};
@@ -41,8 +42,9 @@ fn shifted(claim: &[u8], proof: &[u8], aim: Aim, i: usize, own: u32, p: Point, x
     ensures { λ r. ⌜ r ≡ shiftedWeight (targetOf (now (claim .entry)) aim) (slots (rowsOf (now (proof .entry))))
         (count (exponents p) (slotsBefore (now (proof .entry)) i) + own) (exponents p) x ⌝ }
 {
-    let h = held(proof, shape_of(proof), i, own, p);
-    moved(x, target_at(claim, aim, p), h)
+    let key = key_of(p);
+    let h = held(proof, shape_of(proof), i, own, key);
+    moved(x, target_at(claim, aim, p, key), h)
 }
 
 // The weights of row i, shifted; v and w are its points. A row holds a point at most once.

@@ -1,7 +1,5 @@
 // Slots of a proof sheet at one point, each time found by going over the rows.
 use integers::words::read_i32;
-use keys::keys::key_of;
-use points::points::Point;
 use sheets::layout::Shape;
 use sheets::proof_sheet::triple_place;
 use sheets::proof_sheet::v_key;
@@ -11,12 +9,9 @@ ghost use Prim.Native.Nat.{_+_, _^_, _<_, _≤_};
 ghost use lib.IntN.{natAbs};
 ghost use lib.ListN.{length};
 ghost use Rattle.integers.specs.Words.{i32At};
-ghost use Rattle.points.specs.Points.{exponents};
-ghost use Rattle.answers.specs.Bounds.{greatestWeight};
+ghost use Rattle.bounds.specs.Bounds.{greatestWeight};
 ghost use Rattle.checks.specs.ProofChecks.{ProofFacts};
-ghost use Rattle.targets.specs.Carried.{Carried};
-ghost use Rattle.sharing.specs.Sharing.{count};
-ghost use Rattle.sharing.specs.Slots.{Small, slotsTo, holdsKey, added, tallyOf, holdingOf};
+ghost use Rattle.sharing.specs.Slots.{Small, HoldsKey, slotsTo, added, tallyOf, holdingOf};
 
 // What the slots at a point weigh together, and how many they are.
 pub struct Tally {
@@ -77,15 +72,12 @@ fn scan(proof: &[u8], shape: Shape, from: usize, to: usize, key: u64, a: Tally) 
     b
 }
 
-// The slots at a point, seen from one of row i; `own` says how many of the row's own are before it there.
-pub(crate) fn held(proof: &[u8], shape: Shape, i: usize, own: u32, p: Point) -> Holding
-    requires { ⌜ (ProofFacts (now proof) shape) × (i < shape .k) × (Carried (shape .n) (exponents p))
-        × (count (exponents p) (slotsTo (now proof) shape i) + own
-        < count (exponents p) (slotsTo (now proof) shape (shape .k))) ⌝ }
-    ensures { λ r. ⌜ r ≡ holdingOf (exponents p) (slotsTo (now (proof .entry)) shape (shape .k))
+// The slots with a key, seen from one of row i; `own` says how many of the row's own are before it there.
+pub(crate) fn held(proof: &[u8], shape: Shape, i: usize, own: u32, key: u64) -> Holding
+    requires { ⌜ (ProofFacts (now proof) shape) × (i < shape .k) × (own < 65536) × (key < 2 ^ 63) ⌝ }
+    ensures { λ r. ⌜ r ≡ holdingOf key (slotsTo (now (proof .entry)) shape (shape .k))
         (slotsTo (now (proof .entry)) shape i) own ⌝ }
 {
-    let key = key_of(p);
     let before = scan(proof, shape, 0, i, key, Tally { sum: 0, count: 0 });
     let all = scan(proof, shape, i, shape.k, key, before);
     Holding {
@@ -98,7 +90,7 @@ pub(crate) fn held(proof: &[u8], shape: Shape, i: usize, own: u32, p: Point) -> 
 // Whether row i has a slot at the point with a key.
 pub fn holds_key(proof: &[u8], shape: Shape, i: usize, key: u64) -> bool
     requires { ⌜ (ProofFacts (now proof) shape) × (i < shape .k) × (key < 2 ^ 63) ⌝ }
-    ensures { λ r. ⌜ r ≡ holdsKey (now (proof .entry)) shape key i ⌝ }
+    ensures { λ r. ⌜ HoldsKey (now (proof .entry)) shape key i r ⌝ }
 {
     let v = v_key(proof, shape, i);
     let w = w_key(proof, shape, i);

@@ -3,6 +3,7 @@ use mathlib.Core.List.{List}
 use Prim.Native.Nat.{ℕ, _+_, _*_, _≤_}
 use lib.ListN.{length, getD}
 use Rattle.sheets.specs.declared.layout.Shape.{Shape}
+use Rattle.bounds.specs.Bounds.{mostVariables, mostTerms, mostRows}
 
 -- entries of one size stand one after another: where entry i begins
 abbrev pub place : ℕ → ℕ → ℕ → ℕ
@@ -54,11 +55,11 @@ proofLength shape = place 8 (shape .k) (2 * shape .n + 12)
 -- ---- bytes that have room for a sheet, as the functions that read or write its parts ask
 
 pub record ClaimRoom (c : List ℕ) (n t : ℕ) : Type 0 where
-  pub few : n ≤ 8
-  pub terms : t ≤ 64
+  pub few : n ≤ mostVariables
+  pub terms : t ≤ mostTerms
   pub long : claimLength n t ≤ length c
 
 pub record ProofRoom (s : List ℕ) (shape : Shape) : Type 0 where
-  pub few : shape .n ≤ 8
-  pub rows : shape .k ≤ 256
+  pub few : shape .n ≤ mostVariables
+  pub rows : shape .k ≤ mostRows
   pub long : proofLength shape ≤ length s

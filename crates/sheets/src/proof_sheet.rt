@@ -17,6 +17,7 @@ ghost use Rattle.points.specs.Points.{pointOf};
 ghost use Rattle.keys.specs.Keys.{keyOf};
 ghost use Rattle.sheets.specs.Layout.{rowCount, shapeOf, vAt, tripleAt, proofLength, ProofRoom};
 ghost use Rattle.sheets.specs.ProofSheet.{scaleOf, vOf, wOf, tripleOf, weightsOf, rowOf, byValue, tripleFor};
+ghost use Rattle.bounds.specs.Bounds.{mostVariables, mostRows};
 
 // A row's three numbers, as the sheet has them.
 pub struct Triple {
@@ -69,7 +70,7 @@ pub fn scale(proof: &[u8]) -> u64
 
 // Where the points of row i begin.
 fn row_place(shape: Shape, i: usize) -> usize
-    requires { ⌜ (shape .n ≤ 8) × (shape .k ≤ 256) × (i < shape .k) ⌝ }
+    requires { ⌜ (shape .n ≤ mostVariables) × (shape .k ≤ mostRows) × (i < shape .k) ⌝ }
     ensures { λ r. ⌜ (r ≡ vAt shape i) × (r ≤ 4088) ⌝ }
 {
     place_of(8, i, 2 * shape.n)
@@ -109,7 +110,7 @@ pub fn w_key(proof: &[u8], shape: Shape, i: usize) -> u64
 
 // Where the triple of row i begins.
 pub fn triple_place(shape: Shape, i: usize) -> usize
-    requires { ⌜ (shape .n ≤ 8) × (shape .k ≤ 256) × (i < shape .k) ⌝ }
+    requires { ⌜ (shape .n ≤ mostVariables) × (shape .k ≤ mostRows) × (i < shape .k) ⌝ }
     ensures { λ r. ⌜ (r ≡ tripleAt shape i) × (r ≤ 7164) ⌝ }
 {
     place_of(place_of(8, shape.k, 2 * shape.n), i, 12)

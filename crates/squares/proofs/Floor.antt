@@ -3,7 +3,7 @@
 use mathlib.Core.Path.{_≡_, sym, _∙_, ap}
 use mathlib.Core.Bool.{true}
 use mathlib.Core.List.{List}
-use Prim.Native.Nat.{ℕ, _*_, _<_}
+use Prim.Native.Nat.{ℕ, _<_}
 use native.Mathlib.Decide.{ℕ-discrete}
 use native.Mathlib.Omega.{arith}
 use lib.IntN.{ℤ, pos, negℤ, _+ℤ_, _*ℤ_}
@@ -24,7 +24,7 @@ use Rattle.points.proofs.points.Laws.{midpoint-sized}
 use Rattle.points.proofs.Lists.{all-map}
 use Rattle.squares.proofs.Targets.{worst-zero, worst-scaled, worst-below, target-zero}
 use Rattle.squares.proofs.Sums.{scaled, coefficient-scaled, value-scaled, dominate, coefficient-none}
-use Rattle.monomials.proofs.Monomials.{monomial-sign, monomial-mean, monomial-constant}
+use Rattle.monomials.proofs.powers.Laws.{monomial-sign, monomial-mean, monomial-constant}
 use Rattle.squares.proofs.Gathered.{gathered-all}
 use Rattle.squares.proofs.rows.Laws.{Mean, absolute, rows-nonneg}
 

@@ -1,8 +1,8 @@
 -- Laws of targets: the worst sign, and the coefficients of a polynomial lowered by its floor.
 use mathlib.Core.Path.{_≡_, refl}
 use mathlib.Core.Bool.{Bool, true, false}
-use Prim.Native.Nat.{ℕ, _*_}
-use lib.IntN.{ℤ, pos, negℤ, natAbs, _+ℤ_, _-ℤ_, _*ℤ_, *ℤ-zero, +ℤ-idl, +ℤ-comm}
+use Prim.Native.Nat.{ℕ}
+use lib.IntN.{ℤ, pos, negℤ, natAbs, _-ℤ_, _*ℤ_, *ℤ-zero, +ℤ-idl, +ℤ-comm}
 use lib.ListN.{replicate}
 use lib.Signed.{_≤ℤ_, _<ℤ_, ≤ℤ-refl}
 use Rattle.integers.proofs.Integers.{ring, ints, by-eq, sizes, negℤ-*ℤ, abs-mul, abs-nonneg, neg-abs-≤ℤ}

@@ -8,7 +8,7 @@ use Rattle.points.specs.Points.{Exponents, samePoint}
 use Rattle.keys.specs.Keys.{keyOf}
 use Rattle.points.proofs.points.Laws.{zeros-within}
 use Rattle.keys.proofs.keys.Laws.{Below, within-below, key-same, key-low}
-use Rattle.answers.specs.Bounds.{greatestExponent}
+use Rattle.bounds.specs.Bounds.{greatestExponent}
 use Rattle.sheets.specs.ClaimSheet.{termPoint}
 use Rattle.claims.specs.ClaimChecks.{ClaimFacts}
 use Rattle.sheets.proofs.claim_sheet.Laws.{point-length}

@@ -4,7 +4,7 @@ use mathlib.Core.Bool.{true}
 use Prim.Native.Nat.{ℕ}
 use lib.ListN.{length}
 use Rattle.points.specs.Points.{Exponents, exponentsWithin}
-use Rattle.answers.specs.Bounds.{greatestExponent}
+use Rattle.bounds.specs.Bounds.{greatestExponent}
 
 pub record Carried (n : ℕ) (α : Exponents) : Type 0 where
   pub sized : length α ≡ n

@@ -1,2 +1,2 @@
-pub mod Targets
 pub mod Carried
+pub mod Targets

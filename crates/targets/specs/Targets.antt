@@ -1,20 +1,23 @@
 -- Targets of a claim sheet, for any floor and scale.
 use mathlib.Core.Bool.{Bool, cond}
 use mathlib.Core.List.{List}
+use mathlib.Core.Path.{_≡_}
 use Prim.Native.Nat.{ℕ, _≤_}
 use lib.Dec.{eqb}
-use lib.IntN.{ℤ, pos, natAbs, _-ℤ_}
-use Rattle.points.specs.Points.{Exponents}
+use lib.IntN.{ℤ, pos, natAbs, _-ℤ_, _*ℤ_}
+use Rattle.points.specs.Points.{Exponents, keepsSign}
 use Rattle.keys.specs.Keys.{keyOf}
-use Rattle.squares.specs.Targets.{lowered, target}
-use Rattle.sheets.specs.Layout.{variables}
+use Rattle.squares.specs.Targets.{lowered, worst, target}
+use Rattle.sheets.specs.Layout.{variables, termCount}
 use Rattle.sheets.specs.ClaimSheet.{floorOf, termPoint, coefficientOf, termsOf}
 use Rattle.sheets.specs.ProofSheet.{scaleOf}
-use Rattle.answers.specs.Bounds.{greatestWeight, greatestScale}
+use Rattle.bounds.specs.Bounds.{greatestWeight, greatestScale}
 use Rattle.answers.specs.Searches.{first}
 use Rattle.answers.specs.declared.searches.Found.{Found}
 use Rattle.answers.specs.declared.searches.Found.the-variants.{At, Nothing}
 use Rattle.targets.specs.declared.targets.Aim.{Aim}
+use Rattle.claims.specs.ClaimChecks.{ClaimFacts}
+use Rattle.targets.specs.Carried.{Carried}
 
 -- a floor and a scale that the sheets can hold
 pub record AimWithin (a : Aim) : Type 0 where
@@ -29,21 +32,31 @@ aimOf c s = record { floor = floorOf c; scale = scaleOf s }
 unfoldable pub targetOf : List ℕ → Aim → Exponents → ℤ
 targetOf c a α = target (a .scale) (lowered (variables c) (a .floor) (termsOf c)) α
 
--- ---- by keys, as the code finds it: `at-point` of proofs/targets/Laws.antt shows that it is the coefficient of g
+-- a point that sheets can hold, with its key, beside a claim that passes 1 to 7
+pub record Targeted (c : List ℕ) (a : Aim) (α : Exponents) (key : ℕ) : Type 0 where
+  pub claim : ClaimFacts c (variables c) (termCount c)
+  pub aim : AimWithin a
+  pub point : Carried (variables c) α
+  pub keyed : key ≡ keyOf α
+
+-- ---- by keys, as the code finds it: `target-here` of proofs/targets/Steps.antt shows that it is the target
 
 -- whether term i has a key
 unfoldable pub hasKey : List ℕ → ℕ → ℕ → ℕ → Bool
 hasKey c n key i = eqb key (keyOf (termPoint c n i))
-
--- a coefficient, with the floor taken from it where it is the constant's
-unfoldable pub loweredBy : Aim → ℕ → ℤ → ℤ
-loweredBy a key x = cond (eqb key 0) (x -ℤ a .floor) x
 
 -- the coefficient of the term that was found, 0 where none was
 unfoldable pub foundAt : List ℕ → ℕ → ℕ → Found → ℤ
 foundAt c n t (At i) = coefficientOf c n t i
 foundAt c n t Nothing = pos 0
 
--- the coefficient at a key, with the floor taken from the constant
-unfoldable pub loweredAt : List ℕ → ℕ → ℕ → Aim → ℕ → ℤ
-loweredAt c n t a key = loweredBy a key (foundAt c n t (first (hasKey c n key) t))
+unfoldable pub coefficientWith : List ℕ → ℕ → ℕ → ℕ → ℤ
+coefficientWith c n t key = foundAt c n t (first (hasKey c n key) t)
+
+-- a coefficient, with the floor taken from it where it is the constant's
+unfoldable pub loweredBy : Aim → ℕ → ℤ → ℤ
+loweredBy a key x = cond (eqb key 0) (x -ℤ a .floor) x
+
+-- the target at a point, by its key and its coefficient
+unfoldable pub targetWith : Aim → Exponents → ℕ → ℤ → ℤ
+targetWith a α key x = pos (a .scale) *ℤ worst (keepsSign α) (loweredBy a key x)

@@ -1,6 +1,5 @@
 // Targets: what the weights at a point are to add up to.
 use answers::searches::Found;
-use keys::keys::key_of;
 use points::points::Point;
 use points::points::keeps_sign;
 use sheets::claim_sheet::coefficient;
@@ -15,12 +14,12 @@ ghost use lib.IntN.{pos, natAbs, _*ℤ_};
 ghost use lib.ListN.{length};
 ghost use Rattle.points.specs.Points.{exponents};
 ghost use Rattle.squares.specs.Targets.{worst};
-ghost use Rattle.answers.specs.Bounds.{greatestWeight, greatestScale};
+ghost use Rattle.bounds.specs.Bounds.{greatestWeight, greatestScale};
 ghost use Rattle.sheets.specs.Layout.{variables, termCount};
+ghost use Rattle.sheets.specs.ClaimSheet.{termPoint};
 ghost use Rattle.answers.specs.Searches.{first};
 ghost use Rattle.claims.specs.ClaimChecks.{ClaimFacts};
-ghost use Rattle.targets.specs.Targets.{aimOf, AimWithin, targetOf, hasKey, loweredBy, loweredAt};
-ghost use Rattle.targets.specs.Carried.{Carried};
+ghost use Rattle.targets.specs.Targets.{aimOf, AimWithin, Targeted, targetOf, hasKey, coefficientWith, loweredBy, targetWith};
 
 // What the weights are to aim at: the floor, and the scale.
 pub struct Aim {
@@ -62,6 +61,17 @@ fn find_term(claim: &[u8], n: usize, t: usize, key: u64) -> Found
     Found::Nothing
 }
 
+// The coefficient of the term that has a key, 0 where there is none.
+fn coefficient_at(claim: &[u8], n: usize, t: usize, key: u64) -> i64
+    requires { ⌜ ClaimFacts (now claim) n t ⌝ }
+    ensures { λ r. ⌜ (r ≡ coefficientWith (now (claim .entry)) n t key) × (natAbs r ≤ greatestWeight) ⌝ }
+{
+    let Found::At(i) = find_term(claim, n, t, key) else {
+        return 0;
+    };
+    coefficient(claim, n, t, i)
+}
+
 // A coefficient, less the floor where it is the constant's.
 fn lowered_by(c: i64, aim: Aim, key: u64) -> i64
     requires { ⌜ (natAbs c ≤ greatestWeight) × (AimWithin aim) ⌝ }
@@ -71,17 +81,6 @@ fn lowered_by(c: i64, aim: Aim, key: u64) -> i64
         return c - aim.floor;
     }
     c
-}
-
-// The coefficient at a key, with the floor taken from the constant.
-fn lowered_at(claim: &[u8], n: usize, t: usize, aim: Aim, key: u64) -> i64
-    requires { ⌜ (ClaimFacts (now claim) n t) × (AimWithin aim) ⌝ }
-    ensures { λ r. ⌜ (r ≡ loweredAt (now (claim .entry)) n t aim key) × (natAbs r ≤ 2 ^ 31) ⌝ }
-{
-    let Found::At(i) = find_term(claim, n, t, key) else {
-        return lowered_by(0, aim, key);
-    };
-    lowered_by(coefficient(claim, n, t, i), aim, key)
 }
 
 // A coefficient with the worst sign: as it stands where the point keeps its sign, else minus its absolute value.
@@ -106,16 +105,31 @@ fn scaled(scale: u64, c: i64) -> i64
     scale as i64 * c
 }
 
-// The target at a point.
-pub fn target_at(claim: &[u8], aim: Aim, p: Point) -> i64
-    requires { ⌜ (ClaimFacts (now claim) (variables (now claim)) (termCount (now claim))) × (AimWithin aim)
-        × (Carried (variables (now claim)) (exponents p)) ⌝ }
+// The target at a point, by its key and its coefficient.
+fn target_with(aim: Aim, p: Point, key: u64, c: i64) -> i64
+    requires { ⌜ (natAbs c ≤ greatestWeight) × (AimWithin aim) ⌝ }
+    ensures { λ r. ⌜ (r ≡ targetWith aim (exponents p) key c) × (natAbs r ≤ 2 ^ 51) ⌝ }
+{
+    scaled(aim.scale, worst(keeps_sign(p), lowered_by(c, aim, key)))
+}
+
+// The target at a point with its key.
+pub fn target_at(claim: &[u8], aim: Aim, p: Point, key: u64) -> i64
+    requires { ⌜ Targeted (now claim) aim (exponents p) key ⌝ }
     ensures { λ r. ⌜ (r ≡ targetOf (now (claim .entry)) aim (exponents p)) × (natAbs r ≤ 2 ^ 51) ⌝ }
 {
     let n = variables(claim);
     let t = term_count(claim);
-    scaled(
-        aim.scale,
-        worst(keeps_sign(p), lowered_at(claim, n, t, aim, key_of(p))),
-    )
+    target_with(aim, p, key, coefficient_at(claim, n, t, key))
+}
+
+// The target at the point of term i, with its key.
+pub fn term_target(claim: &[u8], aim: Aim, i: usize, p: Point, key: u64) -> i64
+    requires { ⌜ (Targeted (now claim) aim (exponents p) key) × (i < termCount (now claim))
+        × (exponents p ≡ termPoint (now claim) (variables (now claim)) i) ⌝ }
+    ensures { λ r. ⌜ (r ≡ targetOf (now (claim .entry)) aim (exponents p)) × (natAbs r ≤ 2 ^ 51) ⌝ }
+{
+    let n = variables(claim);
+    let t = term_count(claim);
+    target_with(aim, p, key, coefficient(claim, n, t, i))
 }

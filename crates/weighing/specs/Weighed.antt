@@ -5,7 +5,7 @@ use lib.IntN.{ℤ}
 use Rattle.points.specs.Points.{Exponents}
 use Rattle.sheets.specs.Layout.{rowCount}
 use Rattle.answers.specs.Answers.{Answer, andThen}
-use Rattle.answers.specs.Bounds.{greatestWeight}
+use Rattle.bounds.specs.Bounds.{greatestWeight}
 use Rattle.sharing.specs.Shifts.{shiftedRow}
 use Rattle.weighing.specs.Unheld.{unheldAnswer}
 use Rattle.judgements.specs.Judgements.{firstsTo, judgedAnswer}

@@ -5,20 +5,15 @@ use targets::targets::Aim;
 use writing::writing::write_weights;
 ghost use mathlib.Core.Path.{_≡_};
 ghost use mathlib.Core.List.{_++_};
-ghost use Prim.Native.Nat.{_≤_};
 ghost use lib.ListN.{length, drop};
-ghost use Rattle.answers.specs.Bounds.{greatestWeight};
 ghost use Rattle.sheets.specs.Layout.{rowCount, shapeOf};
 ghost use Rattle.writing.specs.Writing.{withRows};
 ghost use Rattle.targets.specs.Targets.{targetOf};
-ghost use Rattle.sharing.specs.Shifts.{CheckedSheets};
-ghost use Rattle.weighing.specs.Exact.{AllWithin, weightsFor, exactProof};
+ghost use Rattle.weighing.specs.Exact.{Writable, weightsFor, exactProof};
 
 // The shifted weights of every row, in bytes that have room for the proof.
 fn write_rows(claim: &[u8], proof: &[u8], aim: Aim, out: &mut [u8])
-    requires { ⌜ (CheckedSheets (now claim) (now proof) aim)
-        × (AllWithin greatestWeight (targetOf (now claim) aim) (now proof))
-        × (length (now proof) ≤ length (now out)) ⌝ }
+    requires { ⌜ Writable (now claim) (now proof) aim (now out) ⌝ }
     ensures { λ _. ⌜ now (out .exit) ≡ withRows (weightsFor (targetOf (now (claim .entry)) aim) (now (proof .entry)))
         (now (out .entry)) (shapeOf (now (proof .entry))) (rowCount (now (proof .entry))) ⌝ }
 {
@@ -34,9 +29,7 @@ fn write_rows(claim: &[u8], proof: &[u8], aim: Aim, out: &mut [u8])
 
 // The exact proof in the output's first bytes; the later ones keep their values.
 pub fn write_exact(claim: &[u8], proof: &[u8], aim: Aim, out: &mut [u8])
-    requires { ⌜ (CheckedSheets (now claim) (now proof) aim)
-        × (AllWithin greatestWeight (targetOf (now claim) aim) (now proof))
-        × (length (now proof) ≤ length (now out)) ⌝ }
+    requires { ⌜ Writable (now claim) (now proof) aim (now out) ⌝ }
     ensures { λ _. ⌜ now (out .exit) ≡ exactProof (targetOf (now (claim .entry)) aim) (now (proof .entry))
         ++ drop (length (now (proof .entry))) (now (out .entry)) ⌝ }
 {

@@ -10,6 +10,7 @@ use sheets::layout::variables;
 use sheets::proof_sheet::shape_of;
 use targets::targets::Aim;
 use targets::targets::target_at;
+use targets::targets::term_target;
 ghost use mathlib.Core.Path.{_≡_};
 ghost use Prim.Native.Nat.{suc, _≤_};
 ghost use lib.Dec.{eqb};
@@ -18,8 +19,7 @@ ghost use Rattle.points.specs.Points.{exponents, pointOf};
 ghost use Rattle.sheets.specs.Layout.{variables, termCount};
 ghost use Rattle.answers.specs.Searches.{first};
 ghost use Rattle.claims.specs.ClaimChecks.{ClaimFacts};
-ghost use Rattle.targets.specs.Carried.{Carried};
-ghost use Rattle.targets.specs.Targets.{AimWithin, targetOf};
+ghost use Rattle.targets.specs.Targets.{Targeted, targetOf};
 ghost use Rattle.sharing.specs.Shifts.{CheckedSheets};
 ghost use Rattle.weighing.specs.Unheld.{pointFor, unheld};
 
@@ -34,13 +34,16 @@ fn point_for(claim: &[u8], n: usize, t: usize, i: usize) -> Point
     Point { exps: [0; 8], n }
 }
 
-// Whether the target at a point is zero.
-fn no_target(claim: &[u8], aim: Aim, p: Point) -> bool
-    requires { ⌜ (ClaimFacts (now claim) (variables (now claim)) (termCount (now claim))) × (AimWithin aim)
-        × (Carried (variables (now claim)) (exponents p)) ⌝ }
+// Whether the target is zero at p, the point of term i or after the terms the constant's.
+fn no_target(claim: &[u8], aim: Aim, i: usize, p: Point, key: u64) -> bool
+    requires { ⌜ (Targeted (now claim) aim (exponents p) key)
+        × (exponents p ≡ pointFor (now claim) (variables (now claim)) (termCount (now claim)) i) ⌝ }
     ensures { λ r. ⌜ r ≡ eqb (natAbs (targetOf (now (claim .entry)) aim (exponents p))) 0 ⌝ }
 {
-    magnitude(target_at(claim, aim, p)) == 0
+    if i < term_count(claim) {
+        return magnitude(term_target(claim, aim, i, p, key)) == 0;
+    }
+    magnitude(target_at(claim, aim, p, key)) == 0
 }
 
 // The first term whose target is not zero and that no row holds, then the constant.
@@ -55,11 +58,11 @@ pub(crate) fn first_unheld(claim: &[u8], proof: &[u8], aim: Aim) -> Found
     let mut i = 0;
     'terms: while i <= t {
         let p = point_for(claim, n, t, i);
-        if no_target(claim, aim, p) {
+        let key = key_of(p);
+        if no_target(claim, aim, i, p, key) {
             i += 1;
             continue 'terms;
         }
-        let key = key_of(p);
         let mut j = 0;
         while j < shape.k {
             if holds_key(proof, shape, j, key) {

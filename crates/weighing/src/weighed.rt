@@ -2,33 +2,33 @@
 use crate::unheld::first_unheld;
 use answers::answers::Sheet;
 use answers::answers::Verdict;
-use answers::bounds::GREATEST_WEIGHT;
 use answers::searches::Found;
+use bounds::bounds::GREATEST_WEIGHT;
 use judgements::judgements::Firsts;
+use judgements::judgements::Judgement;
 use judgements::judgements::chosen;
 use judgements::judgements::judge;
 use judgements::judgements::note;
-use judgements::judgements::number_of;
 use sharing::shifts::shifted_row;
 use sheets::proof_sheet::row_count;
 use targets::targets::Aim;
 ghost use mathlib.Core.Path.{_≡_};
 ghost use Prim.Native.Nat.{_<_};
 ghost use Rattle.answers.specs.Answers.{says};
-ghost use Rattle.answers.specs.Bounds.{greatestWeight};
+ghost use Rattle.bounds.specs.Bounds.{greatestWeight};
 ghost use Rattle.sheets.specs.Layout.{rowCount};
 ghost use Rattle.targets.specs.Targets.{targetOf};
 ghost use Rattle.sharing.specs.Shifts.{shiftedRow, CheckedSheets};
-ghost use Rattle.judgements.specs.Judgements.{judgedNumber, firstsTo, judgedAnswer};
+ghost use Rattle.judgements.specs.Judgements.{judgementOf, firstsTo, judgedAnswer};
 ghost use Rattle.weighing.specs.Weighed.{weighedAnswer};
 
-// The number of row i's judgement.
-fn judged_number(claim: &[u8], proof: &[u8], aim: Aim, i: usize) -> u32
+// How row i is judged, with its shifted weights.
+fn judge_row(claim: &[u8], proof: &[u8], aim: Aim, i: usize) -> Judgement
     requires { ⌜ (CheckedSheets (now claim) (now proof) aim) × (i < rowCount (now proof)) ⌝ }
     ensures { λ r. ⌜ r
-        ≡ judgedNumber greatestWeight (shiftedRow (targetOf (now (claim .entry)) aim) (now (proof .entry))) i ⌝ }
+        ≡ judgementOf greatestWeight (shiftedRow (targetOf (now (claim .entry)) aim) (now (proof .entry)) i .weights) ⌝ }
 {
-    number_of(judge(shifted_row(claim, proof, aim, i), GREATEST_WEIGHT))
+    judge(shifted_row(claim, proof, aim, i), GREATEST_WEIGHT)
 }
 
 // Every row judged, in one pass.
@@ -40,11 +40,11 @@ fn judge_all(claim: &[u8], proof: &[u8], aim: Aim, k: usize) -> Firsts
     let mut f = Firsts {
         beyond: Found::Nothing,
         negative: Found::Nothing,
-        large: Found::Nothing,
+        indefinite: Found::Nothing,
     };
     let mut i = 0;
     while i < k {
-        f = note(f, judged_number(claim, proof, aim, i), i);
+        f = note(f, judge_row(claim, proof, aim, i), i);
         i += 1;
     }
     f

@@ -13,7 +13,7 @@ use Rattle.points.specs.Lists.{table}
 use Rattle.points.specs.Points.{bytesAt, every, everyPair, samePoint, risesTo, evenSum, hasMidpoint, exponentsWithin}
 use Rattle.answers.specs.Answers.{says, accepted, refused, refuseIf, refuseAt, blameless, andThen}
 use Rattle.answers.specs.Searches.{first}
-use Rattle.answers.specs.Bounds.{greatestExponent, greatestWeight, beyond}
+use Rattle.bounds.specs.Bounds.{greatestExponent, greatestWeight, beyond}
 use Rattle.sheets.specs.Layout.{tripleAt}
 use Rattle.sheets.specs.declared.layout.Shape.{Shape}
 use Rattle.sheets.specs.ClaimSheet.{floorOf, termPoint, coefficientOf}
@@ -25,7 +25,7 @@ use Rattle.answers.specs.declared.answers.Verdict.the-variants.{Accepted}
 use Rattle.checks.specs.declared.proof_checks.RowRule.the-variants as R
 use Rattle.answers.specs.declared.searches.Found.the-variants.{Nothing}
 use Rattle.answers.proofs.answers.Laws.{passed-at, then-passed}
-use Rattle.answers.proofs.searches.Laws.{nothing-first}
+use Rattle.answers.proofs.searches.Laws.{all-right}
 use Rattle.worked.specs.Sheets.{joined, word, words, claimOf, proofOf, squareWith, square, squareProof, twoTerms, oneRow}
 use Rattle.worked.specs.Checks.{Case, claims, proves, full, manyPoints, manyRows, small, cases, Worked}
 
@@ -33,8 +33,8 @@ small-worked : map (λ (c : Case). formedAnswer (c .claim) (c .proof)) small ≡
 unfolding
     u32At i32At table bytesAt every everyPair samePoint risesTo evenSum hasMidpoint exponentsWithin
     accepted refused refuseIf refuseAt blameless andThen first beyond floorOf termPoint coefficientOf
-    C.headerRight C.breaks C.termsAnswer C.claimAnswer scaleOf vOf wOf wordsAt tripleOf
-    P.headerRight P.headerAnswer P.carries P.anyBeyond P.breaks P.rowsAnswer headAnswer formedAnswer
+    C.countsRight C.headerRight C.breaks C.termsAnswer C.claimAnswer scaleOf vOf wOf wordsAt tripleOf
+    P.headerRight P.headerAnswer P.qOrR P.anyBeyond P.breaks P.rowsAnswer headAnswer formedAnswer
     joined word words claimOf proofOf squareWith square squareProof claims proves twoTerms oneRow full manyPoints manyRows small
 small-worked = refl
 
@@ -94,11 +94,11 @@ rows-right =
     passed-at (Accepted 0) Nothing _ 12 _ exponents-low refl
     (passed-at (Accepted 0) Nothing _ 13 _ midpoints-whole refl
     (passed-at (Accepted 0) Nothing _ 14 _ none-lone refl
-    (passed-at (Accepted 0) Nothing _ 15 _ (nothing-first _ 256 (λ i l. weights-light i)) refl refl)))
+    (passed-at (Accepted 0) Nothing _ 15 _ (all-right _ 256 (λ i l. weights-light i)) refl refl)))
 
 claim-right : says (Accepted 0) ≡ C.claimAnswer square
 unfolding
-    says accepted refuseIf refuseAt first C.claimAnswer C.termsAnswer C.headerRight C.breaks floorOf termPoint coefficientOf
+    says accepted refuseIf refuseAt first C.claimAnswer C.termsAnswer C.countsRight C.headerRight C.breaks floorOf termPoint coefficientOf
     i32At u32At bytesAt table beyond exponentsWithin every risesTo squareWith square claimOf joined word words
 claim-right = refl
 

@@ -7,10 +7,10 @@ use Rattle.monomials.specs.Powers.{powerOf, monomialOf}
 use Rattle.squares.specs.Sums.{value}
 use Rattle.sheets.specs.ClaimSheet.{floorOf, termPoint, coefficientOf, termOf, termsOf}
 use Rattle.answers.specs.Answers.{accepted, refused, refuseIf, refuseAt, blameless, andThen}
-use Rattle.answers.specs.Bounds.{beyond}
-use Rattle.claims.specs.ClaimChecks.{headerRight, breaks, termsAnswer, claimAnswer}
+use Rattle.bounds.specs.Bounds.{beyond}
+use Rattle.claims.specs.ClaimChecks.{countsRight, headerRight, breaks, termsAnswer, claimAnswer}
 use Rattle.answers.specs.Searches.{first}
-use Rattle.evaluation.specs.Evaluations.{toldBy, termValue, large, largeAnswer, evaluationAnswer, evaluationOf}
+use Rattle.evaluation.specs.Evaluations.{toldBy, termValue, tooLarge, tooLargeAnswer, evaluationAnswer, evaluationOf}
 use Rattle.worked.specs.Sheets.{joined, word, words, claimOf, twoTerms, squareWith, square}
 use Rattle.worked.specs.Evaluations.{at, oneAt, least, greatest, cases, Worked}
 
@@ -18,6 +18,6 @@ pub worked : Worked
 unfolding
     u32At i32At table bytesAt every risesTo exponentsWithin powerOf monomialOf value
     floorOf termPoint coefficientOf termOf termsOf accepted refused refuseIf refuseAt blameless andThen beyond
-    joined word words claimOf twoTerms squareWith square headerRight breaks termsAnswer claimAnswer first
-    toldBy termValue large largeAnswer evaluationAnswer evaluationOf at oneAt least greatest cases
+    joined word words claimOf twoTerms squareWith square countsRight headerRight breaks termsAnswer claimAnswer first
+    toldBy termValue tooLarge tooLargeAnswer evaluationAnswer evaluationOf at oneAt least greatest cases
 worked = refl

@@ -12,7 +12,7 @@ use Rattle.sheets.specs.ProofSheet.{scaleOf, vOf, wOf, wordsAt, tripleOf, weigh
 use Rattle.writing.specs.Writing.{withTriple, withWeights, withRows}
 use Rattle.answers.specs.Answers.{accepted, refused, refuseIf, refuseAt, blameless, andThen}
 use Rattle.answers.specs.Searches.{first}
-use Rattle.answers.specs.Bounds.{beyond}
+use Rattle.bounds.specs.Bounds.{beyond}
 use Rattle.claims.specs.ClaimChecks as C
 use Rattle.checks.specs.ProofChecks as P
 use Rattle.sharing.specs.Sharing.{count, errorAt, shiftedWeight, rankOf}
@@ -21,7 +21,7 @@ use Rattle.sharing.specs.Slots.{slotsTo}
 use Rattle.sharing.specs.Shifts.{shiftedWeights, shiftRow, slotsBefore, shiftedRow, shiftedRows}
 use Rattle.checks.specs.Input.{headAnswer, roomAnswer, bodyAnswer, inputAnswer}
 use Rattle.weighing.specs.Unheld.{pointFor, unheldAt, unheld, unheldAnswer}
-use Rattle.judgements.specs.Judgements.{negative, large, judgePair, judgeLone, judgementOf, numberOf, judgedNumber, judgedAs, firstsTo, judgedAnswer}
+use Rattle.judgements.specs.Judgements.{negative, indefinite, judgePair, judgeLone, judgementOf, numberOf, judgedAs, firstsTo, judgedAnswer}
 use Rattle.weighing.specs.Exact.{weightsFor, exactProof}
 use Rattle.weighing.specs.Weighed.{weighedAnswer}
 use Rattle.judging.specs.Check.{targetsOf, checkAnswer, outputOf}
@@ -33,11 +33,11 @@ unfolding
     u32At i32At withBits withI32 floorDiv floorMod share table bytesAt every everyPair samePoint risesTo midpointOf
     evenSum hasMidpoint exponentsWithin keepsSign gathered coefficient slotsAt lowered worst target floorOf
     termPoint coefficientOf termOf termsOf scaleOf vOf wOf wordsAt tripleOf weightsOf rowOf rowsOf tripleFor
-    withTriple withWeights withRows accepted refused refuseIf refuseAt blameless andThen first beyond C.headerRight
-    C.breaks C.termsAnswer C.claimAnswer P.headerRight P.headerAnswer P.carries P.anyBeyond P.breaks P.rowsAnswer
+    withTriple withWeights withRows accepted refused refuseIf refuseAt blameless andThen first beyond C.countsRight C.headerRight
+    C.breaks C.termsAnswer C.claimAnswer P.headerRight P.headerAnswer P.qOrR P.anyBeyond P.breaks P.rowsAnswer
     joined word words claimOf proofOf squareWith square squareProof oneRow count errorAt shiftedWeight aimOf
     targetOf slotsTo rankOf shiftedWeights shiftRow slotsBefore shiftedRow shiftedRows headAnswer roomAnswer
-    bodyAnswer inputAnswer pointFor unheldAt unheld unheldAnswer negative large judgePair judgeLone judgementOf
-    numberOf judgedNumber judgedAs firstsTo judgedAnswer weightsFor exactProof weighedAnswer targetsOf checkAnswer
+    bodyAnswer inputAnswer pointFor unheldAt unheld unheldAnswer negative indefinite judgePair judgeLone judgementOf
+    numberOf judgedAs firstsTo judgedAnswer weightsFor exactProof weighedAnswer targetsOf checkAnswer
     outputOf bare noRows motzkin motzkinProof oneTerm spare accepts refuses motzkinExact marked tabled worked
 all-worked = refl

@@ -11,9 +11,9 @@ use Rattle.answers.specs.declared.searches.Found.{Found}
 use Rattle.answers.specs.declared.searches.Found.the-variants.{At, Nothing}
 
 module _ (wrong : ℕ → Bool) where
-  pub first-none : first wrong 0 ≡ Nothing
+  pub first-start : first wrong 0 ≡ Nothing
   unfolding first
-  first-none = refl
+  first-start = refl
 
   pub first-here : (i : ℕ) → first wrong i ≡ Nothing → wrong i ≡ true → first wrong (suc i) ≡ At i
   unfolding first
@@ -35,34 +35,34 @@ module _ (wrong : ℕ → Bool) where
   pub first-at : (n i : ℕ) (r : Bool) → i < n → first wrong i ≡ Nothing → r ≡ wrong i → r ≡ true → At i ≡ first wrong n
   first-at n i r l h e k = sym (first-found n i l h (sym e ∙ k))
 
-  pub first-on : (i : ℕ) (r : Bool) → first wrong i ≡ Nothing → r ≡ wrong i → r ≡ false → first wrong (i + 1) ≡ Nothing
+  pub first-next : (i : ℕ) (r : Bool) → first wrong i ≡ Nothing → r ≡ wrong i → r ≡ false → first wrong (i + 1) ≡ Nothing
   unfolding first
-  first-on i r h e k = rw add-one (simp (first, h, sym e ∙ k))
+  first-next i r h e k = rw add-one (simp (first, h, sym e ∙ k))
 
   pub first-end : (n i : ℕ) → n ≤ i → i ≤ n → first wrong i ≡ Nothing → Nothing ≡ first wrong n
   first-end n i l m h = let q : i ≡ n = omega arith in sym (rw q at h)
 
 -- where nothing is wrong at any index below n there is none
-pub nothing-first : (wrong : ℕ → Bool) (n : ℕ) → ((i : ℕ) → i < n → wrong i ≡ false) → Nothing ≡ first wrong n
+pub all-right : (wrong : ℕ → Bool) (n : ℕ) → ((i : ℕ) → i < n → wrong i ≡ false) → Nothing ≡ first wrong n
 unfolding first
-nothing-first wrong zero h = refl
-nothing-first wrong (suc n) h = rw (← nothing-first wrong n (λ i l. h i (omega arith)), h n (omega arith))
+all-right wrong zero h = refl
+all-right wrong (suc n) h = rw (← all-right wrong n (λ i l. h i (omega arith)), h n (omega arith))
 
 -- and where there is none, nothing is wrong at any index
-none-last : (wrong : ℕ → Bool) (n : ℕ) → first wrong (suc n) ≡ Nothing → (first wrong n ≡ Nothing) × (wrong n ≡ false)
-none-last wrong n h = go (first wrong n) (wrong n) refl refl
+none-before : (wrong : ℕ → Bool) (n : ℕ) → first wrong (suc n) ≡ Nothing → (first wrong n ≡ Nothing) × (wrong n ≡ false)
+none-before wrong n h = go (first wrong n) (wrong n) refl refl
   where
     go : (f : Found) (b : Bool) → first wrong n ≡ f → wrong n ≡ b → (first wrong n ≡ Nothing) × (wrong n ≡ false)
     go (At i) b e k = let s = first-stays wrong n i e in let z : _≡_ {A = ℕ} 0 1 = cc in absurd (omega arith)
     go Nothing true e k = let s = first-here wrong n e k in let z : _≡_ {A = ℕ} 0 1 = cc in absurd (omega arith)
     go Nothing false e k = (e, k)
 
-pub first-nothing : (wrong : ℕ → Bool) (n : ℕ) → first wrong n ≡ Nothing → (i : ℕ) → i < n → wrong i ≡ false
-first-nothing wrong zero h i l = absurd (omega arith)
-first-nothing wrong (suc n) h i l =
+pub none-wrong : (wrong : ℕ → Bool) (n : ℕ) → first wrong n ≡ Nothing → (i : ℕ) → i < n → wrong i ≡ false
+none-wrong wrong zero h i l = absurd (omega arith)
+none-wrong wrong (suc n) h i l =
     ⊎-elim
-    (λ e. rw e (none-last wrong n h .1))
-    (λ m. first-nothing wrong n (none-last wrong n h .0) i m)
+    (λ e. rw e (none-before wrong n h .1))
+    (λ m. none-wrong wrong n (none-before wrong n h .0) i m)
     (eq-or-lt-of-le (le-of-suc-le-suc l))
 
 -- what is found is below n, and something is wrong there
@@ -82,6 +82,6 @@ first-inside wrong (suc n) i h = go (first wrong n) (wrong n) refl refl (first-i
         let q : n ≡ i = cc in
         (omega arith, rw (← q) k)
     go Nothing false e k below =
-        let s : first wrong (suc n) ≡ Nothing = rw add-one at (first-on wrong n false e (sym k) refl) in
+        let s : first wrong (suc n) ≡ Nothing = rw add-one at (first-next wrong n false e (sym k) refl) in
         let z : _≡_ {A = ℕ} 0 1 = cc in
         absurd (omega arith)

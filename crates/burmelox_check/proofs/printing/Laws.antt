@@ -80,16 +80,16 @@ module _ (c s : List ℕ) where
 
     room : ProofRoom exact (shapeWith exact (rowCount s))
     room = rw same (record {
-      few = own .proof .few;
-      rows = own .proof .rows;
-      long = rw (exact-length (targetsOf c s) s) (omega (arith, own .proof .sized));
+      few = own .proof .header .room .few;
+      rows = own .proof .header .room .rows;
+      long = rw (exact-length (targetsOf c s) s) (own .proof .header .room .long);
     })
 
     weights : (i : ℕ) → i < rowCount s
         → tripleOf exact (shapeWith exact (rowCount s)) i ≡ tripleFor (weightsFor (targetsOf c s) s i)
     weights i l =
         rw same
-        (exact-weights (targetsOf c s) s (omega (arith, own .proof .sized)) (accepted-within c s (length s) h) i l)
+        (exact-weights (targetsOf c s) s (own .proof .header .room .long) (accepted-within c s (length s) h) i l)
 
     accepted-text : sheetsText c s (zeros (length s)) ≡ acceptedLines c s
     unfolding sheetsText acceptedLines

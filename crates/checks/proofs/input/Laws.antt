@@ -17,9 +17,9 @@ use Rattle.sheets.specs.Layout.{variables, termCount, shapeOf, ProofRoom}
 use Rattle.sheets.specs.declared.layout.Shape.{Shape}
 use Rattle.claims.specs.ClaimChecks.{claimAnswer, ClaimFacts}
 use Rattle.claims.proofs.claim_checks.Facts.{claim-facts, claim-short}
-use Rattle.checks.specs.ProofChecks.{headerAnswer, rowsAnswer, ProofFacts}
+use Rattle.checks.specs.ProofChecks.{headerAnswer, rowsAnswer, HeaderFacts, ProofFacts}
 use Rattle.checks.specs.Input.{headAnswer, roomAnswer, bodyAnswer, inputAnswer, formedAnswer, WellFormed}
-use Rattle.checks.proofs.proof_checks.Facts.{Header, header-facts, header-room, proof-facts, header-short, rows-short}
+use Rattle.checks.proofs.proof_checks.Facts.{header-facts, proof-facts, header-short, rows-short}
 
 -- ---- check_head: v is the verdict on the claim
 
@@ -39,15 +39,13 @@ module _ (c s : List ℕ) (h : Passes (headAnswer c s)) where
   unfolding headAnswer
   head-claimed = passes-then _ _ h .0
 
-  head-headed : Header (variables c) s
-  unfolding headAnswer
-  head-headed = header-facts (variables c) s (passes-then _ _ h .1)
-
   head-claim-facts : ClaimFacts c (variables c) (termCount c)
   head-claim-facts = claim-facts c head-claimed
 
-  head-room : ProofRoom s (shapeOf s)
-  head-room = header-room (variables c) s (head-claim-facts .few) head-headed
+  head-facts : (variables s ≡ variables c) × HeaderFacts s (shapeOf s)
+  unfolding headAnswer
+  head-facts =
+      header-facts (variables c) s (head-claim-facts .some) (head-claim-facts .room .few) (passes-then _ _ h .1)
 
 -- ---- check_room
 
@@ -88,7 +86,7 @@ module _ (c s : List ℕ) (room : ℕ) (v : Verdict) (e : says v ≡ headAnswer 
 
   module _ (j : ℕ) (h : v ≡ Accepted j) where
     pub input-room : ProofRoom s (shapeOf s)
-    input-room = head-room c s (passed v _ e j h)
+    input-room = head-facts c s (passed v _ e j h) .1 .room
 
     pub input-body : (r : Verdict) → says r ≡ bodyAnswer s room → says r ≡ inputAnswer c s room
     unfolding inputAnswer
@@ -109,11 +107,10 @@ module _ (c s : List ℕ) (f : WellFormed c s) where
   claim-formed = head-claim-facts c s formed-head
 
   pub same-formed : variables s ≡ variables c
-  same-formed = head-headed c s formed-head .same
+  same-formed = head-facts c s formed-head .0
 
   pub proof-formed : ProofFacts s (shapeOf s)
-  proof-formed =
-      proof-facts (variables c) s (claim-formed .some) (claim-formed .few) (head-headed c s formed-head) formed-rows
+  proof-formed = proof-facts s (head-facts c s formed-head .1) formed-rows
 
 -- 1 to 15 are passed exactly where the sheets are well-formed and the output is long enough
 module _ (c s : List ℕ) (room : ℕ) where

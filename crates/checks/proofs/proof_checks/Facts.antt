@@ -6,22 +6,22 @@ use Prim.Native.Nat.{ℕ, _<_, _≤_}
 use native.Mathlib.Omega.{arith}
 use lib.IntN.{pos}
 use lib.ListN.{length}
-use borrow.Author.Tests.{ltb-false, leb-true, eqb-true, not-false}
+use borrow.Author.Tests.{leb-true, eqb-true, not-false}
 use Rattle.integers.proofs.Integers.{abs-zero}
 use Rattle.integers.proofs.words.Laws.{Bytes}
 use Rattle.points.specs.Points.{samePoint, hasMidpoint, exponentsWithin}
 use Rattle.answers.specs.Answers.{Passes, Short}
-use Rattle.answers.specs.Bounds.{greatestExponent, greatestWeight, greatestRows, greatestScale}
+use Rattle.bounds.specs.Bounds.{greatestExponent, greatestWeight, mostVariables}
 use Rattle.answers.proofs.answers.Laws.{passes-if, passes-at}
-use Rattle.answers.proofs.bounds.Laws.{within-bound, bound-within}
-use Rattle.answers.proofs.searches.Laws.{first-nothing}
+use Rattle.bounds.proofs.bounds.Laws.{within-bound, bound-within}
+use Rattle.answers.proofs.searches.Laws.{none-wrong}
 use Rattle.answers.proofs.Tests.{nor, nand}
 use Rattle.answers.proofs.Short.{short-accepted, short-if, short-at}
-use Rattle.sheets.specs.Layout.{variables, rowCount, shapeOf, proofLength, ProofRoom}
-use Rattle.sheets.specs.ProofSheet.{scaleOf, vOf, wOf, tripleOf}
+use Rattle.sheets.specs.Layout.{variables, rowCount, shapeOf, proofLength}
+use Rattle.sheets.specs.ProofSheet.{vOf, wOf, tripleOf}
 use Rattle.sheets.specs.declared.layout.Shape.{Shape}
 use Rattle.sheets.specs.declared.proof_sheet.Triple.{Triple}
-use Rattle.checks.specs.ProofChecks.{headerRight, headerAnswer, carries, anyBeyond, breaks, rowsAnswer, Within, ProofFacts}
+use Rattle.checks.specs.ProofChecks.{headerRight, headerAnswer, qOrR, anyBeyond, breaks, rowsAnswer, Within, HeaderFacts, ProofFacts}
 use Rattle.checks.specs.declared.proof_checks.RowRule.the-variants.{Exponent, Midpoint, Unused, Weight}
 
 -- ---- what each check says that is passed
@@ -52,7 +52,7 @@ module _ (s : List ℕ) (sh : Shape) (i : ℕ) where
 
   unused-facts : breaks Unused s sh i ≡ false → samePoint (vOf s sh i) (wOf s sh i) ≡ true
       → (tripleOf s sh i .q ≡ pos 0) × (tripleOf s sh i .r ≡ pos 0)
-  unfolding breaks carries
+  unfolding breaks qOrR
   unused-facts h e =
       let z = nor _ _ (nand (samePoint (vOf s sh i) (wOf s sh i)) _ h e) in
       (abs-zero _ (eqb-true _ _ (not-false _ (z .0))), abs-zero _ (eqb-true _ _ (not-false _ (z .1))))
@@ -61,62 +61,44 @@ module _ (s : List ℕ) (sh : Shape) (i : ℕ) where
   unfolding breaks
   weights-fact h = none-beyond greatestWeight _ h
 
--- a proof that passes 8 to 10, where n is the claim's
-pub record Header (n : ℕ) (s : List ℕ) : Type 0 where
-  pub long : 8 ≤ length s
-  pub same : variables s ≡ n
-  pub rows : rowCount s ≤ greatestRows
-  pub scaled : 1 ≤ scaleOf s
-  pub scale : scaleOf s ≤ greatestScale
-  pub sized : length s ≡ proofLength (shapeOf s)
-
-pub header-facts : (n : ℕ) (s : List ℕ) → Passes (headerAnswer n s) → Header n s
+-- 8 to 10, beside a claim of n variables
+pub header-facts : (n : ℕ) (s : List ℕ) → 1 ≤ n → n ≤ mostVariables → Passes (headerAnswer n s)
+    → (variables s ≡ n) × HeaderFacts s (shapeOf s)
 unfolding headerAnswer headerRight
-header-facts n s h =
+header-facts n s some few h =
     let p₈ = passes-if _ 8 _ refl h in
     let p₉ = passes-if _ 9 _ refl (p₈ .1) in
     let p₁₀ = passes-if _ 10 _ refl (p₉ .1) in
     let d = and-eq-true-iff _ _ .0 (not-false _ (p₉ .0)) in
     let e = and-eq-true-iff _ _ .0 (d .0) in
     let f = and-eq-true-iff _ _ .0 (e .0) in
-    record {
-      long = ltb-false _ _ (p₈ .0);
-      same = eqb-true (variables s) n (and-eq-true-iff _ _ .0 (f .0) .0);
-      rows = leb-true _ _ (f .1);
-      scaled = leb-true _ _ (e .1);
-      scale = leb-true _ _ (d .1);
-      sized = eqb-true (length s) (proofLength (shapeOf s)) (not-false _ (p₁₀ .0));
-    }
+    let same = eqb-true (variables s) n (and-eq-true-iff _ _ .0 (f .0) .0) in
+    let sized = eqb-true (length s) (proofLength (shapeOf s)) (not-false _ (p₁₀ .0)) in (
+      same,
+      record {
+        some = rw same some;
+        room = record { few = rw same few; rows = leb-true _ _ (f .1); long = omega arith };
+        sized = sized;
+        scale-positive = leb-true _ _ (e .1);
+        scale-within = leb-true _ _ (d .1);
+      },
+    )
 
--- room to read it, for a claim of at most eight variables
-pub header-room : (n : ℕ) (s : List ℕ) → n ≤ 8 → Header n s → ProofRoom s (shapeOf s)
-header-room n s few h =
-    record { few = rw (h .same) few; rows = h .rows; long = omega (arith, h .sized) }
-
-pub proof-facts : (n : ℕ) (s : List ℕ) → 1 ≤ n → n ≤ 8 → Header n s → Passes (rowsAnswer s (shapeOf s))
-    → ProofFacts s (shapeOf s)
+pub proof-facts : (s : List ℕ) → HeaderFacts s (shapeOf s) → Passes (rowsAnswer s (shapeOf s)) → ProofFacts s (shapeOf s)
 unfolding rowsAnswer
-proof-facts n s some few a h =
+proof-facts s header h =
     let p₁₂ = passes-at _ 12 _ refl h in
     let p₁₃ = passes-at _ 13 _ refl (p₁₂ .1) in
     let p₁₄ = passes-at _ 14 _ refl (p₁₃ .1) in
     let p₁₅ = passes-at _ 15 _ refl (p₁₄ .1) in
     record {
-      some = rw (a .same) some;
-      few = rw (a .same) few;
-      rows = a .rows;
-      scaled = a .scaled;
-      scale = a .scale;
-      sized = a .sized;
-      v-within = λ i l. ends-facts s _ i (first-nothing _ _ (p₁₂ .0) i l) .0;
-      w-within = λ i l. ends-facts s _ i (first-nothing _ _ (p₁₂ .0) i l) .1;
-      whole = λ i l. whole-fact s _ i (first-nothing _ _ (p₁₃ .0) i l);
-      unused = λ i l. unused-facts s _ i (first-nothing _ _ (p₁₄ .0) i l);
-      weights-within = λ i l. weights-fact s _ i (first-nothing _ _ (p₁₅ .0) i l);
+      header = header;
+      v-within = λ i l. ends-facts s _ i (none-wrong _ _ (p₁₂ .0) i l) .0;
+      w-within = λ i l. ends-facts s _ i (none-wrong _ _ (p₁₂ .0) i l) .1;
+      whole = λ i l. whole-fact s _ i (none-wrong _ _ (p₁₃ .0) i l);
+      unused = λ i l. unused-facts s _ i (none-wrong _ _ (p₁₄ .0) i l);
+      weights-within = λ i l. weights-fact s _ i (none-wrong _ _ (p₁₅ .0) i l);
     }
-
-pub proof-room : (s : List ℕ) (sh : Shape) → ProofFacts s sh → ProofRoom s sh
-proof-room s sh f = record { few = f .few; rows = f .rows; long = omega (arith, f .sized) }
 
 -- ---- every number is document 01's, and an index is below a count that two bytes give
 

@@ -1,32 +1,26 @@
 -- Laws of the checks of the proof: the ways through the code, by the numbers of the refusals.
-use mathlib.Core.Path.{_≡_, refl, _∙_, ap}
+use mathlib.Core.Path.{_≡_, _∙_, ap}
 use mathlib.Core.Bool.{Bool, true, false, not, _&&_}
 use mathlib.Core.List.{List}
-use Prim.Native.Nat.{ℕ, _-_, _<_, _≤_}
+use Prim.Native.Nat.{ℕ, _<_, _≤_}
 use lib.Dec.{eqb, ltb, leb}
 use lib.IntN.{ℤ, natAbs}
 use lib.ListN.{getD}
-use borrow.Author.Tests.{eq-eqb, ne-eqb, lt-ltb, le-ltb, le-leb, lt-leb, leb-true, leb-false}
+use borrow.Author.Tests.{eq-eqb, ne-eqb, le-leb, lt-leb}
 use Rattle.points.specs.Points.{exponents, pointOf, samePoint, hasMidpoint, exponentsWithin}
 use Rattle.points.specs.declared.points.Point.{Point}
 use Rattle.points.proofs.points.Laws.{exponents-of}
-use Rattle.answers.specs.Bounds.{greatestScale, beyond}
+use Rattle.bounds.specs.Bounds.{greatestScale, beyond}
 use Rattle.sheets.specs.Layout.{variables, rowCount}
 use Rattle.sheets.specs.ProofSheet.{scaleOf, vOf, wOf, tripleOf}
-use Rattle.checks.specs.ProofChecks.{headerRight, carries, anyBeyond, breaks}
+use Rattle.checks.specs.ProofChecks.{headerRight, qOrR, anyBeyond, breaks}
 use Rattle.checks.specs.declared.proof_checks.RowRule.{RowRule}
 use Rattle.checks.specs.declared.proof_checks.RowRule.the-variants.{Exponent, Midpoint, Unused, Weight}
 use Rattle.sheets.specs.declared.layout.Shape.{Shape}
 use Rattle.sheets.specs.declared.proof_sheet.Triple.{Triple}
+use Rattle.bounds.proofs.bounds.Laws.{over}
 
 -- ---- 9
-
-over : (a b : ℕ) → ltb a b ≡ not (leb b a)
-over a b = go (leb b a) refl
-  where
-    go : (t : Bool) → leb b a ≡ t → ltb a b ≡ not t
-    go true h = le-ltb a b (leb-true b a h)
-    go false h = lt-ltb a b (leb-false b a h)
 
 module _ (s : List ℕ) (limit n m : ℕ) (em : m ≡ variables s) where
   pub header-other : (m ≡ n → ⊥) → true ≡ not (headerRight limit n s)
@@ -86,20 +80,20 @@ module _ (s : List ℕ) (sh : Shape) (i : ℕ) (v : Point) (ev : v ≡ pointOf (
       unfolding breaks
       unused-pair h = rw (← v-is, ← w-is, ← el, h)
 
-      pub unused-lone : lone ≡ true → (x : Triple) (b : Bool) → x ≡ tripleOf s sh i → b ≡ carries x
+      pub unused-lone : lone ≡ true → (x : Triple) (b : Bool) → x ≡ tripleOf s sh i → b ≡ qOrR x
           → b ≡ breaks Unused s sh i
       unfolding breaks
       unused-lone h x b ex eb = rw (← v-is, ← w-is, ← el, h, ← ex) eb
 
 -- q and r as the machine reads them back, and their magnitudes
 module _ (x : Triple) (q : ℤ) (m : ℕ) (eq : q ≡ x .q) (em : m ≡ natAbs q) where
-  pub carries-q : (m ≡ 0 → ⊥) → true ≡ carries x
-  unfolding carries
-  carries-q h = rw (← eq, ← em, ne-eqb m 0 h)
+  pub q-not-zero : (m ≡ 0 → ⊥) → true ≡ qOrR x
+  unfolding qOrR
+  q-not-zero h = rw (← eq, ← em, ne-eqb m 0 h)
 
-  pub carries-r : m ≡ 0 → (r : ℤ) (u : ℕ) → r ≡ x .r → u ≡ natAbs r → not (eqb u 0) ≡ carries x
-  unfolding carries
-  carries-r h r u er eu = rw (← eq, ← em, eq-eqb m 0 h, eu, er)
+  pub r-not-zero : m ≡ 0 → (r : ℤ) (u : ℕ) → r ≡ x .r → u ≡ natAbs r → not (eqb u 0) ≡ qOrR x
+  unfolding qOrR
+  r-not-zero h r u er eu = rw (← eq, ← em, eq-eqb m 0 h, eu, er)
 
 -- ---- 15
 

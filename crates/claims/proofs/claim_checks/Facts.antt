@@ -7,37 +7,31 @@ use native.Mathlib.Omega.{arith}
 use lib.Dec.{eqb, ltb}
 use lib.IntN.{natAbs}
 use lib.ListN.{length}
-use borrow.Author.Tests.{eqb-true, eqb-false, not-false, lt-ltb}
+use borrow.Author.Tests.{eqb-true, not-false, lt-ltb}
 use Rattle.integers.proofs.words.Laws.{Bytes}
 use Rattle.points.specs.Points.{samePoint, risesTo, exponentsWithin}
 use Rattle.points.proofs.points.Laws.{same-eq, rises-self, rises-trans}
 use Rattle.answers.specs.Answers.{says, Passes, Short}
-use Rattle.answers.specs.Bounds.{greatestExponent, greatestWeight}
+use Rattle.bounds.specs.Bounds.{greatestExponent, greatestWeight}
 use Rattle.answers.specs.declared.answers.Verdict.{Verdict}
 use Rattle.answers.specs.declared.answers.Verdict.the-variants.{Accepted}
 use Rattle.answers.proofs.answers.Laws.{passes-if, passes-at, passed}
-use Rattle.answers.proofs.bounds.Laws.{within-bound}
-use Rattle.answers.proofs.searches.Laws.{first-nothing}
+use Rattle.bounds.proofs.bounds.Laws.{within-bound}
+use Rattle.answers.proofs.searches.Laws.{none-wrong}
 use Rattle.answers.proofs.Tests.{nor, nand}
 use Rattle.answers.proofs.Short.{short-accepted, short-if, short-at}
-use Rattle.sheets.specs.Layout.{variables, termCount, ClaimRoom}
+use Rattle.sheets.specs.Layout.{variables, termCount}
 use Rattle.sheets.specs.ClaimSheet.{floorOf, termPoint, coefficientOf}
 use Rattle.claims.specs.ClaimChecks.{breaks, termsAnswer, claimAnswer, ClaimFacts}
 use Rattle.claims.specs.declared.claim_checks.TermRule.the-variants.{Coefficient, Exponent, Order}
-use Rattle.claims.proofs.claim_checks.Laws.{header-counts}
+use Rattle.claims.proofs.claim_checks.Laws.{header-room}
 
 -- ---- what each check says that is passed
 
-positive : (m : ℕ) → eqb m 0 ≡ false → 1 ≤ m
-positive m h = let z = eqb-false m 0 h in omega arith
-
 module _ (c : List ℕ) (n t i : ℕ) where
-  coefficient-facts : breaks (Coefficient greatestWeight) c n t i ≡ false
-      → (1 ≤ natAbs (coefficientOf c n t i)) × (natAbs (coefficientOf c n t i) ≤ greatestWeight)
+  coefficient-fact : breaks (Coefficient greatestWeight) c n t i ≡ false → natAbs (coefficientOf c n t i) ≤ greatestWeight
   unfolding breaks
-  coefficient-facts h =
-      let z = nor (eqb (natAbs (coefficientOf c n t i)) 0) _ h in
-      (positive _ (z .0), within-bound greatestWeight _ (z .1))
+  coefficient-fact h = within-bound greatestWeight _ (nor (eqb (natAbs (coefficientOf c n t i)) 0) _ h .1)
 
   exponents-fact : breaks (Exponent greatestExponent) c n t i ≡ false
       → exponentsWithin greatestExponent (termPoint c n i) ≡ true
@@ -61,17 +55,16 @@ claim-facts c h =
     let p₅ = passes-at _ 5 _ refl (p₄ .1) in
     let p₆ = passes-at _ 6 _ refl (p₅ .1) in
     let p₇ = passes-at _ 7 _ refl (p₆ .1) in
-    let counts = header-counts c (not-false _ (p₂ .0)) in
+    let sized = eqb-true _ _ (not-false _ (p₃ .0)) in
+    let counts = header-room c (not-false _ (p₂ .0)) sized in
     record {
-      some = counts .some;
-      few = counts .few;
-      terms = counts .terms;
-      sized = eqb-true _ _ (not-false _ (p₃ .0));
+      some = counts .0;
+      room = counts .1;
+      sized = sized;
       floor-within = within-bound greatestWeight (floorOf c) (p₄ .0);
-      nonzero = λ i l. coefficient-facts c _ _ i (first-nothing _ _ (p₅ .0) i l) .0;
-      coefficient-within = λ i l. coefficient-facts c _ _ i (first-nothing _ _ (p₅ .0) i l) .1;
-      exponents-within = λ i l. exponents-fact c _ _ i (first-nothing _ _ (p₆ .0) i l);
-      rising = λ i l. rising-fact c _ _ i (first-nothing _ _ (p₇ .0) (suc i) l);
+      coefficient-within = λ i l. coefficient-fact c _ _ i (none-wrong _ _ (p₅ .0) i l);
+      exponents-within = λ i l. exponents-fact c _ _ i (none-wrong _ _ (p₆ .0) i l);
+      rising = λ i l. rising-fact c _ _ i (none-wrong _ _ (p₇ .0) (suc i) l);
     }
 
 -- of a claim that a verdict accepts
@@ -81,10 +74,6 @@ module _ (c : List ℕ) (v : Verdict) (e : says v ≡ claimAnswer c) (j : ℕ) (
 
   pub claim-long : 8 ≤ length c
   claim-long = omega (arith, claim-passed .sized)
-
--- room to read it
-pub claim-room : (c : List ℕ) (n t : ℕ) → ClaimFacts c n t → ClaimRoom c n t
-claim-room c n t f = record { few = f .few; terms = f .terms; long = omega (arith, f .sized) }
 
 -- the points of a claim rise from any to any later one, so no two are the same
 points-rise : (c : List ℕ) (n t : ℕ) → ClaimFacts c n t → (i d : ℕ) → suc i + d < t

@@ -1,53 +1,59 @@
 -- Laws of the checks of the claim: the ways through the code, by the numbers of the refusals.
 use mathlib.Core.Path.{_≡_, sym, _∙_, ap}
-use mathlib.Core.Bool.{Bool, true, false, not, and-eq-true-iff, _&&_}
+use mathlib.Core.Bool.{Bool, true, false, not, and-eq-true-iff}
 use mathlib.Core.List.{List}
 use Prim.Native.Nat.{ℕ, _+_, _-_, _<_, _≤_}
 use native.Mathlib.Nat.{pos-of-ne-zero}
 use native.Mathlib.Omega.{arith}
-use lib.Dec.{eqb, leb}
+use lib.Dec.{ltb, eqb}
 use lib.IntN.{ℤ, natAbs}
 use lib.ListN.{length, getD}
-use borrow.Author.Tests.{eq-eqb, ne-eqb, lt-ltb, le-ltb, le-leb, lt-leb, leb-true, not-false}
+use borrow.Author.Tests.{not-true, eq-eqb, ne-eqb, lt-ltb, le-ltb, le-leb, lt-leb, leb-true, not-false}
 use Rattle.points.specs.Points.{exponents, pointOf, risesTo, exponentsWithin}
 use Rattle.points.specs.declared.points.Point.{Point}
 use Rattle.points.proofs.points.Laws.{exponents-of}
 use Rattle.answers.specs.Answers.{says}
-use Rattle.answers.specs.Bounds.{beyond}
-use Rattle.sheets.specs.Layout.{variables, termCount, place, ClaimRoom}
+use Rattle.bounds.specs.Bounds.{beyond, mostVariables, mostTerms}
+use Rattle.sheets.specs.Layout.{variables, termCount, place, ClaimRoom, claimLength}
 use Rattle.sheets.specs.ClaimSheet.{floorOf, termPoint, coefficientOf}
-use Rattle.claims.specs.ClaimChecks.{headerRight, breaks, termsAnswer}
+use Rattle.claims.specs.ClaimChecks.{countsRight, headerRight, breaks, termsAnswer}
 use Rattle.answers.specs.declared.answers.Verdict.{Verdict}
 use Rattle.claims.specs.declared.claim_checks.TermRule.the-variants.{Coefficient, Exponent, Order}
+use Rattle.sheets.proofs.layout.Laws.{claim-asked}
+use Rattle.bounds.proofs.bounds.Laws.{over}
 
--- ---- 2
+-- ---- 2: n and t are the counts that were read, r the test of both
 
-module _ (c : List ℕ) where
-  pub header-none : variables c < 1 → true ≡ not (headerRight c)
+module _ (c : List ℕ) (n : ℕ) (en : n ≡ variables c) where
+  pub counts-none : n < 1 → true ≡ not (countsRight c)
+  unfolding countsRight
+  counts-none h = rw (← en, lt-leb 1 n h)
+
+  module _ (p : 1 ≤ n) where
+    pub counts-many : mostVariables < n → true ≡ not (countsRight c)
+    unfolding countsRight
+    counts-many h = rw (← en, le-leb 1 n p, lt-leb n mostVariables h)
+
+    pub counts-terms : n ≤ mostVariables → (t : ℕ) → t ≡ termCount c → ltb mostTerms t ≡ not (countsRight c)
+    unfolding countsRight
+    counts-terms q t et = rw (← en, ← et, le-leb 1 n p, le-leb n mostVariables q) (over mostTerms t)
+
+module _ (c : List ℕ) (r : Bool) (e : r ≡ not (countsRight c)) where
+  pub header-counts : r ≡ true → true ≡ not (headerRight c)
   unfolding headerRight
-  header-none h = rw (lt-leb 1 (variables c) h)
+  header-counts h = rw (not-true (countsRight c) (sym e ∙ h))
 
-  module _ (p : 1 ≤ variables c) where
-    pub header-many : 8 < variables c → true ≡ not (headerRight c)
+  module _ (h : r ≡ false) where
+    right : countsRight c ≡ true
+    right = not-false _ (sym e ∙ h)
+
+    pub header-two : (getD c 2 0 ≡ 0 → ⊥) → true ≡ not (headerRight c)
     unfolding headerRight
-    header-many h = rw (le-leb 1 (variables c) p, lt-leb (variables c) 8 h)
+    header-two k = rw (right, ne-eqb (getD c 2 0) 0 k)
 
-    module _ (q : variables c ≤ 8) where
-      pub header-terms : 64 < termCount c → true ≡ not (headerRight c)
-      unfolding headerRight
-      header-terms h = rw (le-leb 1 (variables c) p, le-leb (variables c) 8 q, lt-leb (termCount c) 64 h)
-
-      module _ (r : termCount c ≤ 64) where
-        right : leb 1 (variables c) && leb (variables c) 8 && leb (termCount c) 64 ≡ true
-        right = rw (le-leb 1 (variables c) p, le-leb (variables c) 8 q, le-leb (termCount c) 64 r)
-
-        pub header-two : (getD c 2 0 ≡ 0 → ⊥) → true ≡ not (headerRight c)
-        unfolding headerRight
-        header-two h = rw (right, ne-eqb (getD c 2 0) 0 h)
-
-        pub header-three : getD c 2 0 ≡ 0 → not (eqb (getD c 3 0) 0) ≡ not (headerRight c)
-        unfolding headerRight
-        header-three h = rw (right, eq-eqb (getD c 2 0) 0 h)
+    pub header-three : getD c 2 0 ≡ 0 → not (eqb (getD c 3 0) 0) ≡ not (headerRight c)
+    unfolding headerRight
+    header-three k = rw (right, eq-eqb (getD c 2 0) 0 k)
 
 -- ---- 5: z is the coefficient, z′ what the machine reads back of it
 
@@ -83,26 +89,23 @@ order-later c n t i p q r h ep eq er =
 
 -- ---- 3, 4, and room for the terms
 
--- a right header's counts
-pub record Counts (n t : ℕ) : Type 0 where
-  pub some : 1 ≤ n
-  pub few : n ≤ 8
-  pub terms : t ≤ 64
-
-pub header-counts : (c : List ℕ) → headerRight c ≡ true → Counts (variables c) (termCount c)
-unfolding headerRight
-header-counts c h =
+-- a right header's counts, and room for the terms where the length is right too
+pub header-room : (c : List ℕ) → headerRight c ≡ true → length c ≡ claimLength (variables c) (termCount c)
+    → (1 ≤ variables c) × ClaimRoom c (variables c) (termCount c)
+unfolding headerRight countsRight
+header-room c h sized =
     let a = and-eq-true-iff _ _ .0 h in
     let b = and-eq-true-iff _ _ .0 (a .0) in
     let d = and-eq-true-iff _ _ .0 (b .0) in
-    let e = and-eq-true-iff _ _ .0 (d .0) in
-    record { some = leb-true _ _ (e .0); few = leb-true _ _ (e .1); terms = leb-true _ _ (d .1) }
+    let e = and-eq-true-iff _ _ .0 (d .0) in (
+      leb-true _ _ (e .0),
+      record { few = leb-true _ _ (e .1); terms = leb-true _ _ (d .1); long = omega arith },
+    )
 
 pub terms-room : (c : List ℕ) (r : Bool) (n t l : ℕ) → r ≡ not (headerRight c) → r ≡ false → n ≡ variables c
     → t ≡ termCount c → l ≡ place 8 t (n + 4) → length c ≡ l → ClaimRoom c n t
 terms-room c r n t l e h en et el p =
-    let counts = header-counts c (not-false _ (sym e ∙ h)) in
-    record { few = rw en (counts .few); terms = rw et (counts .terms); long = omega arith }
+    rw (en, et) (header-room c (not-false _ (sym e ∙ h)) (p ∙ claim-asked c n t l el en et) .1)
 
 -- z is the floor, z′ what the machine reads back of it
 pub floor-judged : (c : List ℕ) (limit : ℕ) (b r : Bool) (z z′ : ℤ) → r ≡ beyond limit z′ → z ≡ floorOf c → z′ ≡ z

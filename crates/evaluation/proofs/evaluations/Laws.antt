@@ -2,7 +2,7 @@
 use mathlib.Core.Path.{_≡_, refl, sym, _∙_, ap, subst}
 use mathlib.Core.Bool.{Bool, true, false, not, cond}
 use mathlib.Core.List.{List, [], _∷_}
-use Prim.Native.Nat.{ℕ, suc, _+_, _*_, _^_, _<_, _≤_}
+use Prim.Native.Nat.{ℕ, suc, _+_, _*_, _<_, _≤_}
 use native.Mathlib.Numerals.{add-one}
 use native.Mathlib.Omega.{arith}
 use lib.Dec.{eqb}
@@ -16,15 +16,15 @@ use Rattle.integers.proofs.Integers.{abs-add, fits-within}
 use Rattle.integers.proofs.words.Laws.{Bytes}
 use Rattle.points.specs.Lists.{table}
 use Rattle.points.specs.Points.{exponents, pointOf}
-use Rattle.monomials.specs.Powers.{monomialOf, Says, within}
-use Rattle.squares.specs.Sums.{value, valueAt}
+use Rattle.monomials.specs.Powers.{monomialOf, Represents, within}
+use Rattle.squares.specs.Sums.{valueAt}
 use Rattle.points.specs.declared.points.Point.{Point}
 use Rattle.monomials.specs.declared.powers.Bounded.{Bounded}
 use Rattle.monomials.specs.declared.powers.Bounded.the-variants.{TooLarge, Value as Exact}
 use Rattle.points.proofs.Lists.{table-none, table-more}
 use Rattle.squares.proofs.Sums.{value-nil, value-one, value-append}
 use Rattle.points.proofs.points.Laws.{exponents-of}
-use Rattle.monomials.proofs.powers.Laws.{within-says}
+use Rattle.monomials.proofs.powers.Steps.{within-represents}
 use Rattle.sheets.specs.Layout.{variables, termCount, ClaimRoom}
 use Rattle.sheets.specs.ClaimSheet.{termPoint, coefficientOf, termOf, termsOf}
 use Rattle.sheets.proofs.claim_sheet.Laws.{terms-table, term-point, term-coefficient}
@@ -37,15 +37,16 @@ use Rattle.answers.specs.declared.answers.Verdict.{Verdict}
 use Rattle.answers.specs.declared.answers.Verdict.the-variants as Verdicts
 use Rattle.answers.specs.declared.searches.Found.the-variants.{At, Nothing}
 use Rattle.answers.proofs.answers.Laws.{passes-if, passes-at, passes-then, then-on, if-on, at-on, accepted-passes, failed, then-refused, passed, then-passed, refused-if, refused-at, refused-says}
-use Rattle.answers.proofs.bounds.Laws.{over-bound, within-bound, bound-within}
-use Rattle.answers.proofs.searches.Laws.{first-at, first-on, first-nothing, nothing-first}
-use Rattle.claims.proofs.claim_checks.Facts.{claim-passed, claim-room}
+use Rattle.bounds.proofs.bounds.Laws.{over-bound, within-bound, bound-within}
+use Rattle.answers.proofs.searches.Laws.{first-at, first-next, none-wrong, all-right}
+use Rattle.claims.proofs.claim_checks.Facts.{claim-passed}
 use Rattle.judging.proofs.Promises.{floor-kept}
 use Rattle.evaluation.proofs.Short.{evaluation-short}
 use Rattle.evaluation.specs.Evaluations as Spec
-use Rattle.evaluation.specs.Evaluations.{refusal, tells, toldBy, termValue, greatestTerm, large, largeAnswer, sumTo, summed, evaluationAnswer, evaluationOf, Evaluable, Evaluates, Floored}
+use Rattle.evaluation.specs.Evaluations.{refusal, tells, toldBy, termValue, tooLarge, tooLargeAnswer, sumTo, summed, evaluationAnswer, evaluationOf, Evaluable, Evaluates, Floored}
 use Rattle.evaluation.specs.declared.evaluations.Evaluation.{Evaluation}
 use Rattle.evaluation.specs.declared.evaluations.Evaluation.the-variants.{Value, Refused}
+use Rattle.bounds.specs.Bounds.{greatestValue}
 
 -- ---- what checks tell
 
@@ -98,7 +99,7 @@ unfolding evaluationOf
 value-given c x z h = value-told _ z _ h .1
 
 evaluable : (c : List ℕ) (x : List ℤ) → Passes (evaluationAnswer c x) → Evaluable c x
-unfolding evaluationAnswer largeAnswer large
+unfolding evaluationAnswer tooLargeAnswer tooLarge
 evaluable c x h =
     let p = passes-then _ _ h in
     let q = passes-if _ 20 _ refl (p .1) in
@@ -106,22 +107,22 @@ evaluable c x h =
     record {
       formed = p .0;
       counted = eqb-true _ _ (not-false _ (q .0));
-      small = λ i l. within-bound _ _ (first-nothing _ _ (r .0) i l);
+      small = λ i l. within-bound _ _ (none-wrong _ _ (r .0) i l);
     }
 
-large-passes : (c : List ℕ) (n t : ℕ) (x : List ℤ) → ((i : ℕ) → i < t → natAbs (termValue c n t x i) ≤ greatestTerm)
-    → Passes (largeAnswer c n t x)
-unfolding largeAnswer large
+large-passes : (c : List ℕ) (n t : ℕ) (x : List ℤ) → ((i : ℕ) → i < t → natAbs (termValue c n t x i) ≤ greatestValue)
+    → Passes (tooLargeAnswer c n t x)
+unfolding tooLargeAnswer tooLarge
 large-passes c n t x h =
-    let f = nothing-first (large c n t x) t (λ i l. bound-within _ _ (h i l)) in
+    let f = all-right (tooLarge c n t x) t (λ i l. bound-within _ _ (h i l)) in
     rw (at-on _ 21 (accepted 0) (sym f)) (accepted-passes _ 0 refl)
 
 passes : (c : List ℕ) (x : List ℤ) → Evaluable c x → Passes (evaluationAnswer c x)
 unfolding evaluationAnswer
 passes c x e =
-    let large = largeAnswer c (variables c) (termCount c) x in
+    let tooLarge = tooLargeAnswer c (variables c) (termCount c) x in
     let m : not (eqb (length x) (variables c)) ≡ false = rw (eq-eqb _ _ (e .counted)) in
-    rw (then-on (claimAnswer c) (refuseIf (not (eqb (length x) (variables c))) 20 large) (e .formed), if-on _ 20 large m)
+    rw (then-on (claimAnswer c) (refuseIf (not (eqb (length x) (variables c))) 20 tooLarge) (e .formed), if-on _ 20 tooLarge m)
     (large-passes c (variables c) (termCount c) x (e .small))
 
 module _ (c : List ℕ) (x : List ℤ) (r : Evaluation) (h : tells r ≡ evaluationOf c x) where
@@ -167,29 +168,29 @@ module _ (c : List ℕ) (n t : ℕ) (x : List ℤ) where
   pub sum-start : 0 ≡ ofZ w64 (sumTo c n t x 0)
   sum-start = rw (sum-none c n t x)
 
-  pub small-start : natAbs (sumTo c n t x 0) ≤ 0 * 2 ^ 56
+  pub small-start : natAbs (sumTo c n t x 0) ≤ 0 * greatestValue
   small-start = rw (sum-none c n t x) (omega arith)
 
   module _ (i : ℕ) (r : Bounded) (er : r ≡ within (termValue c n t x i)) where
-    pub large-here : i < t → first (large c n t x) i ≡ Nothing → r ≡ TooLarge
+    pub large-here : i < t → first (tooLarge c n t x) i ≡ Nothing → r ≡ TooLarge
         → tells (Refused (Claim 21 i)) ≡ summed c n t x
-    unfolding summed largeAnswer large
+    unfolding summed tooLargeAnswer tooLarge
     large-here l none h =
-        let k : Says TooLarge (termValue c n t x i) = subst (λ b. Says b (termValue c n t x i)) (sym er ∙ h) (within-says _) in
-        let f = first-at (large c n t x) t i true l none (sym (over-bound _ _ k)) refl in
+        let k : Represents TooLarge (termValue c n t x i) = subst (λ b. Represents b (termValue c n t x i)) (sym er ∙ h) (within-represents _) in
+        let f = first-at (tooLarge c n t x) t i true l none (sym (over-bound _ _ k)) refl in
         told-refused (Claim 21 i) _ _
-        (refused-at (Verdicts.Refused (Claim 21 i)) (At i) (first (large c n t x) t) 21 (accepted 0) f i refl (refused-says _ 21 i refl))
+        (refused-at (Verdicts.Refused (Claim 21 i)) (At i) (first (tooLarge c n t x) t) 21 (accepted 0) f i refl (refused-says _ 21 i refl))
 
     module _ (v : ℤ) (h : r ≡ Exact v) where
-      here : Says (Exact v) (termValue c n t x i)
-      here = subst (λ b. Says b (termValue c n t x i)) (sym er ∙ h) (within-says _)
+      here : Represents (Exact v) (termValue c n t x i)
+      here = subst (λ b. Represents b (termValue c n t x i)) (sym er ∙ h) (within-represents _)
 
-      pub none-more : first (large c n t x) i ≡ Nothing → first (large c n t x) (i + 1) ≡ Nothing
-      unfolding large
-      none-more none = first-on (large c n t x) i false none (sym (bound-within _ _ (here .1))) refl
+      pub none-more : first (tooLarge c n t x) i ≡ Nothing → first (tooLarge c n t x) (i + 1) ≡ Nothing
+      unfolding tooLarge
+      none-more none = first-next (tooLarge c n t x) i false none (sym (bound-within _ _ (here .1))) refl
 
-      module _ (small : natAbs (sumTo c n t x i) ≤ i * 2 ^ 56) where
-        pub small-more : natAbs (sumTo c n t x (i + 1)) ≤ (i + 1) * 2 ^ 56
+      module _ (small : natAbs (sumTo c n t x i) ≤ i * greatestValue) where
+        pub small-more : natAbs (sumTo c n t x (i + 1)) ≤ (i + 1) * greatestValue
         small-more =
             rw (add-one, sum-more c n t x i)
             (omega (arith, here .1, abs-add (sumTo c n t x i) (termValue c n t x i)))
@@ -198,25 +199,25 @@ module _ (c : List ℕ) (n t : ℕ) (x : List ℤ) where
             (back : v′ ≡ v) where
           added : toZ w64 sum +ℤ v′ ≡ sumTo c n t x (i + 1)
           added =
-              let f : SFits w64 (sumTo c n t x i) = fits-within _ (i * 2 ^ 56) small (omega (arith, room .terms)) in
+              let f : SFits w64 (sumTo c n t x i) = fits-within _ (i * greatestValue) small (omega (arith, room .terms)) in
               rw (es, toZ-ofZ f, back, here .0, add-one, sum-more c n t x i)
 
           pub sum-fits : SFits w64 (toZ w64 sum +ℤ v′)
-          sum-fits = rw added (fits-within _ ((i + 1) * 2 ^ 56) small-more (omega (arith, room .terms)))
+          sum-fits = rw added (fits-within _ ((i + 1) * greatestValue) small-more (omega (arith, room .terms)))
 
           pub sum-next : ofZ w64 (toZ w64 sum +ℤ v′) ≡ ofZ w64 (sumTo c n t x (i + 1))
           sum-next = ap (ofZ w64) added
 
-  pub summed-all : (i sum : ℕ) → t ≤ i → i ≤ t → ClaimRoom c n t → first (large c n t x) i ≡ Nothing
-      → natAbs (sumTo c n t x i) ≤ i * 2 ^ 56 → sum ≡ ofZ w64 (sumTo c n t x i)
+  pub summed-all : (i sum : ℕ) → t ≤ i → i ≤ t → ClaimRoom c n t → first (tooLarge c n t x) i ≡ Nothing
+      → natAbs (sumTo c n t x i) ≤ i * greatestValue → sum ≡ ofZ w64 (sumTo c n t x i)
       → tells (Value (toZ w64 sum)) ≡ summed c n t x
-  unfolding summed largeAnswer
+  unfolding summed tooLargeAnswer
   summed-all i sum l m room none small es =
       let q : i ≡ t = omega arith in
-      let f : SFits w64 (sumTo c n t x i) = fits-within _ (i * 2 ^ 56) small (omega (arith, room .terms)) in
+      let f : SFits w64 (sumTo c n t x i) = fits-within _ (i * greatestValue) small (omega (arith, room .terms)) in
       let e : toZ w64 sum ≡ sumTo c n t x t = rw (es, toZ-ofZ f, q) in
       rw e
-      (told-value _ _ (rw (at-on (first (large c n t x) t) 21 (accepted 0) (rw q at none)) (accepted-passes _ 0 refl)))
+      (told-value _ _ (rw (at-on (first (tooLarge c n t x) t) 21 (accepted 0) (rw q at none)) (accepted-passes _ 0 refl)))
 
 -- evaluate: v is the verdict on the claim
 module _ (c : List ℕ) (x : List ℤ) (v : Verdict) (e : says v ≡ claimAnswer c) where
@@ -236,16 +237,16 @@ module _ (c : List ℕ) (x : List ℤ) (v : Verdict) (e : says v ≡ claimAnswer
 
       module _ (t : ℕ) (et : t ≡ termCount c) where
         pub terms-room : ClaimRoom c n t
-        terms-room = rw (en, et) (claim-room c _ _ (claim-passed c v e j h))
+        terms-room = rw (en, et) (claim-passed c v e j h .room)
 
         pub all-summed : (r : Evaluation) → length x ≡ n → tells r ≡ summed c n t x → tells r ≡ evaluationOf c x
         unfolding evaluationOf evaluationAnswer summed sumTo
         all-summed r d er =
             let w : not (eqb (length x) (variables c)) ≡ false = rw (← en, eq-eqb _ _ d) in
-            let large = largeAnswer c (variables c) (termCount c) x in
+            let tooLarge = tooLargeAnswer c (variables c) (termCount c) x in
             rw (
-              then-on (claimAnswer c) (refuseIf (not (eqb (length x) (variables c))) 20 large) (passed v _ e j h),
-              if-on _ 20 large w,
+              then-on (claimAnswer c) (refuseIf (not (eqb (length x) (variables c))) 20 tooLarge) (passed v _ e j h),
+              if-on _ 20 tooLarge w,
               ← terms-table c n t en et,
               ← en,
               ← et,

@@ -1,7 +1,7 @@
 -- Laws of judgements: the ways through them; rows pass 17 to 19 exactly where they are within the limit and hold.
 use mathlib.Core.Path.{_≡_, refl, sym, _∙_, ap}
 use mathlib.Core.Bool.{Bool, true, false, cond, _||_}
-use Prim.Native.Nat.{ℕ, _+_, _*_, _^_, _≤_, _<_}
+use Prim.Native.Nat.{ℕ, _+_, _^_, _≤_, _<_}
 use native.Mathlib.Nat.{mul-le-mul}
 use native.Mathlib.Numerals.{add-one}
 use native.Mathlib.Omega.{arith}
@@ -22,7 +22,7 @@ use Rattle.sheets.specs.declared.proof_sheet.Triple.{Triple}
 use Rattle.sheets.specs.declared.proof_sheet.Row as Value
 use Rattle.sheets.proofs.proof_sheet.Laws.{for-lone, for-pair, value-weights}
 use Rattle.answers.specs.Answers.{says, accepted, Passes, Short}
-use Rattle.answers.specs.Bounds.{beyond, greatestWeight}
+use Rattle.bounds.specs.Bounds.{beyond, greatestWeight}
 use Rattle.checks.specs.ProofChecks.{anyBeyond, Within}
 use Rattle.answers.specs.Searches.{first}
 use Rattle.answers.specs.declared.answers.Sheet.the-variants.{Proof}
@@ -32,15 +32,15 @@ use Rattle.answers.specs.declared.searches.Found.{Found}
 use Rattle.answers.specs.declared.searches.Found.the-variants.{At, Nothing}
 use Rattle.answers.proofs.answers.Laws.{passes-at, refused-at, passed-at, accepted-says, refused-says}
 use Rattle.answers.proofs.Short.{short-accepted, short-at}
-use Rattle.answers.proofs.bounds.Laws.{within-bound, bound-within}
-use Rattle.answers.proofs.searches.Laws.{first-none, first-here, first-stays, first-on, first-nothing, nothing-first}
+use Rattle.bounds.proofs.bounds.Laws.{within-bound, bound-within}
+use Rattle.answers.proofs.searches.Laws.{first-start, first-here, first-stays, first-next, none-wrong, all-right}
 use Rattle.checks.proofs.proof_checks.Facts.{none-beyond, within-none}
-use Rattle.judgements.specs.Judgements.{negative, large, judgePair, judgeLone, judgementOf, numberOf, judgedNumber, judgedAs, kept, noted, firstsTo, judgedAnswer}
+use Rattle.judgements.specs.Judgements.{negative, indefinite, judgePair, judgeLone, judgementOf, numberOf, judgedAs, kept, noted, firstsTo, judgedAnswer}
 use Rattle.judgements.specs.declared.judgements.Firsts.{Firsts}
 use Rattle.judgements.specs.declared.judgements.Judgement.{Judgement}
-use Rattle.judgements.specs.declared.judgements.Judgement.the-variants.{Holds, Beyond, Negative, Large}
+use Rattle.judgements.specs.declared.judgements.Judgement.the-variants.{Holds, Beyond, Negative, Indefinite}
 
--- ---- is_negative and is_large: a prime marks a number as the machine reads it back
+-- ---- is_negative and is_indefinite: a prime marks a number as the machine reads it back
 
 pub negative-is : (x x′ : ℤ) → x′ ≡ x → ltZ x′ (pos 0) ≡ negative x
 unfolding negative
@@ -73,9 +73,9 @@ module _ (x : Triple) (w : Within greatestWeight x) where
   pub rr-fits : SFits w64 (back (x .r) *ℤ back (x .r))
   rr-fits = product-fits (x .r) (x .r) (w .r-within) (w .r-within)
 
-  pub large-is : ltZ (back (back (back (x .p) *ℤ back (x .q)) *ℤ pos 4)) (back (back (x .r) *ℤ back (x .r))) ≡ large x
-  unfolding large
-  large-is = rw (toZ-ofZ four-fits, pq-is, toZ-ofZ rr-fits, weight-back (x .r) (w .r-within))
+  pub indefinite-is : ltZ (back (back (back (x .p) *ℤ back (x .q)) *ℤ pos 4)) (back (back (x .r) *ℤ back (x .r))) ≡ indefinite x
+  unfolding indefinite
+  indefinite-is = rw (toZ-ofZ four-fits, pq-is, toZ-ofZ rr-fits, weight-back (x .r) (w .r-within))
 
 -- ---- judge_pair
 
@@ -110,10 +110,10 @@ module _ (limit : ℕ) (x : Triple) (b : Bool) (e : b ≡ anyBeyond limit x) whe
         unfolding judgePair
         pair-negative-q m = rw (← e, h, p-tested, k, q-tested, m)
 
-        module _ (m : d ≡ false) (o : Bool) (eo : o ≡ large x) where
-          pub pair-large : o ≡ true → Large ≡ judgePair limit x
+        module _ (m : d ≡ false) (o : Bool) (eo : o ≡ indefinite x) where
+          pub pair-indefinite : o ≡ true → Indefinite ≡ judgePair limit x
           unfolding judgePair
-          pair-large l = rw (← e, h, p-tested, k, q-tested, m, ← eo, l)
+          pair-indefinite l = rw (← e, h, p-tested, k, q-tested, m, ← eo, l)
 
           pub pair-holds : o ≡ false → Holds ≡ judgePair limit x
           unfolding judgePair
@@ -154,48 +154,65 @@ judged-pair limit a row p p′ q q′ r r′ o eo ea er ep eq er′ = eo ∙ rw 
 
 -- ---- keep and note
 
-module _ (f : Found) (hit : Bool) (i : ℕ) where
-  pub keep-found : (j : ℕ) → f ≡ At j → f ≡ kept f hit i
+module _ (f : Found) (i : ℕ) where
+  pub keep-found : (j : ℕ) → f ≡ At j → f ≡ kept f true i
   unfolding kept
   keep-found j h = rw h
 
-  pub keep-hit : f ≡ Nothing → hit ≡ true → At i ≡ kept f hit i
+  pub keep-none : f ≡ Nothing → At i ≡ kept f true i
   unfolding kept
-  keep-hit h k = rw (h, k)
+  keep-none h = rw h
 
-  pub keep-none : f ≡ Nothing → hit ≡ false → Nothing ≡ kept f hit i
-  unfolding kept
-  keep-none h k = rw (h, k)
+-- what is not hit stays
+kept-past : (f : Found) (i : ℕ) → kept f false i ≡ f
+unfolding kept
+kept-past (At j) i = refl
+kept-past Nothing i = refl
 
-pub noted-is : (f : Firsts) (number i : ℕ) (x y z a b d : Found) → a ≡ kept x (eqb number 17) i
-    → b ≡ kept y (eqb number 18) i
-    → d ≡ kept z (eqb number 19) i → x ≡ f .beyond → y ≡ f .negative → z ≡ f .large
-    → record { beyond = a; negative = b; large = d } ≡ noted f number i
-unfolding noted
-noted-is f number i x y z a b d ea eb ed ex ey ez = rw (ea, eb, ed, ex, ey, ez)
+pub noted-holds : (f : Firsts) (j : Judgement) (i : ℕ) → j ≡ Holds → f ≡ noted f j i
+unfolding noted numberOf
+noted-holds f j i h = rw (h, kept-past, kept-past, kept-past)
+
+-- x, y and z are the first rows before, a what is kept of one of them
+module _ (f : Firsts) (j : Judgement) (i : ℕ) (x y z a : Found) (ex : x ≡ f .beyond) (ey : y ≡ f .negative)
+    (ez : z ≡ f .indefinite) where
+  pub noted-beyond : j ≡ Beyond → a ≡ kept x true i
+      → record { beyond = a; negative = y; indefinite = z } ≡ noted f j i
+  unfolding noted numberOf
+  noted-beyond h e = rw (h, e, ex, ey, ez, kept-past, kept-past)
+
+  pub noted-negative : j ≡ Negative → a ≡ kept y true i
+      → record { beyond = x; negative = a; indefinite = z } ≡ noted f j i
+  unfolding noted numberOf
+  noted-negative h e = rw (h, e, ex, ey, ez, kept-past, kept-past)
+
+  pub noted-indefinite : j ≡ Indefinite → a ≡ kept z true i
+      → record { beyond = x; negative = y; indefinite = a } ≡ noted f j i
+  unfolding noted numberOf
+  noted-indefinite h e = rw (h, e, ex, ey, ez, kept-past, kept-past)
 
 -- ---- judge_all
 
 module _ (limit : ℕ) (row : ℕ → Row) where
-  pub firsts-none : record { beyond = Nothing; negative = Nothing; large = Nothing } ≡ firstsTo limit row 0
+  pub firsts-none : record { beyond = Nothing; negative = Nothing; indefinite = Nothing } ≡ firstsTo limit row 0
   unfolding firstsTo
-  firsts-none = rw (first-none, first-none, first-none)
+  firsts-none = rw (first-start, first-start, first-start)
 
-  kept-on : (number i : ℕ)
-      → kept (first (judgedAs number limit row) i) (eqb (judgedNumber limit row i) number) i ≡ first (judgedAs number limit row) (i + 1)
-  unfolding kept judgedAs
-  kept-on number i = go (first (judgedAs number limit row) i) (judgedAs number limit row i) refl refl
+  kept-next : (number i : ℕ) → kept (first (judgedAs number limit row) i) (judgedAs number limit row i) i
+      ≡ first (judgedAs number limit row) (i + 1)
+  unfolding kept
+  kept-next number i = go (first (judgedAs number limit row) i) (judgedAs number limit row i) refl refl
     where
       go : (f : Found) (b : Bool) → first (judgedAs number limit row) i ≡ f → judgedAs number limit row i ≡ b
           → kept f b i ≡ first (judgedAs number limit row) (i + 1)
       go (At j) b h k = rw add-one (sym (first-stays _ i j h))
       go Nothing true h k = rw add-one (sym (first-here _ i h k))
-      go Nothing false h k = sym (first-on _ i false h (sym k) refl)
+      go Nothing false h k = sym (first-next _ i false h (sym k) refl)
 
-  pub firsts-on : (i m : ℕ) (f g : Firsts) → f ≡ firstsTo limit row i → m ≡ judgedNumber limit row i → g ≡ noted f m i
-      → g ≡ firstsTo limit row (i + 1)
-  unfolding firstsTo noted
-  firsts-on i m f g ef em eg = eg ∙ rw (ef, em, kept-on 17 i, kept-on 18 i, kept-on 19 i)
+  pub firsts-on : (i : ℕ) (f g : Firsts) (j : Judgement) → f ≡ firstsTo limit row i
+      → j ≡ judgementOf limit (row i .weights) → g ≡ noted f j i → g ≡ firstsTo limit row (i + 1)
+  unfolding firstsTo noted judgedAs
+  firsts-on i f g j ef ej eg = eg ∙ rw (ef, ej, kept-next 17 i, kept-next 18 i, kept-next 19 i)
 
 -- ---- chosen
 
@@ -210,10 +227,10 @@ module _ (f : Firsts) (k : ℕ) (a : Found) (ea : a ≡ f .beyond) where
     chosen-negative i g =
         passed-at _ a _ 17 _ ea h (refused-at _ b _ 18 _ eb i g (refused-says _ 18 i refl))
 
-    module _ (g : b ≡ Nothing) (d : Found) (ed : d ≡ f .large) where
-      pub chosen-large : (i : ℕ) → d ≡ At i → says (Refused (Proof 19 i)) ≡ judgedAnswer f k
+    module _ (g : b ≡ Nothing) (d : Found) (ed : d ≡ f .indefinite) where
+      pub chosen-indefinite : (i : ℕ) → d ≡ At i → says (Refused (Proof 19 i)) ≡ judgedAnswer f k
       unfolding judgedAnswer
-      chosen-large i l =
+      chosen-indefinite i l =
           passed-at _ a _ 17 _ ea h
           (passed-at _ b _ 18 _ eb g (refused-at _ d _ 19 _ ed i l (refused-says _ 19 i refl)))
 
@@ -222,12 +239,11 @@ module _ (f : Firsts) (k : ℕ) (a : Found) (ea : a ≡ f .beyond) where
       chosen-accepted l =
           passed-at _ a _ 17 _ ea h (passed-at _ b _ 18 _ eb g (passed-at _ d _ 19 _ ed l (accepted-says k)))
 
--- ---- judged_number: row i of the shifted proof
+-- ---- judge_row: row i of the shifted proof
 
-pub judged-number : (limit : ℕ) (row : ℕ → Row) (i : ℕ) (a : Value.Row) (j : Judgement) (m : ℕ) → a ≡ byValue (row i)
-    → j ≡ judgementOf limit (a .weights) → m ≡ numberOf j → m ≡ judgedNumber limit row i
-unfolding judgedNumber
-judged-number limit row i a j m ea ej em = em ∙ rw (ej, value-weights _ a ea)
+pub row-judged : (limit : ℕ) (row : Row) (a : Value.Row) (j : Judgement) → a ≡ byValue row
+    → j ≡ judgementOf limit (a .weights) → j ≡ judgementOf limit (row .weights)
+row-judged limit row a j ea ej = ej ∙ rw (value-weights _ a ea)
 
 -- ---- judge_all and check_judged
 
@@ -247,14 +263,14 @@ not-negative x h = le-ltZ h
 
 pair-judged : (limit : ℕ) (x : Triple) → judgePair limit x ≡ Holds
     → Within limit x × Formal.Holds (Pair (x .p) (x .q) (x .r))
-unfolding judgePair negative large
+unfolding judgePair negative indefinite
 pair-judged limit x h =
     go (anyBeyond limit x) (ltZ (x .p) (pos 0)) (ltZ (x .q) (pos 0)) (ltZ (x .p *ℤ x .q *ℤ pos 4) (x .r *ℤ x .r))
     refl refl refl refl h
   where
     go : (a b d e : Bool) → anyBeyond limit x ≡ a → ltZ (x .p) (pos 0) ≡ b → ltZ (x .q) (pos 0) ≡ d
         → ltZ (x .p *ℤ x .q *ℤ pos 4) (x .r *ℤ x .r) ≡ e
-        → _≡_ {A = Judgement} (cond a Beyond (cond (b || d) Negative (cond e Large Holds))) Holds
+        → _≡_ {A = Judgement} (cond a Beyond (cond (b || d) Negative (cond e Indefinite Holds))) Holds
         → Within limit x × Formal.Holds (Pair (x .p) (x .q) (x .r))
     go true b d e ea eb ed ee k = let z : _≡_ {A = ℕ} 0 1 = cc in absurd (omega arith)
     go false true d e ea eb ed ee k = let z : _≡_ {A = ℕ} 0 1 = cc in absurd (omega arith)
@@ -282,7 +298,7 @@ judged-holds limit (Pair p q r) h = rw (← for-pair (Pair p q r) p p q q r r re
 judged-holds limit (Lone p) h = rw (← for-lone (Lone p) p p refl refl) (lone-judged limit p h)
 
 pub holds-judged : (limit : ℕ) (a : Weights) → Within limit (tripleFor a) → Formal.Holds a → judgementOf limit a ≡ Holds
-unfolding judgementOf judgePair judgeLone large
+unfolding judgementOf judgePair judgeLone indefinite
 holds-judged limit (Pair p q r) w h =
     let v : Within limit (record { p = p; q = q; r = r }) = rw (for-pair (Pair p q r) p p q q r r refl refl refl refl) w in
     rw (within-none limit _ v, not-negative p (h .0), not-negative q (h .1), le-ltZ (h .2))
@@ -298,22 +314,22 @@ unfolding numberOf
 numbered Holds a b d = refl
 numbered Beyond a b d = absurd (eqb-false 17 17 a refl)
 numbered Negative a b d = absurd (eqb-false 18 18 b refl)
-numbered Large a b d = absurd (eqb-false 19 19 d refl)
+numbered Indefinite a b d = absurd (eqb-false 19 19 d refl)
 
 module _ (limit : ℕ) (row : ℕ → Row) (k : ℕ) where
   pub judged-passed : Passes (judgedAnswer (firstsTo limit row k) k) → (i : ℕ) → i < k
       → Within limit (tripleFor (row i .weights)) × Formal.Holds (row i .weights)
-  unfolding judgedAnswer firstsTo judgedAs judgedNumber
+  unfolding judgedAnswer firstsTo judgedAs
   judged-passed h i l =
       let a = passes-at _ 17 _ refl h in
       let b = passes-at _ 18 _ refl (a .1) in
       let d = passes-at _ 19 _ refl (b .1) in
       judged-holds limit (row i .weights)
-      (numbered _ (first-nothing _ k (a .0) i l) (first-nothing _ k (b .0) i l) (first-nothing _ k (d .0) i l))
+      (numbered _ (none-wrong _ k (a .0) i l) (none-wrong _ k (b .0) i l) (none-wrong _ k (d .0) i l))
 
   not-judged : (number i : ℕ) → eqb 0 number ≡ false → judgementOf limit (row i .weights) ≡ Holds
       → judgedAs number limit row i ≡ false
-  unfolding judgedAs judgedNumber numberOf
+  unfolding judgedAs numberOf
   not-judged number i z h = rw h z
 
   pub judged-accepted : ((i : ℕ) → i < k → Within limit (tripleFor (row i .weights)) × Formal.Holds (row i .weights))
@@ -328,7 +344,7 @@ module _ (limit : ℕ) (row : ℕ → Row) (k : ℕ) where
     where
       none : (number : ℕ) → eqb 0 number ≡ false → Nothing ≡ first (judgedAs number limit row) k
       none number z =
-          nothing-first _ k (λ i l. let w = h i l in not-judged number i z (holds-judged limit (row i .weights) (w .0) (w .1)))
+          all-right _ k (λ i l. let w = h i l in not-judged number i z (holds-judged limit (row i .weights) (w .0) (w .1)))
 
 pub judged-short : (limit : ℕ) (row : ℕ → Row) (k : ℕ) → k < 65536 → Short (judgedAnswer (firstsTo limit row k) k)
 unfolding judgedAnswer firstsTo

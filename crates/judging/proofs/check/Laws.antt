@@ -7,7 +7,6 @@ use native.Mathlib.Omega.{arith}
 use lib.ListN.{length, drop}
 use Rattle.integers.proofs.words.Laws.{Bytes}
 use Rattle.answers.specs.Answers.{says, Passes}
-use Rattle.answers.specs.Bounds.{greatestWeight}
 use Rattle.checks.specs.Input.{WellFormed}
 use Rattle.answers.specs.declared.answers.Sheet.{Sheet}
 use Rattle.answers.specs.declared.answers.Verdict.{Verdict}
@@ -20,7 +19,7 @@ use Rattle.sharing.proofs.shifts.Laws.{sheets-checked}
 use Rattle.checks.specs.Input.{inputAnswer}
 use Rattle.weighing.specs.Weighed.{weighedAnswer}
 use Rattle.judging.specs.Check.{targetsOf, checkAnswer, outputOf}
-use Rattle.weighing.specs.Exact.{AllWithin, exactProof}
+use Rattle.weighing.specs.Exact.{Writable, exactProof}
 use Rattle.judging.specs.Promises.{Decides, Floors, Keeps}
 use Rattle.checks.proofs.input.Laws.{input-formed}
 use Rattle.judging.proofs.Promises.{decision, floor-kept, exact-accepted, exact-bytes, accepted-formed, accepted-enough, accepted-within}
@@ -35,7 +34,7 @@ module _ (c s : List ℕ) (f : WellFormed c s) where
   claim-eight = omega (arith, own .claim .sized)
 
   proof-eight : 8 ≤ length s
-  proof-eight = omega (arith, own .proof .sized)
+  proof-eight = omega (arith, own .proof .header .sized)
 
   pub own-here : (a : Aim) → a ≡ aimOf c s → CheckedSheets c s a
   own-here a e = rw e own
@@ -87,7 +86,7 @@ module _ (c s out : List ℕ) (v : Verdict) (e : says v ≡ checkAnswer c s (len
     passes : Passes (checkAnswer c s (length out))
     passes = passed v _ e k h
 
-    pub check-accepted : WellFormed c s
+    check-accepted : WellFormed c s
     check-accepted = accepted-formed c s (length out) passes
 
     pub accepted-claim : 8 ≤ length c
@@ -96,13 +95,14 @@ module _ (c s out : List ℕ) (v : Verdict) (e : says v ≡ checkAnswer c s (len
     pub accepted-proof : 8 ≤ length s
     accepted-proof = proof-eight c s check-accepted
 
-    pub accepted-room : length s ≤ length out
-    accepted-room = accepted-enough c s (length out) passes
-
     module _ (a : Aim) (ea : a ≡ aimOf c s) where
-      pub within-here : AllWithin greatestWeight (targetOf c a) s
+      pub writable : Writable c s a out
       unfolding targetsOf
-      within-here = rw ea (accepted-within c s (length out) passes)
+      writable = record {
+        sheets = own-here c s check-accepted a ea;
+        light = rw ea (accepted-within c s (length out) passes);
+        room = accepted-enough c s (length out) passes;
+      }
 
       module _ (o : List ℕ) (eo : o ≡ exactProof (targetOf c a) s ++ drop (length s) out) where
         pub accepted-output : o ≡ outputOf c s out

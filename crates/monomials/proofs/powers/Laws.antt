@@ -1,194 +1,60 @@
--- Laws of bounded products: `within` respects the products of ℤ, and zero takes in what is too large. The ways through the code.
-use mathlib.Core.Path.{_≡_, refl, _∙_, ap}
-use mathlib.Core.Bool.{Bool, true, false, cond}
+-- Laws of monomials over ℤ: at a point that keeps its sign never negative; at a midpoint the mean of those at its ends.
+use mathlib.Core.Path.{_≡_, refl, sym, _∙_, ap}
+use mathlib.Core.Bool.{true}
 use mathlib.Core.List.{List, [], _∷_}
-use Prim.Native.Nat.{ℕ, zero, suc, _-_, _*_, _/_, _^_, _≤_, _<_, min}
-use native.Mathlib.Nat.{mul-le-mul-right, le-div-iff-mul-le, div-lt-iff-lt-mul}
+use Prim.Native.Nat.{ℕ, zero, suc, _+_, _/_, _%_}
+use native.Mathlib.Nat.{zero-add, suc-add}
 use native.Mathlib.Omega.{arith}
-use lib.Dec.{leb, eqb}
-use lib.IntN.{ℤ, pos, natAbs, _*ℤ_, *ℤ-comm, *ℤ-zero, zero-*ℤ}
-use lib.ListN.{length, getD, take, drop, length-take}
-use lib.Seq.{drop-cons, drop-nil, getD-take}
-use mir.Syntax.{w64}
-use mir.Val.{SFits}
-use mir.Facts.{toZ-ofZ}
-use borrow.Author.Tests.{leb-true, leb-false, le-leb, lt-leb, eqb-true, eqb-false, eq-eqb, ne-eqb}
-use Rattle.integers.proofs.Integers.{back, abs-mul, abs-zero, fits-within}
-use Rattle.points.specs.Points.{Exponents, exponents}
-use Rattle.monomials.specs.Powers.{powerOf, monomialOf, Says, within, largeTimes, productOf}
-use Rattle.points.specs.declared.points.Point.{Point}
-use Rattle.points.proofs.points.Laws.{exponents-counted}
-use Rattle.monomials.specs.declared.powers.Bounded.{Bounded}
-use Rattle.monomials.specs.declared.powers.Bounded.the-variants.{Value, TooLarge}
+use lib.IntN.{ℤ, pos, _*ℤ_}
+use lib.ListN.{replicate}
+use lib.Signed.{_≤ℤ_}
+use Rattle.integers.proofs.Integers.{one-*ℤ, *ℤ-assoc, *ℤ-swap, *ℤ-nonneg, pos-nonneg, square-nonneg}
+use Rattle.points.specs.Points.{Exponents, hasMidpoint, midpointOf, keepsSign}
+use Rattle.points.proofs.points.Laws.{keeps-more, midpoint-none, midpoint-more, whole-more, whole-sized}
+use Rattle.monomials.specs.Powers.{powerOf, monomialOf}
 
--- ---- what an answer says
+-- ---- powers
 
--- the absolute value is either within the limit or over it
-by-size : (z : ℤ) (P : Bounded → Type 0) → (natAbs z ≤ 2 ^ 56 → P (Value z)) → (2 ^ 56 < natAbs z → P TooLarge)
-    → P (within z)
-unfolding within
-by-size z P f g = go (leb (natAbs z) (2 ^ 56)) refl
-  where
-    go : (b : Bool) → leb (natAbs z) (2 ^ 56) ≡ b → P (cond b (Value z) TooLarge)
-    go true e = f (leb-true _ _ e)
-    go false e = g (leb-false _ _ e)
-
-pub within-says : (z : ℤ) → Says (within z) z
-within-says z = by-size z (λ b. Says b z) (λ h. (refl, h)) (λ h. h)
-
-pub says-within : (b : Bounded) (z : ℤ) → Says b z → b ≡ within z
-unfolding within
-says-within (Value x) z s = rw (le-leb _ _ (s .1)) (ap Value (s .0))
-says-within TooLarge z s = rw (lt-leb _ _ s)
-
--- ---- products
-
-abs-more : (x y : ℤ) → (natAbs x ≡ 0 → ⊥) → natAbs y ≤ natAbs (x *ℤ y)
-abs-more x y h = let k : 1 ≤ natAbs x = omega arith in rw (abs-mul x y) (omega (arith, mul-le-mul-right (natAbs y) k))
-
--- one factor over the limit is enough, unless the other is zero
-large-factor : (x y : ℤ) → 2 ^ 56 < natAbs y → largeTimes (Value x) ≡ within (x *ℤ y)
-unfolding largeTimes
-large-factor x y h = go (eqb (natAbs x) 0) refl
-  where
-    go : (b : Bool) → eqb (natAbs x) 0 ≡ b → cond b (Value (pos 0)) TooLarge ≡ within (x *ℤ y)
-    go true e = says-within (Value (pos 0)) (x *ℤ y) (rw (abs-zero x (eqb-true _ _ e), zero-*ℤ y) (refl, omega arith))
-    go false e = says-within TooLarge (x *ℤ y) (omega (arith, abs-more x y (eqb-false _ _ e)))
-
--- a number of whatever size, times one that may be too large
-pub product-value : (x y : ℤ) → productOf (Value x) (within y) ≡ within (x *ℤ y)
-unfolding productOf
-product-value x y = by-size y (λ b. productOf (Value x) b ≡ within (x *ℤ y)) (λ h. refl) (λ h. large-factor x y h)
-
-large-both : (x y : ℤ) → 2 ^ 56 < natAbs x → 2 ^ 56 < natAbs y → TooLarge ≡ within (x *ℤ y)
-large-both x y h k = says-within TooLarge (x *ℤ y) (omega (arith, abs-more x y (λ e. omega arith)))
-
-pub product-within : (x y : ℤ) → productOf (within x) (within y) ≡ within (x *ℤ y)
-unfolding productOf largeTimes
-product-within x y =
-    by-size x (λ a. productOf a (within y) ≡ within (x *ℤ y))
-    (λ h. product-value x y)
-    (λ h. by-size y (λ b. largeTimes b ≡ within (x *ℤ y))
-    (λ k. large-factor y x h ∙ ap within (*ℤ-comm y x))
-    (λ k. large-both x y h k))
-
--- ---- the ways through the code; x′ is what the machine reads back of x
-
--- times: m and n are the absolute values
-module _ (x y x′ y′ : ℤ) (m n : ℕ) (em : m ≡ natAbs x′) (sx : x′ ≡ x) (en : n ≡ natAbs y′) (sy : y′ ≡ y) where
-  abs-is : natAbs (x *ℤ y) ≡ m * n
-  abs-is = abs-mul x y ∙ (let p : natAbs x ≡ m = cc in let q : natAbs y ≡ n = cc in rw (p, q))
-
-  pub times-zero : n ≡ 0 → Value (pos 0) ≡ within (x *ℤ y)
-  times-zero h =
-      let q : natAbs y ≡ 0 = cc in
-      says-within (Value (pos 0)) (x *ℤ y) (rw (abs-zero y q, *ℤ-zero x) (refl, omega arith))
-
-  module _ (some : n ≡ 0 → ⊥) where
-    pub times-large : 72057594037927936 / n < m → TooLarge ≡ within (x *ℤ y)
-    times-large h = says-within TooLarge (x *ℤ y) (rw abs-is (div-lt-iff-lt-mul {k = n} (omega arith) .0 h))
-
-    module _ (h : m ≤ 72057594037927936 / n) where
-      small : natAbs (x *ℤ y) ≤ 72057594037927936
-      small = rw abs-is (le-div-iff-mul-le {k = n} (omega arith) .0 h)
-
-      pub times-fits : SFits w64 (x′ *ℤ y′)
-      times-fits = rw (sx, sy) (fits-within (x *ℤ y) 72057594037927936 small (omega arith))
-
-      pub times-value : Value (back (x′ *ℤ y′)) ≡ within (x *ℤ y)
-      times-value = says-within (Value (back (x′ *ℤ y′))) (x *ℤ y) (toZ-ofZ times-fits ∙ rw (sx, sy), small)
-
--- large_times
-pub large-large : (b : Bounded) → b ≡ TooLarge → TooLarge ≡ largeTimes b
-unfolding largeTimes
-large-large b e = rw e
-
-module _ (b : Bounded) (x x′ : ℤ) (m : ℕ) (e : b ≡ Value x) (em : m ≡ natAbs x′) (s : x′ ≡ x) where
-  pub large-zero : m ≡ 0 → Value (pos 0) ≡ largeTimes b
-  unfolding largeTimes
-  large-zero h = rw (e, eq-eqb (natAbs x) 0 (cc))
-
-  pub large-stays : (m ≡ 0 → ⊥) → TooLarge ≡ largeTimes b
-  unfolding largeTimes
-  large-stays h = rw (e, ne-eqb (natAbs x) 0 (λ z. h (cc)))
-
--- product
-pub product-large : (a b r : Bounded) → a ≡ TooLarge → r ≡ largeTimes b → r ≡ productOf a b
-unfolding productOf
-product-large a b r e h = rw e h
-
-pub product-by-large : (a b r : Bounded) (x x′ : ℤ) → a ≡ Value x → b ≡ TooLarge → r ≡ largeTimes (Value x′) → x′ ≡ x
-    → r ≡ productOf a b
-unfolding productOf
-product-by-large a b r x x′ e f h s = rw (e, f, ← s) h
-
-pub product-numbers : (a b r : Bounded) (x y x′ y′ : ℤ) → a ≡ Value x → b ≡ Value y → r ≡ within (x′ *ℤ y′) → x′ ≡ x
-    → y′ ≡ y → r ≡ productOf a b
-unfolding productOf
-product-numbers a b r x y x′ y′ e f h s t = rw (e, f, ← s, ← t) h
-
--- power: r is the power with exponent one less
-pub power-none : (b : ℤ) (e : ℕ) → e ≡ 0 → Value (pos 1) ≡ within (powerOf b e)
+pub power-add : (x : ℤ) (a b : ℕ) → powerOf x (a + b) ≡ powerOf x a *ℤ powerOf x b
 unfolding powerOf
-power-none b e h = says-within (Value (pos 1)) (powerOf b e) (rw h (refl, omega arith))
+power-add x zero b = rw zero-add (sym (one-*ℤ (powerOf x b)))
+power-add x (suc a) b = rw (suc-add, power-add x a b) (sym (*ℤ-assoc x (powerOf x a) (powerOf x b)))
 
-power-less : (b : ℤ) (e : ℕ) → (e ≡ 0 → ⊥) → powerOf b e ≡ b *ℤ powerOf b (e - 1)
-unfolding powerOf
-power-less b zero h = absurd (h refl)
-power-less b (suc k) h = let q : suc k - 1 ≡ k = omega arith in rw q
+power-half : (x : ℤ) (a b : ℕ) → (a + b) % 2 ≡ 0
+    → powerOf x ((a + b) / 2) *ℤ powerOf x ((a + b) / 2) ≡ powerOf x a *ℤ powerOf x b
+power-half x a b h =
+    let e : (a + b) / 2 + (a + b) / 2 ≡ a + b = omega arith in
+    sym (power-add x ((a + b) / 2) ((a + b) / 2)) ∙ ap (powerOf x) e ∙ power-add x a b
 
-pub power-more : (b b′ b″ : ℤ) (e : ℕ) (r q : Bounded) → (e ≡ 0 → ⊥) → r ≡ within (powerOf b′ (e - 1)) → b′ ≡ b
-    → q ≡ productOf (Value b″) r → b″ ≡ b
-    → q ≡ within (powerOf b e)
-power-more b b′ b″ e r q h er s eq t = rw (power-less b e h) (eq ∙ rw (er, s, t) (product-value b (powerOf b (e - 1))))
+power-even : (x : ℤ) (e : ℕ) → e % 2 ≡ 0 → pos 0 ≤ℤ powerOf x e
+power-even x e h =
+    let k : e ≡ e / 2 + e / 2 = omega arith in
+    rw (k, power-add) (square-nonneg (powerOf x (e / 2)))
 
--- monomial: the product of the powers from a variable on
-monomial-past : (x : List ℤ) (α : Exponents) (i : ℕ) → min (length α) (length x) ≤ i
-    → monomialOf (drop i x) (drop i α) ≡ pos 1
+-- ---- monomials
+
+pub monomial-sign : (x : List ℤ) (α : Exponents) → keepsSign α ≡ true → pos 0 ≤ℤ monomialOf x α
 unfolding monomialOf
-monomial-past x [] i h = rw (drop-nil {A = ℕ} i)
-monomial-past [] (e ∷ α) i h = rw (drop-nil {A = ℤ} i) (go (drop i (e ∷ α)))
-  where
-    go : (α : Exponents) → monomialOf [] α ≡ pos 1
-    go [] = refl
-    go (e ∷ α) = refl
-monomial-past (y ∷ x) (e ∷ α) zero h = absurd (omega arith)
-monomial-past (y ∷ x) (e ∷ α) (suc i) h = monomial-past x α i (omega arith)
+monomial-sign x [] t = pos-nonneg 1
+monomial-sign [] (e ∷ α) t = pos-nonneg 1
+monomial-sign (x ∷ xs) (e ∷ α) t =
+    let q = keeps-more e α t in
+    *ℤ-nonneg (power-even x e (q .0)) (monomial-sign xs α (q .1))
 
-monomial-cons : (x : List ℤ) (α : Exponents) (i : ℕ) → i < length x → i < length α
-    → monomialOf (drop i x) (drop i α) ≡ powerOf (getD x i (pos 0)) (getD α i 0) *ℤ monomialOf (drop (suc i) x) (drop (suc i) α)
+pub monomial-mean : (x : List ℤ) (v w : Exponents) → hasMidpoint v w ≡ true
+    → monomialOf x (midpointOf v w) *ℤ monomialOf x (midpointOf v w) ≡ monomialOf x v *ℤ monomialOf x w
 unfolding monomialOf
-monomial-cons x α i h k = rw (drop-cons x i (pos 0) h, drop-cons α i 0 k)
+monomial-mean x [] [] t = rw midpoint-none
+monomial-mean x [] (b ∷ w) t = let l = whole-sized [] (b ∷ w) t in absurd (omega arith)
+monomial-mean x (a ∷ v) [] t = let l = whole-sized (a ∷ v) [] t in absurd (omega arith)
+monomial-mean [] (a ∷ v) (b ∷ w) t = rw midpoint-more
+monomial-mean (x ∷ xs) (a ∷ v) (b ∷ w) t =
+    let q = whole-more a b v w t in
+    rw (midpoint-more, *ℤ-swap, power-half x a b (q .0), monomial-mean xs v w (q .1), *ℤ-swap)
 
--- the variables from place i on, of eight exponents of which n count
-unfoldable pub From : List ℤ → List ℕ → ℕ → ℕ → ℤ
-From x e n i = monomialOf (drop i x) (drop i (take n e))
-
-pub from-end : (x : List ℤ) (e : List ℕ) (n i : ℕ) → i ≡ min n (length x) → Value (pos 1) ≡ within (From x e n i)
-unfolding From
-from-end x e n i h =
-    says-within (Value (pos 1)) (From x e n i)
-    (rw (monomial-past x (take n e) i (omega (arith, length-take n e))) (refl, omega arith))
-
-pub from-more : (x : List ℤ) (e : List ℕ) (n i : ℕ) (b b′ : ℤ) (r v q : Bounded) → v ≡ within (From x e n i) → 0 < i
-    → i ≤ length x → i ≤ n → n ≤ 8 → length e ≡ 8
-    → b ≡ getD x (i - 1) (pos 0) → b′ ≡ b → r ≡ within (powerOf b′ (getD e (i - 1) 0)) → q ≡ productOf r v
-    → q ≡ within (From x e n (i - 1))
-unfolding From
-from-more x e n i b b′ r v q ev l h k m le eb s er eq =
-    let j : suc (i - 1) ≡ i = omega arith in
-    rw (monomial-cons x (take n e) (i - 1) (omega arith) (omega (arith, length-take n e)), j, getD-take n e (i - 1) 0 (omega arith))
-    (eq ∙ rw (er, ev, s, eb)
-    (product-within (powerOf (getD x (i - 1) (pos 0)) (getD e (i - 1) 0)) (monomialOf (drop i x) (drop i (take n e)))))
-
-pub from-all : (x : List ℤ) (p : Point) (n i : ℕ) (v : Bounded) → v ≡ within (From x (p .exps) n i) → i ≤ 0
-    → length (p .exps) ≡ 8 → n ≡ length (exponents p)
-    → v ≡ within (monomialOf x (exponents p))
-unfolding From
-from-all x p n i v ev h l en =
-    let z : i ≡ 0 = omega arith in
-    ev ∙ rw z (ap (λ (α : Exponents). within (monomialOf x α)) (exponents-counted p n en))
-
--- term
-pub term-is : (c c′ m : ℤ) (q r : Bounded) → r ≡ within m → q ≡ productOf (Value c′) r → c′ ≡ c → q ≡ within (c *ℤ m)
-term-is c c′ m q r er eq s = eq ∙ rw (er, s) (product-value c m)
+-- the constant's monomial is one
+pub monomial-constant : (x : List ℤ) (n : ℕ) → monomialOf x (replicate n 0) ≡ pos 1
+unfolding monomialOf powerOf
+monomial-constant x zero = refl
+monomial-constant [] (suc n) = refl
+monomial-constant (x ∷ xs) (suc n) = one-*ℤ (monomialOf xs (replicate n 0)) ∙ monomial-constant xs n

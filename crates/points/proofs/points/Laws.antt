@@ -12,6 +12,7 @@ use lib.ListN.{length, getD, set, take, drop, replicate, length-replicate, repli
 use lib.Seq.{drop-cons, drop-nil, getD-take, set-at, take-append-seam, ext-getD}
 use borrow.Author.Tests.{lt-ltb, le-ltb, ltb-true, ltb-false, le-leb, leb-true, eq-eqb, eqb-true}
 use borrow.Author.Count.{below-more}
+use Rattle.bounds.specs.Bounds.{mostVariables}
 use Rattle.points.specs.Lists.{table}
 use Rattle.points.specs.Points.{Exponents, exponents, pointOf, bytesAt, every, everyPair, samePoint, risesTo, evenSum, hasMidpoint, midpointOf, keepsSign, exponentsWithin}
 use Rattle.points.proofs.Lists.{table-length, table-get, table-split, table-same}
@@ -19,12 +20,16 @@ use Rattle.points.specs.declared.points.Point.{Point}
 
 -- ---- points by value
 
-module _ (p : Point) (eight : length (p .exps) ≡ 8) where
-  pub variables-fewer : p .n < 8 → p .n ≡ length (exponents p)
+-- as many places as there can be variables
+abbrev pub Places : List ℕ → Type 0
+Places x = length x ≡ mostVariables
+
+module _ (p : Point) (eight : Places (p .exps)) where
+  pub variables-fewer : p .n < mostVariables → p .n ≡ length (exponents p)
   unfolding exponents
   variables-fewer h = sym (length-take (p .n) (p .exps) ∙ omega arith)
 
-  pub variables-all : 8 ≤ p .n → 8 ≡ length (exponents p)
+  pub variables-all : mostVariables ≤ p .n → mostVariables ≡ length (exponents p)
   unfolding exponents
   variables-all h = sym (length-take (p .n) (p .exps) ∙ omega arith)
 
@@ -91,7 +96,7 @@ module _ (p : ℕ → ℕ → Bool) where
   pair-unlike (a ∷ v) (b ∷ w) h = rw (pair-unlike v w (λ e. h (ap suc e))) (and-false (p a b))
 
 -- places of two points by value are places of their exponents
-passed-exponents : (p : ℕ → ℕ → Bool) (a b : Point) (i : ℕ) → length (a .exps) ≡ 8 → length (b .exps) ≡ 8
+passed-exponents : (p : ℕ → ℕ → Bool) (a b : Point) (i : ℕ) → Places (a .exps) → Places (b .exps)
     → i ≤ length (exponents a) → i ≤ length (exponents b)
     → Passed p (a .exps) (b .exps) i → Passed p (exponents a) (exponents b) i
 unfolding Passed
@@ -99,7 +104,7 @@ passed-exponents p a b i ea eb h k e j l =
     rw (exponent-is a ea j (omega arith), exponent-is b eb j (omega arith)) (e j l)
 
 -- the ways through such a loop: n and m are the numbers of variables
-module _ (p : ℕ → ℕ → Bool) (a b : Point) (n m : ℕ) (ea : length (a .exps) ≡ 8) (eb : length (b .exps) ≡ 8)
+module _ (p : ℕ → ℕ → Bool) (a b : Point) (n m : ℕ) (ea : Places (a .exps)) (eb : Places (b .exps))
     (na : n ≡ length (exponents a)) (mb : m ≡ length (exponents b)) where
   pub pair-fewer : (n ≡ m → ⊥) → false ≡ everyPair p (exponents a) (exponents b)
   pair-fewer h = sym (pair-unlike p (exponents a) (exponents b) (λ e. h (na ∙ e ∙ sym mb)))
@@ -137,6 +142,13 @@ unfolding samePoint everyPair
 same-refl [] = refl
 same-refl (a ∷ v) = rw (eq-eqb a a refl, same-refl v)
 
+pub apart-sym : (v w : Exponents) → samePoint v w ≡ false → samePoint w v ≡ false
+apart-sym v w h = go (samePoint w v) (same-eq w v)
+  where
+    go : (b : Bool) → (b ≡ true → w ≡ v) → b ≡ false
+    go true f = absurd (false≢true (sym (rw (f refl) at h) ∙ same-refl v))
+    go false f = refl
+
 -- ---- tests over the exponents of one point
 
 every-pair : (p : ℕ → Bool) (v : Exponents) → every p v ≡ everyPair (λ a b. p a) v v
@@ -144,7 +156,7 @@ unfolding every everyPair
 every-pair p [] = refl
 every-pair p (a ∷ v) = rw (every-pair p v)
 
-module _ (p : ℕ → Bool) (a : Point) (n i : ℕ) (ea : length (a .exps) ≡ 8) (na : n ≡ length (exponents a)) where
+module _ (p : ℕ → Bool) (a : Point) (n i : ℕ) (ea : Places (a .exps)) (na : n ≡ length (exponents a)) where
   pub every-stops : i < n → p (getD (a .exps) i 0) ≡ false → false ≡ every p (exponents a)
   every-stops h k = pair-stops (λ a b. p a) a a n n ea ea na na i refl h k ∙ sym (every-pair p (exponents a))
 
@@ -185,7 +197,7 @@ rises-on x y n left so h l p q =
     let e : n - (left - 1) ≡ n - left + 1 = omega arith in
     rw e (passed-on eqb x y (n - left) so (eq-eqb (getD x (n - left) 0) (getD y (n - left) 0) (omega arith)))
 
-module _ (a b : Point) (n k m left : ℕ) (ea : length (a .exps) ≡ 8) (eb : length (b .exps) ≡ 8)
+module _ (a b : Point) (n k m left : ℕ) (ea : Places (a .exps)) (eb : Places (b .exps))
     (na : k ≡ length (exponents a)) (mb : m ≡ length (exponents b)) (e : n ≡ min k m)
     (so : Passed eqb (a .exps) (b .exps) (n - left)) where
   from-place : risesTo (exponents a) (exponents b) ≡ risesTo (drop (n - left) (exponents a)) (drop (n - left) (exponents b))
@@ -267,22 +279,22 @@ rises-trans (a ∷ u) (b ∷ v) (c ∷ w) h k =
 
 -- eight places: a list, and zeros after it
 unfoldable pub padded : List ℕ → List ℕ
-padded L = L ++ replicate (8 - length L) 0
+padded L = L ++ replicate (mostVariables - length L) 0
 
-padded-set : (L : List ℕ) (v : ℕ) → length L < 8 → set (padded L) (length L) v ≡ padded (L ++ (v ∷ []))
+padded-set : (L : List ℕ) (v : ℕ) → length L < mostVariables → set (padded L) (length L) v ≡ padded (L ++ (v ∷ []))
 unfolding padded
 padded-set L v h =
-    let left : 8 - length L ≡ suc (8 - suc (length L)) = omega arith in
+    let left : mostVariables - length L ≡ suc (mostVariables - suc (length L)) = omega arith in
     let more : length (L ++ (v ∷ [])) ≡ suc (length L) = length-append L (v ∷ []) ∙ omega arith in
-    rw (left, more) (set-at L 0 (replicate (8 - suc (length L)) 0) v (length L) refl ∙ simp append-assoc)
+    rw (left, more) (set-at L 0 (replicate (mostVariables - suc (length L)) 0) v (length L) refl ∙ simp append-assoc)
 
 module _ (f : ℕ → ℕ) where
   -- the loop `while i < n { e[i] = f(i); i += 1; }` over eight zeros
-  pub filled-none : replicate 8 0 ≡ padded (table f 0)
+  pub filled-none : replicate mostVariables 0 ≡ padded (table f 0)
   unfolding padded table
   filled-none = refl
 
-  pub filled-on : (n i : ℕ) (e : List ℕ) (v : ℕ) → e ≡ padded (table f i) → i < n → n ≤ 8 → v ≡ f i
+  pub filled-on : (n i : ℕ) (e : List ℕ) (v : ℕ) → e ≡ padded (table f i) → i < n → n ≤ mostVariables → v ≡ f i
       → set e i v ≡ padded (table f (i + 1))
   unfolding table
   filled-on n i e v h l m q =
@@ -326,14 +338,14 @@ bytes-eight s at = refl
 
 pub exponents-of : (α : Exponents) → exponents (pointOf α) ≡ α
 unfolding exponents pointOf
-exponents-of α = take-append-seam α (replicate (8 - length α) 0)
+exponents-of α = take-append-seam α (replicate (mostVariables - length α) 0)
 
 -- the constant's point
-pub zeros-point : (n : ℕ) → n ≤ 8 → record { exps = replicate 8 0; n = n } ≡ pointOf (replicate n 0)
+pub zeros-point : (n : ℕ) → n ≤ mostVariables → record { exps = replicate mostVariables 0; n = n } ≡ pointOf (replicate n 0)
 unfolding pointOf
 zeros-point n h =
-    let e : n + (8 - n) ≡ 8 = omega arith in
-    rw (length-replicate {A = ℕ} n 0, replicate-append-replicate {A = ℕ} n (8 - n) 0, e)
+    let e : n + (mostVariables - n) ≡ mostVariables = omega arith in
+    rw (length-replicate {A = ℕ} n 0, replicate-append-replicate {A = ℕ} n (mostVariables - n) 0, e)
 
 -- its exponents are within any limit
 pub zeros-within : (limit n : ℕ) → exponentsWithin limit (replicate n 0) ≡ true
@@ -412,7 +424,7 @@ midpoint-within limit (a ∷ v) (b ∷ w) h k =
     rw (le-leb ((a + b) / 2) limit m, midpoint-within limit v w (p .1) (q .1))
 
 -- the way out of the loop
-pub midpoint-made : (a b : Point) (n k m i : ℕ) (e : List ℕ) → length (a .exps) ≡ 8 → length (b .exps) ≡ 8
+pub midpoint-made : (a b : Point) (n k m i : ℕ) (e : List ℕ) → Places (a .exps) → Places (b .exps)
     → k ≡ length (exponents a) → m ≡ length (exponents b) → n ≡ min k m
     → e ≡ padded (table (λ j. (getD (a .exps) j 0 + getD (b .exps) j 0) / 2) i) → n ≤ i → i ≤ n
     → record { exps = e; n = n } ≡ pointOf (midpointOf (exponents a) (exponents b))

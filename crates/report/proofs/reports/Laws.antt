@@ -26,19 +26,20 @@ use Rattle.sheets.proofs.proof_sheet.Laws.{scale-bound, triple-narrow}
 use Rattle.answers.proofs.answers.Laws.{failed, passed, accepted-value, accepted-says, accepted-passes}
 use Rattle.text.specs.Text.{Room, Written}
 use Rattle.text.specs.Lines.{acceptedLine, rowLine}
-use Rattle.report.specs.Reports.{ended, linesOf, rowText, rowsText, shapeWith, firstText, acceptedText, refusedText, carries, reportText}
+use Rattle.report.specs.Reports.{ended, linesOf, rowText, rowsText, shapeWith, firstText, acceptedText, refusedText, reportable, reportText}
 use Rattle.text.proofs.text.Laws.{room-first, room-then, written-then}
 use Rattle.text.proofs.lines.Laws.{accepted-short, line-short, refusal-short}
+use Rattle.bounds.specs.Bounds.{mostVariables, mostRows}
 
--- ---- how long they are: numbers of 32 bits and at most 256 rows
+-- ---- how long they are: numbers of 32 bits, and no more rows than a proof can have
 
-first-short : (c s : List ℕ) (k : ℕ) → Bytes c → Bytes s → k ≤ 256 → length (firstText c s k) ≤ 53
+first-short : (c s : List ℕ) (k : ℕ) → Bytes c → Bytes s → k ≤ mostRows → length (firstText c s k) ≤ 53
 unfolding firstText ended
 first-short c s k bc bs h =
     let S : scaleOf s < 10 ^ 10 = omega (arith, scale-bound s bs) in
     simp length-append (omega (arith, accepted-short k (scaleOf s) (floorOf c) (omega arith) S (floor-fits c bc)))
 
-row-short : (s : List ℕ) (sh : Shape) (i : ℕ) → Bytes s → i < 256 → length (rowText s sh i) ≤ 50
+row-short : (s : List ℕ) (sh : Shape) (i : ℕ) → Bytes s → i < mostRows → length (rowText s sh i) ≤ 50
 unfolding rowText ended
 row-short s sh i b h =
     let f = triple-narrow s sh i b in
@@ -54,7 +55,7 @@ rows-next : (s : List ℕ) (sh : Shape) (i : ℕ) → rowsText s sh (suc i) ≡ 
 unfolding rowsText linesOf rowText
 rows-next s sh i = refl
 
-rows-short : (s : List ℕ) (sh : Shape) (i : ℕ) → Bytes s → i ≤ 256 → length (rowsText s sh i) ≤ i * 50
+rows-short : (s : List ℕ) (sh : Shape) (i : ℕ) → Bytes s → i ≤ mostRows → length (rowsText s sh i) ≤ i * 50
 rows-short s sh zero b h = rw (rows-zero s sh) (omega arith)
 rows-short s sh (suc i) b h =
     rw (rows-next s sh i, length-append (rowsText s sh i) (rowText s sh i))
@@ -129,32 +130,32 @@ module _ (c s l : List ℕ) (k at scale : ℕ) (floor floor′ : ℤ) (es : scal
 -- ---- sheets that carry an acceptance
 
 module _ (c s : List ℕ) (k : ℕ) where
-  pub no-claim : length c < 8 → false ≡ carries c s k
-  unfolding carries
+  pub no-claim : length c < 8 → false ≡ reportable c s k
+  unfolding reportable
   no-claim h = rw (lt-leb 8 (length c) h)
 
   module _ (p : 8 ≤ length c) where
-    pub no-proof : length s < 8 → false ≡ carries c s k
-    unfolding carries
+    pub no-proof : length s < 8 → false ≡ reportable c s k
+    unfolding reportable
     no-proof h = rw (le-leb 8 (length c) p, lt-leb 8 (length s) h)
 
     module _ (q : 8 ≤ length s) (n : ℕ) (en : n ≡ variables s) where
       long : leb 8 (length c) && leb 8 (length s) ≡ true
       long = rw (le-leb 8 (length c) p, le-leb 8 (length s) q)
 
-      pub many-variables : 8 < n → false ≡ carries c s k
-      unfolding carries
-      many-variables h = rw (long, ← en, lt-leb n 8 h)
+      pub many-variables : mostVariables < n → false ≡ reportable c s k
+      unfolding reportable
+      many-variables h = rw (long, ← en, lt-leb n mostVariables h)
 
-      module _ (few : n ≤ 8) where
-        pub many-rows : 256 < k → false ≡ carries c s k
-        unfolding carries
-        many-rows h = rw (long, ← en, le-leb n 8 few, lt-leb k 256 h)
+      module _ (few : n ≤ mostVariables) where
+        pub many-rows : mostRows < k → false ≡ reportable c s k
+        unfolding reportable
+        many-rows h = rw (long, ← en, le-leb n mostVariables few, lt-leb k mostRows h)
 
-        pub rows-carried : k ≤ 256 → (l : ℕ) → l ≡ proofLength (record { n = n; k = k })
-            → leb l (length s) ≡ carries c s k
-        unfolding carries
-        rows-carried h l el = rw (long, ← en, le-leb n 8 few, le-leb k 256 h, el)
+        pub rows-reportable : k ≤ mostRows → (l : ℕ) → l ≡ proofLength (record { n = n; k = k })
+            → leb l (length s) ≡ reportable c s k
+        unfolding reportable
+        rows-reportable h l el = rw (long, ← en, le-leb n mostVariables few, le-leb k mostRows h, el)
 
 -- what such sheets have
 record Enough (c s : List ℕ) (k : ℕ) : Type 0 where
@@ -162,8 +163,8 @@ record Enough (c s : List ℕ) (k : ℕ) : Type 0 where
   proof : 8 ≤ length s
   rows : ProofRoom s (shapeWith s k)
 
-enough : (c s : List ℕ) (k : ℕ) → carries c s k ≡ true → Enough c s k
-unfolding carries
+enough : (c s : List ℕ) (k : ℕ) → reportable c s k ≡ true → Enough c s k
+unfolding reportable
 enough c s k h =
     let p = and-eq-true-iff _ _ .0 h in
     let q = and-eq-true-iff _ _ .0 (p .0) in
@@ -176,20 +177,20 @@ enough c s k h =
     }
 
 -- and that is enough
-carries-enough : (c s : List ℕ) (k : ℕ) → 8 ≤ length c → ProofRoom s (shapeWith s k) → carries c s k ≡ true
-unfolding carries
-carries-enough c s k h r =
+reportable-enough : (c s : List ℕ) (k : ℕ) → 8 ≤ length c → ProofRoom s (shapeWith s k) → reportable c s k ≡ true
+unfolding reportable
+reportable-enough c s k h r =
     rw (le-leb 8 (length c) h, le-leb 8 (length s) (omega (arith, r .long)), le-leb _ _ (r .few), le-leb _ _ (r .rows), le-leb _ _ (r .long))
 
-module _ (c s : List ℕ) (k : ℕ) (h : carries c s k ≡ true) where
-  pub claim-carried : 8 ≤ length c
-  claim-carried = enough c s k h .claim
+module _ (c s : List ℕ) (k : ℕ) (h : reportable c s k ≡ true) where
+  pub claim-reportable : 8 ≤ length c
+  claim-reportable = enough c s k h .claim
 
-  pub proof-carried : 8 ≤ length s
-  proof-carried = enough c s k h .proof
+  pub proof-reportable : 8 ≤ length s
+  proof-reportable = enough c s k h .proof
 
-  pub room-carried : (n : ℕ) → n ≡ variables s → ProofRoom s (record { n = n; k = k })
-  room-carried n e = rw e (enough c s k h .rows)
+  pub room-reportable : (n : ℕ) → n ≡ variables s → ProofRoom s (record { n = n; k = k })
+  room-reportable n e = rw e (enough c s k h .rows)
 
 -- accepted_text
 module _ (c s l m : List ℕ) (k at mid : ℕ) (w : Written l at (firstText c s k) m mid) (n : ℕ)
@@ -212,8 +213,8 @@ module _ (c s l o : List ℕ) (v : Verdict) (end : ℕ) where
   refused-report x number index h en ei w = rw (failed v (says v) refl x h, ← en, ← ei) w
 
 -- b is whether the sheets carry it
-module _ (c s l : List ℕ) (k : ℕ) (b : Bool) (e : b ≡ carries c s k) where
-  pub carried : b ≡ true → carries c s k ≡ true
+module _ (c s l : List ℕ) (k : ℕ) (b : Bool) (e : b ≡ reportable c s k) where
+  pub carried : b ≡ true → reportable c s k ≡ true
   carried t = sym e ∙ t
 
   module _ (v : Verdict) (h : v ≡ Accepted k) where
@@ -229,7 +230,7 @@ module _ (c s l : List ℕ) (k : ℕ) (b : Bool) (e : b ≡ carries c s k) where
         (record { bytes = refl; ends = refl; kept = refl; inside = omega arith })
 
 -- it has room
-pub accepted-room : (c s l : List ℕ) (k : ℕ) (b : Bool) → Bytes c → Bytes s → b ≡ carries c s k → b ≡ true
+pub accepted-room : (c s l : List ℕ) (k : ℕ) (b : Bool) → Bytes c → Bytes s → b ≡ reportable c s k → b ≡ true
     → length l ≡ 12853 → Room l 0 (acceptedText c s k)
 unfolding acceptedText
 accepted-room c s l k b bc bs eb t e =
@@ -262,5 +263,5 @@ module _ (c s : List ℕ) where
   unfolding reportText acceptedText firstText rowsText
   accepted-lines k S x h room es ex =
       let ev : accepted k .value ≡ k = rw (accepted-says k) at (accepted-value k) in
-      rw (accepted-passes (accepted k) k refl, ev, carries-enough c s k h room, es)
+      rw (accepted-passes (accepted k) k refl, ev, reportable-enough c s k h room, es)
       (ap (λ (l : List ℕ). ended (acceptedLine k S (floorOf c)) ++ l) (lines-same (tripleOf s (shapeWith s k)) x k ex))

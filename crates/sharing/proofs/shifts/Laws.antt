@@ -17,14 +17,14 @@ use Rattle.integers.proofs.division.Laws.{share-abs}
 use Rattle.points.specs.Points.{Exponents, exponents, pointOf, samePoint, midpointOf}
 use Rattle.keys.specs.Keys.{keyOf}
 use Rattle.points.specs.declared.points.Point.{Point}
-use Rattle.points.proofs.points.Laws.{exponents-of, same-eq, same-refl}
+use Rattle.points.proofs.points.Laws.{exponents-of, same-eq, same-refl, apart-sym}
 use Rattle.keys.proofs.keys.Laws.{key-midpoint}
-use Rattle.squares.specs.Sums.{Sum}
+use Rattle.squares.specs.Sums.{Sum, coefficient}
 use Rattle.squares.specs.Rows.{slotsOf, slots}
 use Rattle.squares.specs.declared.rows.Weights.{Weights}
 use Rattle.squares.specs.declared.rows.Weights.the-variants.{Pair, Lone}
 use Rattle.squares.proofs.rows.Laws.{slots-pair, slots-lone}
-use Rattle.answers.specs.Bounds.{greatestWeight}
+use Rattle.bounds.specs.Bounds.{greatestWeight}
 use Rattle.sheets.specs.Layout.{variables, rowCount, shapeOf, ProofRoom}
 use Rattle.sheets.specs.ProofSheet.{vOf, wOf, tripleOf, rowOf, rowsOf, byValue}
 use Rattle.sheets.specs.declared.layout.Shape.{Shape}
@@ -32,9 +32,8 @@ use Rattle.sheets.specs.declared.proof_sheet.Row.{Row}
 use Rattle.sheets.proofs.proof_sheet.Laws.{lone-of, pair-of, row-v, row-w, value-v, value-w, value-weights, by-value}
 use Rattle.checks.specs.ProofChecks.{ProofFacts}
 use Rattle.checks.specs.Input.{WellFormed}
-use Rattle.checks.proofs.proof_checks.Facts.{proof-room}
 use Rattle.checks.proofs.input.Laws.{claim-formed, same-formed, proof-formed}
-use Rattle.targets.specs.Targets.{aimOf, targetOf}
+use Rattle.targets.specs.Targets.{aimOf, targetOf, Targeted}
 use Rattle.targets.specs.Carried.{Carried}
 use Rattle.targets.specs.declared.targets.Aim.{Aim}
 use Rattle.targets.proofs.Carried.{carried-same}
@@ -44,7 +43,7 @@ use Rattle.sharing.specs.Slots.{slotsTo, holdingOf}
 use Rattle.sharing.specs.Shifts.{CheckedSheets, IsRow, slotsBefore, shiftedWeights, shiftRow, shiftedRow}
 use Rattle.sharing.specs.declared.slots.Holding.{Holding}
 use Rattle.sharing.proofs.Sharing.{count-nil, count-cons}
-use Rattle.sharing.proofs.slots.Laws.{all-slots, among, v-carried, w-carried, middle-carried, slots-are, tally-bound, tally-sum}
+use Rattle.sharing.proofs.slots.Laws.{all-slots, among, v-carried, w-carried, middle-carried, tally-small, key-bound, held-at}
 
 -- ---- moved: z is the target, y the share
 
@@ -85,7 +84,7 @@ sheets-checked c s f =
       claim = claim;
       proof = proof;
       same = same-formed c s f;
-      aim = aim-within c s (claim .floor-within) (proof .scale);
+      aim = aim-within c s (claim .floor-within) (proof .header .scale-within);
     }
 
 -- ---- shifted: sh is what the proof sheet says
@@ -100,34 +99,46 @@ module _ (c s : List ℕ) (a : Aim) (given : CheckedSheets c s a) (sh : Shape) (
   pub row-here : (i : ℕ) → i < rowCount s → i < sh .k
   row-here i l = rw e l
 
-  module _ (i own : ℕ) (p : Point)
-      (ranked : count (exponents p) (slotsBefore s i) + own < count (exponents p) (slots (rowsOf s))) where
-    pub ranked-here : count (exponents p) (slotsTo s sh i) + own < count (exponents p) (slotsTo s sh (sh .k))
-    unfolding slotsBefore
-    ranked-here = rw (all-slots s sh e, e) ranked
+  module _ (α : Exponents) (carried : Carried (variables c) α) (key : ℕ) (ek : key ≡ keyOf α) where
+    pub key-here : key < 2 ^ 63
+    key-here = key-bound s sh proof-checked key α (carried-here α carried) ek
 
-    module _ (h : Holding) (eh : h ≡ holdingOf (exponents p) (slotsTo s sh (sh .k)) (slotsTo s sh i) own) where
-      pub held-small : Carried (variables c) (exponents p) → natAbs (h .sum) ≤ 2 ^ 42
-      unfolding holdingOf
-      held-small carried =
-          let f = proof-checked in
-          let m = slots-are s sh f (sh .k) (omega arith) in
-          let g = tally-bound (sh .n) (sh .k * 3) (keyOf (exponents p)) (slotsTo s sh (sh .k)) m .0 in
-          let rows = f .rows in
-          let here = carried-here (exponents p) carried in
-          let same = tally-sum (sh .n) (exponents p) here (slotsTo s sh (sh .k)) (m .each) in
-          rw (eh, ← same) (omega (arith, g))
+    pub targeted : Targeted c a α key
+    targeted = record { claim = given .claim; aim = given .aim; point = carried; keyed = ek }
 
-      pub held-some : 0 < h .count
-      unfolding holdingOf
-      held-some = rw eh (omega (arith, ranked-here))
+    module _ (i own : ℕ) (l : i < rowCount s) (ranked : count α (slotsBefore s i) + own < count α (slots (rowsOf s)))
+      where
+        -- the slots with the key are those at the point
+        holding : holdingOf key (slotsTo s sh (sh .k)) (slotsTo s sh i) own
+            ≡ record {
+              sum = coefficient α (slots (rowsOf s));
+              count = count α (slots (rowsOf s));
+              rank = count α (slotsBefore s i) + own;
+            }
+        unfolding slotsBefore
+        holding =
+            held-at s sh proof-checked key α (carried-here α carried) ek i own (omega (arith, row-here i l))
+            ∙ rw (all-slots s sh e, e)
 
-      pub shifted-is : (x x′ z z′ r r′ : ℤ) → r ≡ x′ +ℤ share (z′ -ℤ h .sum) (h .count) (h .rank)
-          → z ≡ targetOf c a (exponents p) → r′ ≡ r → z′ ≡ z → x′ ≡ x
-          → r′
-          ≡ shiftedWeight (targetOf c a) (slots (rowsOf s)) (count (exponents p) (slotsBefore s i) + own) (exponents p) x
-      unfolding holdingOf slotsBefore shiftedWeight errorAt
-      shifted-is x x′ z z′ r r′ er ez br bz bx = br ∙ er ∙ rw (bz, ez, bx, eh, all-slots s sh e, e)
+        pub own-small : own < 65536
+        unfolding holdingOf
+        own-small =
+            let all = ap (λ (h : Holding). h .count) holding in
+            omega (arith, ranked, all, tally-small s sh proof-checked key (sh .k) (omega arith) .1)
+
+        module _ (h : Holding) (eh : h ≡ holdingOf key (slotsTo s sh (sh .k)) (slotsTo s sh i) own) where
+          pub held-small : natAbs (h .sum) ≤ 2 ^ 42
+          unfolding holdingOf
+          held-small = rw eh (omega (arith, tally-small s sh proof-checked key (sh .k) (omega arith) .0))
+
+          pub held-some : 0 < h .count
+          held-some = rw (eh, holding) (omega (arith, ranked))
+
+          pub shifted-is : (x x′ z z′ r r′ : ℤ) → r ≡ x′ +ℤ share (z′ -ℤ h .sum) (h .count) (h .rank)
+              → z ≡ targetOf c a α → r′ ≡ r → z′ ≡ z → x′ ≡ x
+              → r′ ≡ shiftedWeight (targetOf c a) (slots (rowsOf s)) (count α (slotsBefore s i) + own) α x
+          unfolding shiftedWeight errorAt
+          shifted-is x x′ z z′ r r′ er ez br bz bx = br ∙ er ∙ rw (bz, ez, bx, eh, holding)
 
 -- ---- no slot of the row's own is before one at another point
 
@@ -145,6 +156,9 @@ rank-past α before β x own h = rw (count-cons, h)
 module _ (s : List ℕ) (sh : Shape) (i : ℕ) (f : ProofFacts s sh) (l : i < sh .k) where
   -- of a pair, no two points are the same
   module _ (apart : samePoint (vOf s sh i) (wOf s sh i) ≡ false) where
+    pub w-off-v : samePoint (wOf s sh i) (vOf s sh i) ≡ false
+    w-off-v = apart-sym _ _ apart
+
     keys-apart : (keyOf (vOf s sh i) ≡ keyOf (wOf s sh i)) → ⊥
     keys-apart e =
         let same = carried-same (sh .n) (vOf s sh i) (wOf s sh i) (v-carried s sh i f l) (w-carried s sh i f l) in
@@ -156,9 +170,6 @@ module _ (s : List ℕ) (sh : Shape) (i : ℕ) (f : ProofFacts s sh) (l : i < sh
         go : (b : Bool) → samePoint α β ≡ b → b ≡ false
         go true e = absurd (d (ap keyOf (same-eq α β e)))
         go false e = refl
-
-    pub w-off-v : samePoint (wOf s sh i) (vOf s sh i) ≡ false
-    w-off-v = unlike _ _ (λ e. keys-apart (sym e))
 
     middle-key : keyOf (vOf s sh i) + keyOf (wOf s sh i) ≡ keyOf (midpointOf (vOf s sh i) (wOf s sh i)) * 2
     middle-key = key-midpoint (vOf s sh i) (wOf s sh i) (f .whole i l)
@@ -201,28 +212,28 @@ module _ (c s : List ℕ) (t : Aim) (i : ℕ) (given : CheckedSheets c s t) (l :
 
   module _ (v w : Point) (a : Weights) (row : IsRow s i v w a) where
     v-is : exponents v ≡ α
-    v-is = rw (row .first) (exponents-of α)
+    v-is = rw (row .v-is) (exponents-of α)
 
     w-is : exponents w ≡ β
-    w-is = rw (row .second) (exponents-of β)
+    w-is = rw (row .w-is) (exponents-of β)
 
-    pub v-carries : Carried (variables c) (exponents v)
-    v-carries = rw (v-is, ← (given .same)) (v-carried s sh i (given .proof) l)
+    pub at-v-carried : Carried (variables c) (exponents v)
+    at-v-carried = rw (v-is, ← (given .same)) (v-carried s sh i (given .proof) l)
 
-    pub w-carries : Carried (variables c) (exponents w)
-    w-carries = rw (w-is, ← (given .same)) (w-carried s sh i (given .proof) l)
+    pub at-w-carried : Carried (variables c) (exponents w)
+    at-w-carried = rw (w-is, ← (given .same)) (w-carried s sh i (given .proof) l)
 
     module _ (u : Point) (eu : u ≡ pointOf (midpointOf (exponents v) (exponents w))) where
       u-is : exponents u ≡ midpointOf α β
       u-is = rw (eu, exponents-of (midpointOf (exponents v) (exponents w)), v-is, w-is)
 
-      pub u-carries : Carried (variables c) (exponents u)
-      u-carries = rw (u-is, ← (given .same)) (middle-carried s sh i (given .proof) l)
+      pub at-u-carried : Carried (variables c) (exponents u)
+      at-u-carried = rw (u-is, ← (given .same)) (middle-carried s sh i (given .proof) l)
 
     -- a lone row
     module _ (p : ℤ) (e : a ≡ Lone p) where
       lone-row : rowOf s sh i .weights ≡ Lone p
-      lone-row = sym (row .carries) ∙ e
+      lone-row = sym (row .weights-are) ∙ e
 
       pub lone-within : (p′ : ℤ) → p′ ≡ p → natAbs p′ ≤ greatestWeight
       lone-within p′ ep = rw (ep, ← (lone-of s sh i p lone-row .1)) (given .proof .weights-within i l .p-within)
@@ -241,7 +252,7 @@ module _ (c s : List ℕ) (t : Aim) (i : ℕ) (given : CheckedSheets c s t) (l :
     -- a pair
     module _ (p q r : ℤ) (e : a ≡ Pair p q r) where
       pair-row : rowOf s sh i .weights ≡ Pair p q r
-      pair-row = sym (row .carries) ∙ e
+      pair-row = sym (row .weights-are) ∙ e
 
       parts : (samePoint α β ≡ false) × (tripleOf s sh i .p ≡ p) × (tripleOf s sh i .q ≡ q) × (tripleOf s sh i .r ≡ r)
       parts = pair-of s sh i p q r pair-row
@@ -316,14 +327,14 @@ module _ (c s : List ℕ) (t : Aim) (i : ℕ) (given : CheckedSheets c s t) (l :
 
 module _ (c s : List ℕ) (t : Aim) (i : ℕ) (sh : Shape) (given : CheckedSheets c s t) (e : sh ≡ shapeOf s) where
   pub room-here : ProofRoom s sh
-  room-here = proof-room s sh (proof-checked c s t given sh e)
+  room-here = proof-checked c s t given sh e .header .room
 
   module _ (row : Row) (er : row ≡ byValue (rowOf s sh i)) where
     pub is-row : (v w : Point) (a : Weights) → v ≡ row .v → w ≡ row .w → a ≡ row .weights → IsRow s i v w a
     is-row v w a ev ew ea = record {
-      first = ev ∙ value-v _ row er ∙ rw (row-v, e);
-      second = ew ∙ value-w _ row er ∙ rw (row-w, e);
-      carries = ea ∙ value-weights _ row er ∙ rw e;
+      v-is = ev ∙ value-v _ row er ∙ rw (row-v, e);
+      w-is = ew ∙ value-w _ row er ∙ rw (row-w, e);
+      weights-are = ea ∙ value-weights _ row er ∙ rw e;
     }
 
     pub row-shifted : (v w : Point) (x : Weights) → x ≡ shiftedRow (targetOf c t) s i .weights → v ≡ row .v → w ≡ row .w

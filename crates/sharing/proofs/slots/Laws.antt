@@ -18,9 +18,8 @@ use mir.Facts.{toZ-ofZ}
 use Rattle.integers.specs.Words.{i32At}
 use Rattle.integers.proofs.Integers.{back, abs-add, fits-within}
 use Rattle.points.specs.Lists.{table, All}
-use Rattle.points.specs.Points.{Exponents, exponents, samePoint, midpointOf}
+use Rattle.points.specs.Points.{Exponents, samePoint, midpointOf}
 use Rattle.keys.specs.Keys.{keyOf}
-use Rattle.points.specs.declared.points.Point.{Point}
 use Rattle.points.proofs.Lists.{all-append}
 use Rattle.points.proofs.points.Laws.{same-eq, midpoint-sized, midpoint-within}
 use Rattle.keys.proofs.keys.Laws.{key-midpoint}
@@ -29,20 +28,19 @@ use Rattle.squares.specs.Rows.{slotsOf, slots}
 use Rattle.squares.proofs.Sums.{coefficient-nil, coefficient-cons}
 use Rattle.squares.proofs.Gathered.{gathered-none, gathered-more}
 use Rattle.squares.proofs.rows.Laws.{slots-pair, slots-lone}
-use Rattle.answers.specs.Bounds.{greatestExponent, greatestWeight}
+use Rattle.bounds.specs.Bounds.{greatestExponent, greatestWeight}
 use Rattle.answers.specs.Searches.{first}
 use Rattle.answers.specs.declared.searches.Found.the-variants.{Nothing}
-use Rattle.answers.proofs.searches.Laws.{first-nothing}
+use Rattle.answers.proofs.searches.Laws.{none-wrong}
 use Rattle.sheets.specs.Layout.{shapeOf, tripleAt}
 use Rattle.sheets.specs.ProofSheet.{vOf, wOf, tripleOf, rowOf, rowsOf}
 use Rattle.sheets.specs.declared.layout.Shape.{Shape}
 use Rattle.sheets.proofs.proof_sheet.Laws.{triple-inside, p-there, q-there, r-there, row-lone, row-pair, row-v, row-w, v-length, w-length, rows-table}
 use Rattle.checks.specs.ProofChecks.{Within, ProofFacts}
-use Rattle.checks.proofs.proof_checks.Facts.{proof-room}
 use Rattle.targets.specs.Carried.{Carried}
 use Rattle.targets.proofs.Carried.{carried-same, carried-low}
 use Rattle.sharing.specs.Sharing.{count}
-use Rattle.sharing.specs.Slots.{Small, slotsTo, holdsKey, added, tallyFrom, tallyOf, holdingOf}
+use Rattle.sharing.specs.Slots.{Small, HoldsKey, slotsTo, holdsPoint, added, tallyFrom, tallyOf, holdingOf}
 use Rattle.sharing.specs.declared.slots.Tally.{Tally}
 use Rattle.sharing.proofs.Sharing.{count-append, count-cons, count-nil, row-counted}
 
@@ -172,6 +170,14 @@ tally-bound n m key L h =
     let g = from-bound n key (record { sum = pos 0; count = 0 }) L (h .each) in
     (omega (arith, g .0, h .short, mul-le-mul-right greatestWeight (h .short)), omega (arith, g .1, h .short))
 
+-- what the slots of the first rows can weigh together, and how many they can be
+pub tally-small : (s : List ℕ) (sh : Shape) → ProofFacts s sh → (key i : ℕ) → i ≤ sh .k
+    → (natAbs (tallyOf key (slotsTo s sh i) .sum) ≤ 2 ^ 41) × (tallyOf key (slotsTo s sh i) .count ≤ 768)
+tally-small s sh f key i l =
+    let g = tally-bound (sh .n) (i * 3) key (slotsTo s sh i) (slots-are s sh f i l) in
+    let rows = f .header .room .rows in
+    (omega (arith, g .0), omega (arith, g .1))
+
 -- ---- the slots with a point's key are those at the point
 
 module _ (n : ℕ) (α : Exponents) (carried : Carried n α) where
@@ -248,8 +254,8 @@ module _ (s : List ℕ) (sh : Shape) (i : ℕ) (f : ProofFacts s sh) (l : i < sh
 
     pub ends-fit : Fits w64 (v + w)
     ends-fit =
-        let hv = carried-low (sh .n) (vOf s sh i) (f .few) (v-carried s sh i f l) in
-        let hw = carried-low (sh .n) (wOf s sh i) (f .few) (w-carried s sh i f l) in
+        let hv = carried-low (sh .n) (vOf s sh i) (f .header .room .few) (v-carried s sh i f l) in
+        let hw = carried-low (sh .n) (wOf s sh i) (f .header .room .few) (w-carried s sh i f l) in
         omega (arith, ev, ew, hv, hw)
 
     middle : (key : ℕ) → eqb (v + w) (key * 2) ≡ eqb key (keyOf (midpointOf (vOf s sh i) (wOf s sh i)))
@@ -257,26 +263,7 @@ module _ (s : List ℕ) (sh : Shape) (i : ℕ) (f : ProofFacts s sh) (l : i < sh
         rw (ev, ew, key-midpoint (vOf s sh i) (wOf s sh i) (f .whole i l))
         (halved (keyOf (midpointOf (vOf s sh i) (wOf s sh i))) key)
 
-    -- holds_key
-    module _ (key : ℕ) where
-      pub key-first : key ≡ v → true ≡ holdsKey s sh key i
-      unfolding holdsKey
-      key-first e = rw (← ev, eq-eqb key v e)
-
-      module _ (a : key ≡ v → ⊥) where
-        pub key-second : key ≡ w → true ≡ holdsKey s sh key i
-        unfolding holdsKey
-        key-second e = rw (← ev, ← ew, ne-eqb key v a, eq-eqb key w e)
-
-        pub key-middle : (key ≡ w → ⊥) → eqb (v + w) (key * 2) ≡ holdsKey s sh key i
-        unfolding holdsKey
-        key-middle b = rw (← ev, ← ew, ne-eqb key v a, ne-eqb key w b)
-
-  -- the slots of the row
-  abbrev own : Sum
-  own = slotsOf (rowOf s sh i)
-
-  -- a row has a slot at a point exactly where it holds the point's key
+  -- a row holds a point exactly where one of its slots has the point's key
   module _ (α : Exponents) (carried : Carried (sh .n) α) where
     abbrev at : Exponents → Bool
     at β = samePoint α β
@@ -291,8 +278,10 @@ module _ (s : List ℕ) (sh : Shape) (i : ℕ) (f : ProofFacts s sh) (l : i < sh
     any-held false false true = refl
     any-held false false false = refl
 
-    held-by-key : holdsKey s sh (keyOf α) i ≡ ltb 0 (count α own)
-    unfolding holdsKey
+    held-by-key : eqb (keyOf α) (keyOf (vOf s sh i)) || eqb (keyOf α) (keyOf (wOf s sh i))
+        || eqb (keyOf (vOf s sh i) + keyOf (wOf s sh i)) (keyOf α * 2)
+        ≡ holdsPoint s sh α i
+    unfolding holdsPoint
     held-by-key = go (samePoint (vOf s sh i) (wOf s sh i)) refl
       where
         v-at : eqb (keyOf α) (keyOf (vOf s sh i)) ≡ at (vOf s sh i)
@@ -313,7 +302,7 @@ module _ (s : List ℕ) (sh : Shape) (i : ℕ) (f : ProofFacts s sh) (l : i < sh
         go : (b : Bool) → samePoint (vOf s sh i) (wOf s sh i) ≡ b
             → eqb (keyOf α) (keyOf (vOf s sh i)) || eqb (keyOf α) (keyOf (wOf s sh i))
             || eqb (keyOf (vOf s sh i) + keyOf (wOf s sh i)) (keyOf α * 2)
-            ≡ ltb 0 (count α own)
+            ≡ ltb 0 (count α (slotsOf (rowOf s sh i)))
         go true e =
             let q = same-eq (vOf s sh i) (wOf s sh i) e in
             let d : keyOf (wOf s sh i) + keyOf (wOf s sh i) ≡ keyOf (wOf s sh i) * 2 = omega arith in
@@ -323,23 +312,36 @@ module _ (s : List ℕ) (sh : Shape) (i : ℕ) (f : ProofFacts s sh) (l : i < sh
             rw (row-pair s sh i e, row-v, row-w, slots-pair, count-cons, count-cons, count-cons, count-nil, v-at, w-at, u-at)
             (any-held (at (vOf s sh i)) (at (wOf s sh i)) (at (midpointOf (vOf s sh i) (wOf s sh i))))
 
-    pub key-held : holdsKey s sh (keyOf α) i ≡ true → 0 < count α (slotsTo s sh (sh .k))
-    key-held h = let held = ltb-true 0 (count α own) (sym held-by-key ∙ h) in omega (arith, held, among s sh i α l)
+  -- holds_key
+  module _ (v w key : ℕ) (ev : v ≡ keyOf (vOf s sh i)) (ew : w ≡ keyOf (wOf s sh i)) where
+    told : (answer : Bool) → answer ≡ eqb key v || eqb key w || eqb (v + w) (key * 2) → HoldsKey s sh key i answer
+    told answer h = record { tells = λ α carried e. h ∙ rw (e, ev, ew) (held-by-key α carried) }
 
-    key-unheld : holdsKey s sh (keyOf α) i ≡ false → count α own ≡ 0
-    key-unheld h = let z = ltb-false 0 (count α own) (sym held-by-key ∙ h) in omega arith
+    pub key-first : key ≡ v → HoldsKey s sh key i true
+    key-first e = told true (rw (eq-eqb key v e))
 
--- where no row holds the key, no slot is at the point
-pub keys-unheld : (s : List ℕ) (sh : Shape) (α : Exponents) → ProofFacts s sh → Carried (sh .n) α
-    → first (holdsKey s sh (keyOf α)) (sh .k) ≡ Nothing → count α (slotsTo s sh (sh .k)) ≡ 0
-unfolding slotsTo
-keys-unheld s sh α f carried h = go (sh .k) (omega arith)
-  where
-    go : (i : ℕ) → i ≤ sh .k → count α (slots (table (rowOf s sh) i)) ≡ 0
-    go zero l = rw (gathered-none, count-nil)
-    go (suc i) l =
-        let z = key-unheld s sh i f l α carried (first-nothing _ (sh .k) h i l) in
-        rw (gathered-more slotsOf (rowOf s sh) i, count-append) (omega (arith, z, go i (omega arith)))
+    module _ (a : key ≡ v → ⊥) where
+      pub key-second : key ≡ w → HoldsKey s sh key i true
+      key-second e = told true (rw (ne-eqb key v a, eq-eqb key w e))
+
+      pub key-middle : (key ≡ w → ⊥) → HoldsKey s sh key i (eqb (v + w) (key * 2))
+      key-middle b = told _ (rw (ne-eqb key v a, ne-eqb key w b))
+
+-- a point that a row holds has a slot, and one that no row holds has none
+module _ (s : List ℕ) (sh : Shape) (α : Exponents) where
+  pub point-held : (i : ℕ) → i < sh .k → holdsPoint s sh α i ≡ true → 0 < count α (slotsTo s sh (sh .k))
+  unfolding holdsPoint
+  point-held i l h = omega (arith, ltb-true 0 (count α (slotsOf (rowOf s sh i))) h, among s sh i α l)
+
+  pub point-unheld : first (holdsPoint s sh α) (sh .k) ≡ Nothing → count α (slotsTo s sh (sh .k)) ≡ 0
+  unfolding slotsTo holdsPoint
+  point-unheld h = go (sh .k) (omega arith)
+    where
+      go : (i : ℕ) → i ≤ sh .k → count α (slots (table (rowOf s sh) i)) ≡ 0
+      go zero l = rw (gathered-none, count-nil)
+      go (suc i) l =
+          let z = ltb-false 0 (count α (slotsOf (rowOf s sh i))) (none-wrong _ (sh .k) h i l) in
+          rw (gathered-more slotsOf (rowOf s sh) i, count-append) (omega (arith, z, go i (omega arith)))
 
 -- ---- add_row: v and w are the keys of the row's ends
 
@@ -349,7 +351,7 @@ module _ (s : List ℕ) (sh : Shape) (i : ℕ) (f : ProofFacts s sh) (l : i < sh
     weights = f .weights-within i l
 
     inside : at + 12 ≤ length s
-    inside = triple-inside s sh i at (proof-room s sh f) l ea
+    inside = triple-inside s sh i at (f .header .room) l ea
 
     pub p-inside : at + 4 ≤ length s
     p-inside = omega (arith, inside)
@@ -389,10 +391,7 @@ module _ (s : List ℕ) (sh : Shape) (i : ℕ) (f : ProofFacts s sh) (l : i < sh
     -- the tallies before the row's first, second and third slot
     module _ (key : ℕ) (a : Tally) (ha : a ≡ tallyOf key (slotsTo s sh i)) where
       bound : (natAbs (a .sum) ≤ 2 ^ 41) × (a .count ≤ 768)
-      bound =
-          let g = tally-bound (sh .n) (i * 3) key (slotsTo s sh i) (slots-are s sh f i (omega arith)) in
-          let rows = f .rows in
-          rw ha (omega (arith, g .0), omega (arith, g .1))
+      bound = rw ha (tally-small s sh f key i (omega arith))
 
       pub small-first : Small a
       small-first = record { sum-small = omega (arith, bound .0); count-small = omega (arith, bound .1) }
@@ -421,30 +420,33 @@ pub tally-none : (s : List ℕ) (sh : Shape) (key : ℕ) → record { sum = pos 
 unfolding tallyOf
 tally-none s sh key = rw (no-slots s sh, tally-nil)
 
-module _ (s : List ℕ) (sh : Shape) (f : ProofFacts s sh) (p : Point) (carried : Carried (sh .n) (exponents p)) (key : ℕ)
-    (e : key ≡ keyOf (exponents p)) where
-  abbrev α : Exponents
-  α = exponents p
-
-  pub key-bound : key < 2 ^ 63
-  key-bound = omega (arith, e, carried-low (sh .n) α (f .few) carried)
-
-  tallied : (i : ℕ) → i ≤ sh .k → tallyOf key (slotsTo s sh i) .count ≡ count α (slotsTo s sh i)
-  tallied i l = rw e (tally-count (sh .n) α carried (slotsTo s sh i) (slots-are s sh f i l .each))
-
+module _ (s : List ℕ) (sh : Shape) (f : ProofFacts s sh) (key : ℕ) where
   module _ (i own : ℕ) (before all : Tally) (eb : before ≡ tallyOf key (slotsTo s sh i)) (l : i < sh .k) where
-    pub rank-fits : count α (slotsTo s sh i) + own < count α (slotsTo s sh (sh .k)) → Fits w32 (before .count + own)
-    rank-fits h =
-        let m = slots-are s sh f (sh .k) (omega arith) in
-        let g = tally-bound (sh .n) (sh .k * 3) key (slotsTo s sh (sh .k)) m .1 in
-        let rows = f .rows in
-        rw eb (omega (arith, h, g, tallied i (omega arith), tallied (sh .k) (omega arith)))
+    pub rank-fits : own < 65536 → Fits w32 (before .count + own)
+    rank-fits h = rw eb (omega (arith, tally-small s sh f key i (omega arith) .1))
 
     pub held-is : (z : ℤ) → all ≡ tallyOf key (slotsTo s sh (sh .k)) → z ≡ all .sum
         → record { sum = z; count = all .count; rank = before .count + own }
-        ≡ holdingOf α (slotsTo s sh (sh .k)) (slotsTo s sh i) own
+        ≡ holdingOf key (slotsTo s sh (sh .k)) (slotsTo s sh i) own
     unfolding holdingOf
-    held-is z ea ez =
+    held-is z ea ez = rw (ez, eb, ea)
+
+  -- the slots with a point's key are those at the point
+  module _ (α : Exponents) (carried : Carried (sh .n) α) (e : key ≡ keyOf α) where
+    pub key-bound : key < 2 ^ 63
+    key-bound = omega (arith, e, carried-low (sh .n) α (f .header .room .few) carried)
+
+    tallied : (i : ℕ) → i ≤ sh .k → tallyOf key (slotsTo s sh i) .count ≡ count α (slotsTo s sh i)
+    tallied i l = rw e (tally-count (sh .n) α carried (slotsTo s sh i) (slots-are s sh f i l .each))
+
+    pub held-at : (i own : ℕ) → i ≤ sh .k → holdingOf key (slotsTo s sh (sh .k)) (slotsTo s sh i) own
+        ≡ record {
+          sum = coefficient α (slotsTo s sh (sh .k));
+          count = count α (slotsTo s sh (sh .k));
+          rank = count α (slotsTo s sh i) + own;
+        }
+    unfolding holdingOf
+    held-at i own l =
         let every = slots-are s sh f (sh .k) (omega arith) .each in
         let sum = tally-sum (sh .n) α carried (slotsTo s sh (sh .k)) every in
-        rw (ez, eb, ea, tallied i (omega arith), tallied (sh .k) (omega arith), e, sum)
+        rw (tallied i l, tallied (sh .k) (omega arith), e, sum)

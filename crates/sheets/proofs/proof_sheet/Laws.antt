@@ -22,13 +22,14 @@ use Rattle.sheets.specs.declared.layout.Shape.{Shape}
 use Rattle.sheets.specs.ProofSheet.{scaleOf, vOf, wOf, wordsAt, tripleOf, weightsOf, rowOf, rowsOf, byValue, tripleFor, Suits, Narrow}
 use Rattle.sheets.specs.declared.proof_sheet.Row.{Row}
 use Rattle.sheets.specs.declared.proof_sheet.Triple.{Triple}
+use Rattle.bounds.specs.Bounds.{mostVariables, mostRows}
 
 -- ---- fields read
 
 pub shape-read : (s : List ℕ) (n k : ℕ) → n ≡ variables s → k ≡ rowCount s → record { n = n; k = k } ≡ shapeOf s
 shape-read s n k en ek = rw (en, ek)
 
-pub row-low : (sh : Shape) (i from : ℕ) → sh .n ≤ 8 → sh .k ≤ 256 → i < sh .k → from ≡ vAt sh i → from ≤ 4088
+pub row-low : (sh : Shape) (i from : ℕ) → sh .n ≤ mostVariables → sh .k ≤ mostRows → i < sh .k → from ≡ vAt sh i → from ≤ 4088
 row-low sh i from few rows l e = let h : i ≤ 255 = omega arith in omega (arith, mul-le-mul h few)
 
 module _ (s : List ℕ) (sh : Shape) (i from : ℕ) (room : ProofRoom s sh) (l : i < sh .k) (e : from ≡ vAt sh i) where
@@ -44,7 +45,7 @@ module _ (s : List ℕ) (sh : Shape) (i from : ℕ) (room : ProofRoom s sh) (l :
   pub w-inside : from + sh .n + sh .n ≤ length s
   w-inside = omega (arith, mul-le-mul-right (2 * sh .n) l)
 
-module _ (sh : Shape) (i : ℕ) (few : sh .n ≤ 8) (rows : sh .k ≤ 256) (from : ℕ) (e : from ≡ place 8 (sh .k) (2 * sh .n))
+module _ (sh : Shape) (i : ℕ) (few : sh .n ≤ mostVariables) (rows : sh .k ≤ mostRows) (from : ℕ) (e : from ≡ place 8 (sh .k) (2 * sh .n))
   where
     pub rows-low : from ≤ 16777216
     rows-low = omega (arith, mul-le-mul rows few)

@@ -1,9 +1,9 @@
 -- Laws of targets: the term found by its key is the one at the point, and the ways through the code. A prime marks a
 -- number as the machine reads it back.
-use mathlib.Core.Path.{_≡_, refl, sym, _∙_}
+use mathlib.Core.Path.{_≡_, refl, sym, _∙_, ap}
 use mathlib.Core.Bool.{Bool, true, false, cond}
 use mathlib.Core.List.{List}
-use Prim.Native.Nat.{ℕ, zero, suc, _+_, _*_, _^_, _<_, _≤_}
+use Prim.Native.Nat.{ℕ, zero, suc, _^_, _<_, _≤_}
 use native.Mathlib.Nat.{mul-le-mul}
 use native.Mathlib.Numerals.{add-one}
 use native.Mathlib.Omega.{arith}
@@ -25,21 +25,21 @@ use Rattle.points.specs.declared.points.Point.{Point}
 use Rattle.squares.proofs.Targets.{worst-kept, worst-negative, worst-positive, target-is, lowered-constant, lowered-other}
 use Rattle.points.proofs.Lists.{table-none, table-more}
 use Rattle.squares.proofs.Sums.{coefficient-nil, coefficient-cons, coefficient-append}
-use Rattle.points.proofs.points.Laws.{same-eq}
+use Rattle.points.proofs.points.Laws.{same-eq, same-refl, apart-sym}
 use Rattle.keys.proofs.keys.Laws.{key-zeros}
-use Rattle.answers.specs.Bounds.{greatestWeight, greatestScale}
-use Rattle.sheets.specs.Layout.{variables, termCount}
+use Rattle.bounds.specs.Bounds.{greatestWeight, greatestScale}
+use Rattle.sheets.specs.Layout.{variables, termCount, ClaimRoom}
 use Rattle.answers.specs.Searches.{first}
 use Rattle.sheets.specs.ClaimSheet.{floorOf, termPoint, coefficientOf, termOf, termsOf}
 use Rattle.sheets.specs.ProofSheet.{scaleOf}
 use Rattle.claims.specs.ClaimChecks.{ClaimFacts}
 use Rattle.answers.specs.declared.searches.Found.{Found}
 use Rattle.answers.specs.declared.searches.Found.the-variants.{At, Nothing}
-use Rattle.answers.proofs.searches.Laws.{first-none, first-here, first-stays, first-on, first-inside}
+use Rattle.answers.proofs.searches.Laws.{first-start, first-here, first-stays, first-next, first-inside, first-at, all-right}
 use Rattle.sheets.proofs.claim_sheet.Laws.{terms-table, term-point, term-coefficient}
 use Rattle.claims.proofs.claim_checks.Facts.{points-differ}
 use Rattle.targets.specs.declared.targets.Aim.{Aim}
-use Rattle.targets.specs.Targets.{AimWithin, aimOf, targetOf, hasKey, loweredBy, foundAt, loweredAt}
+use Rattle.targets.specs.Targets.{AimWithin, Targeted, aimOf, targetOf, hasKey, loweredBy, foundAt, coefficientWith, targetWith}
 use Rattle.targets.specs.Carried.{Carried}
 use Rattle.targets.proofs.Carried.{term-carried, constant-carried, carried-same}
 
@@ -139,24 +139,25 @@ pub key-tested : (c : List ℕ) (n i key k : ℕ) → k ≡ keyOf (termPoint c n
 unfolding hasKey
 key-tested c n i key k e = rw e
 
--- ---- lowered_at: f is what was found, r what was taken from it
+-- ---- coefficient_at: f is what was found
 
-module _ (c : List ℕ) (n t key : ℕ) (a : Aim) (f : Found) (ef : f ≡ first (hasKey c n key) t) where
-  pub lowered-none : (r r′ : ℤ) → r ≡ loweredBy a key (pos 0) → f ≡ Nothing → r′ ≡ r → r′ ≡ loweredAt c n t a key
-  unfolding loweredAt foundAt
-  lowered-none r r′ er h e = e ∙ er ∙ rw (← ef, h)
+module _ (c : List ℕ) (n t key : ℕ) (f : Found) (ef : f ≡ first (hasKey c n key) t) where
+  pub none-with : f ≡ Nothing → pos 0 ≡ coefficientWith c n t key
+  unfolding coefficientWith foundAt
+  none-with h = rw (← ef, h)
 
   module _ (i : ℕ) (h : f ≡ At i) where
     pub found-inside : i < t
     found-inside = first-inside (hasKey c n key) t i (sym ef ∙ h) .0
 
-    pub found-within : (x x′ : ℤ) → ClaimFacts c n t → x ≡ coefficientOf c n t i → x′ ≡ x → natAbs x′ ≤ greatestWeight
-    found-within x x′ facts ex e = rw (e, ex) (facts .coefficient-within i found-inside)
+    pub found-with : (x x′ : ℤ) → x ≡ coefficientOf c n t i → x′ ≡ x → x′ ≡ coefficientWith c n t key
+    unfolding coefficientWith foundAt
+    found-with x x′ ex e = e ∙ ex ∙ rw (← ef, h)
 
-    pub lowered-found : (x x′ r r′ : ℤ) → r ≡ loweredBy a key x′ → x ≡ coefficientOf c n t i → r′ ≡ r → x′ ≡ x
-        → r′ ≡ loweredAt c n t a key
-    unfolding loweredAt foundAt
-    lowered-found x x′ r r′ er ex e e₂ = e ∙ er ∙ rw (← ef, h, e₂, ex)
+-- x is the coefficient of term i
+pub term-small : (c : List ℕ) (n t i : ℕ) (x x′ : ℤ) → ClaimFacts c n t → x ≡ coefficientOf c n t i → x′ ≡ x → i < t
+    → natAbs x′ ≤ greatestWeight
+term-small c n t i x x′ facts ex e l = rw (e, ex) (facts .coefficient-within i l)
 
 -- ---- the term found by its key is the one at the point
 
@@ -192,7 +193,7 @@ module _ (c : List ℕ) (n t : ℕ) (facts : ClaimFacts c n t) (α : Exponents) 
 
   found-coefficient : (m : ℕ) → m ≤ t → foundAt c n t (first here m) ≡ coefficient α (terms m)
   unfolding foundAt
-  found-coefficient zero l = rw (first-none here, table-none, coefficient-nil)
+  found-coefficient zero l = rw (first-start here, table-none, coefficient-nil)
   found-coefficient (suc m) l =
       go (first here m) refl (here m) refl (found-coefficient m (omega arith)) ∙ sym (term-more m l)
     where
@@ -204,38 +205,78 @@ module _ (c : List ℕ) (n t : ℕ) (facts : ClaimFacts c n t) (α : Exponents) 
       go Nothing e true h ih =
           rw (first-here here m e h, h, ← ih, e) (sym (+ℤ-idl (coefficientOf c n t m)))
       go Nothing e false h ih =
-          let s : first here (suc m) ≡ Nothing = rw add-one at (first-on here m false e (sym h) refl) in
+          let s : first here (suc m) ≡ Nothing = rw add-one at (first-next here m false e (sym h) refl) in
           rw (s, h, ← ih, e)
 
-  abbrev f : Sum
-  f = termsOf c
+  -- the coefficient at a key is that of the polynomial at the point, and that of a term the one at its point
+  coefficient-found : coefficientWith c n t (keyOf α) ≡ coefficient α (terms t)
+  unfolding coefficientWith here
+  coefficient-found = found-coefficient t (omega arith)
 
-  pub at-point : (a : Aim) → n ≡ variables c → t ≡ termCount c
-      → loweredAt c n t a (keyOf α) ≡ coefficient α (lowered (variables c) (a .floor) (termsOf c))
-  unfolding loweredAt loweredBy here
-  at-point a en et =
-      rw (found-coefficient t (omega arith), terms-table c n t en et, ← en) (go (samePoint α (replicate n 0)) refl)
+  term-there : (i : ℕ) → i < t → α ≡ termPoint c n i → coefficientOf c n t i ≡ coefficient α (terms t)
+  unfolding foundAt here
+  term-there i l e = ap (foundAt c n t) found ∙ found-coefficient t (omega arith)
     where
+      earlier : (j : ℕ) → j < i → here j ≡ false
+      earlier j m = key-there j (omega arith) ∙ rw e (apart-sym _ _ (points-differ c n t facts j i m l))
+
+      found : At i ≡ first here t
+      found =
+          first-at here t i true l (sym (all-right here i earlier))
+          (sym (key-there i l ∙ rw e (same-refl (termPoint c n i)))) refl
+
+  -- the target, from the coefficient of the polynomial
+  target-here : (a : Aim) (x : ℤ) → n ≡ variables c → t ≡ termCount c → x ≡ coefficient α (terms t)
+      → targetWith a α (keyOf α) x ≡ targetOf c a α
+  unfolding targetWith targetOf loweredBy
+  target-here a x en et ex =
+      rw (ex, terms-table c n t en et, target-is, ← en)
+      (ap (λ (y : ℤ). pos (a .scale) *ℤ worst (keepsSign α) y) (go (samePoint α (replicate n 0)) refl))
+    where
+      f : Sum
+      f = termsOf c
+
       go : (k : Bool) → samePoint α (replicate n 0) ≡ k
           → cond (eqb (keyOf α) 0) (coefficient α f -ℤ a .floor) (coefficient α f) ≡ coefficient α (lowered n (a .floor) f)
       go true e = rw (constant-there, e) (sym (lowered-constant n (a .floor) f α e))
       go false e = rw (constant-there, e) (sym (lowered-other n (a .floor) f α e))
 
--- ---- target: x is the coefficient of g, y the same with the worst sign, z the target
+-- ---- target_with: x is the coefficient, y the same with the floor taken from it, z with the worst sign
 
-module _ (c : List ℕ) (n t : ℕ) (en : n ≡ variables c) (et : t ≡ termCount c)
-    (facts : ClaimFacts c (variables c) (termCount c)) where
+pub with-made : (a : Aim) (p : Point) (key : ℕ) (k : Bool) (x x′ y y′ z z′ r r′ : ℤ) → r ≡ pos (a .scale) *ℤ z′
+    → z ≡ worst k y′ → y ≡ loweredBy a key x′ → k ≡ keepsSign (exponents p) → r′ ≡ r → z′ ≡ z → y′ ≡ y → x′ ≡ x
+    → r′ ≡ targetWith a (exponents p) key x
+unfolding targetWith
+with-made a p key k x x′ y y′ z z′ r r′ er ez ey ek br bz by bx = br ∙ er ∙ rw (bz, ez, ek, by, ey, bx)
+
+-- ---- target_at and term_target: x is the coefficient, r the target
+
+module _ (c : List ℕ) (n t : ℕ) (en : n ≡ variables c) (et : t ≡ termCount c) (a : Aim) (α : Exponents) (key : ℕ)
+    (given : Targeted c a α key) where
   pub facts-here : ClaimFacts c n t
-  facts-here = rw (en, et) facts
+  facts-here = rw (en, et) (given .claim)
 
-  pub target-made : (key : ℕ) (a : Aim) (x x′ y y′ z z′ : ℤ) (p : Point) (k : Bool) → z ≡ pos (a .scale) *ℤ y′
-      → y ≡ worst k x′
-      → x ≡ loweredAt c n t a key → k ≡ keepsSign (exponents p) → key ≡ keyOf (exponents p)
-      → Carried (variables c) (exponents p) → z′ ≡ z → y′ ≡ y → x′ ≡ x → z′ ≡ targetOf c a (exponents p)
-  unfolding targetOf
-  target-made key a x x′ y y′ z z′ p k ez ey ex ek e carried bz by bx =
-      bz ∙ ez ∙ rw (by, ey, bx, ex, ek, e, at-point c n t facts-here (exponents p) (rw en carried) a en et)
-      (sym (target-is (a .scale) (lowered (variables c) (a .floor) (termsOf c)) (exponents p)))
+  pub room-here : ClaimRoom c n t
+  room-here = facts-here .room
+
+  carried : Carried n α
+  carried = rw en (given .point)
+
+  module _ (x x′ r r′ : ℤ) (er : r ≡ targetWith a α key x′) (br : r′ ≡ r) (bx : x′ ≡ x) where
+    made : x ≡ coefficient α (table (termOf c n t) t) → r′ ≡ targetOf c a α
+    made ex = br ∙ er ∙ rw (bx, given .keyed) (target-here c n t facts-here α carried a x en et ex)
+
+    pub target-made : x ≡ coefficientWith c n t key → r′ ≡ targetOf c a α
+    target-made ex = made (ex ∙ rw (given .keyed) (coefficient-found c n t facts-here α carried))
+
+    pub term-made : (i : ℕ) → x ≡ coefficientOf c n t i → i < termCount c → α ≡ termPoint c (variables c) i
+        → r′ ≡ targetOf c a α
+    term-made i ex l e =
+        let l′ : i < t = rw et l in
+        made (ex ∙ term-there c n t facts-here α carried i l′ (rw en e))
+
+pub term-inside : (c : List ℕ) (t i : ℕ) → t ≡ termCount c → i < termCount c → i < t
+term-inside c t i e l = rw e l
 
 -- ---- for the crates above
 

@@ -22,9 +22,8 @@ use Rattle.sheets.specs.declared.proof_sheet.Triple.{Triple}
 use Rattle.sheets.proofs.proof_sheet.Laws.{value-weights}
 use Rattle.writing.specs.Writing.{withWeights, withRows}
 use Rattle.writing.proofs.writing.Laws.{all-none, all-more, all-length, all-before, all-scale, all-append, all-read, sheet-read, row-again, sheet-again}
-use Rattle.answers.specs.Bounds.{greatestWeight}
+use Rattle.bounds.specs.Bounds.{greatestWeight}
 use Rattle.checks.specs.ProofChecks.{Within, ProofFacts}
-use Rattle.checks.proofs.proof_checks.Facts.{proof-room}
 use Rattle.targets.specs.Targets.{targetOf}
 use Rattle.targets.specs.declared.targets.Aim.{Aim}
 use Rattle.sharing.specs.Shifts.{shiftedRow, shiftedRows, CheckedSheets}
@@ -54,9 +53,9 @@ module _ (c s : List ℕ) (t : Aim) (given : CheckedSheets c s t) (sh : Shape) (
   module _ (out₀ out : List ℕ) (i : ℕ) (e : out ≡ withRows weights out₀ sh i) where
     pub room-kept : length s ≤ length out₀ → ProofRoom out sh
     room-kept l = record {
-      few = proof-here .few;
-      rows = proof-here .rows;
-      long = rw (e, all-length weights out₀ sh i) (omega (arith, proof-here .sized, l));
+      few = proof-here .header .room .few;
+      rows = proof-here .header .room .rows;
+      long = rw (e, all-length weights out₀ sh i) (omega (arith, proof-here .header .sized, l));
     }
 
     pub length-kept : length out ≡ length out₀
@@ -96,7 +95,7 @@ module _ (c s out o : List ℕ) (t : Aim) (e : o ≡ take (length s) s ++ drop (
   exact-written o′ given eo =
       eo ∙ rw copied
       (all-append (weightsFor (targetOf c t) s) s (shapeOf s) (drop (length s) out) (rowCount s) (omega arith)
-      (omega (arith, given .proof .sized)))
+      (given .proof .header .room .long))
 
 -- ---- the exact proof's rows are the shifted rows
 
@@ -105,7 +104,7 @@ pub exact-rows : (c s : List ℕ) (t : Aim) → CheckedSheets c s t → AllWithi
 unfolding exactProof weightsFor
 exact-rows c s t given w =
     let τ : Exponents → ℤ = targetOf c t in
-    let room = proof-room s (shapeOf s) (given .proof) in
+    let room = given .proof .header .room in
     sheet-read s (shapeOf s) (weightsFor τ s) room (λ i l. within-narrow _ (w .within i l))
     (λ i l. keeps-kind τ s i) refl
     ∙ sym (rows-are τ s)

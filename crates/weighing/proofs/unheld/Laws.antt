@@ -34,16 +34,16 @@ use Rattle.answers.specs.declared.searches.Found.the-variants.{At, Nothing}
 use Rattle.answers.specs.declared.answers.Verdict.the-variants.{Accepted}
 use Rattle.answers.proofs.answers.Laws.{passes-at, passed-at, accepted-says, passed}
 use Rattle.answers.proofs.Short.{short-accepted, short-at}
-use Rattle.answers.proofs.searches.Laws.{first-at, first-on, first-end, first-nothing, nothing-first}
+use Rattle.answers.proofs.searches.Laws.{first-at, first-next, first-end, none-wrong, all-right}
 use Rattle.targets.specs.Carried.{Carried}
 use Rattle.sharing.specs.Sharing.{count}
-use Rattle.targets.specs.Targets.{targetOf}
+use Rattle.targets.specs.Targets.{targetOf, Targeted}
 use Rattle.targets.specs.declared.targets.Aim.{Aim}
-use Rattle.sharing.specs.Slots.{slotsTo, holdsKey}
+use Rattle.sharing.specs.Slots.{slotsTo, HoldsKey, holdsPoint}
 use Rattle.sharing.specs.Shifts.{shiftedRows, CheckedSheets}
 use Rattle.targets.proofs.Carried.{term-carried, constant-carried, carried-low}
-use Rattle.sharing.proofs.slots.Laws.{key-held, keys-unheld, all-slots}
-use Rattle.sharing.proofs.shifts.Laws.{proof-checked}
+use Rattle.sharing.proofs.slots.Laws.{point-held, point-unheld, all-slots}
+use Rattle.sharing.proofs.shifts.Laws.{proof-checked, targeted}
 use Rattle.targets.proofs.targets.Laws.{target-of}
 use Rattle.sharing.proofs.Rows.{held-adds, unheld-adds}
 use Rattle.weighing.specs.Unheld.{pointFor, unheldAt, unheld, unheldAnswer}
@@ -75,11 +75,20 @@ module _ (c : List ℕ) (n t i : ℕ) where
       go true e = term-carried c n t i f (ltb-true i t e)
       go false e = constant-carried n
 
--- ---- no_target: x is the target
+-- ---- no_target: x is the target, t the number of terms
 
 pub no-target : (c : List ℕ) (a : Aim) (m : ℕ) (p : Point) (x x′ : ℤ) → x ≡ targetOf c a (exponents p) → m ≡ natAbs x′
     → x′ ≡ x → eqb m 0 ≡ eqb (natAbs (targetOf c a (exponents p))) 0
 no-target c a m p x x′ ex em e = rw (em, e, ex)
+
+module _ (c : List ℕ) (t i : ℕ) (et : t ≡ termCount c) (l : i < t) where
+  pub term-inside : i < termCount c
+  term-inside = rw et at l
+
+  pub point-of-term : (p : Point) → exponents p ≡ pointFor c (variables c) (termCount c) i
+      → exponents p ≡ termPoint c (variables c) i
+  unfolding pointFor
+  point-of-term p e = e ∙ rw (lt-ltb i (termCount c) term-inside)
 
 -- ---- a point with no target, one that is held, and one that is neither
 
@@ -131,14 +140,21 @@ module _ (c s : List ℕ) (a : Aim) (given : CheckedSheets c s a) (n t : ℕ) (s
       point-is : exponents p ≡ α
       point-is = rw ep (exponents-of α)
 
-      pub point-here : Carried (variables c) (exponents p)
+      point-here : Carried (variables c) (exponents p)
       point-here = rw (point-is, ← en) carried
 
-      pub key-here : (key : ℕ) → key ≡ keyOf (exponents p) → key ≡ keyOf α
-      key-here key e = e ∙ rw point-is
+      pub point-looked : exponents p ≡ pointFor c (variables c) (termCount c) i
+      point-looked = point-is ∙ rw (en, et)
+
+      module _ (key : ℕ) (e : key ≡ keyOf (exponents p)) where
+        pub key-here : key ≡ keyOf α
+        key-here = e ∙ rw point-is
+
+        pub targeted-here : Targeted c a (exponents p) key
+        targeted-here = targeted c s a given sh es (exponents p) point-here key e
 
     pub key-low : (key : ℕ) → key ≡ keyOf α → key < 2 ^ 63
-    key-low key e = omega (arith, e, carried-low n α (claim-here .few) carried)
+    key-low key e = omega (arith, e, carried-low n α (claim-here .room .few) carried)
 
     abbrev wrong : ℕ → Bool
     wrong = unheld (targetOf c a) c s
@@ -148,7 +164,7 @@ module _ (c s : List ℕ) (a : Aim) (given : CheckedSheets c s a) (n t : ℕ) (s
     here = rw (en, et)
 
     met : unheldAt (targetOf c a) s α ≡ false → first wrong i ≡ Nothing → first wrong (i + 1) ≡ Nothing
-    met h before = first-on wrong i false before (sym (here ∙ h)) refl
+    met h before = first-next wrong i false before (sym (here ∙ h)) refl
 
     module _ (p : Point) (ep : p ≡ pointOf α) (r : Bool) (er : r ≡ eqb (natAbs (targetOf c a (exponents p))) 0) where
       target-tested : eqb (natAbs (targetOf c a α)) 0 ≡ r
@@ -160,18 +176,21 @@ module _ (c s : List ℕ) (a : Aim) (given : CheckedSheets c s a) (n t : ℕ) (s
       pub target-some : r ≡ false → eqb (natAbs (targetOf c a α)) 0 ≡ false
       target-some h = target-tested ∙ h
 
-    pub row-found : (j key : ℕ) (r : Bool) → key ≡ keyOf α → r ≡ holdsKey s sh key j → r ≡ true → j < sh .k
-        → first wrong i ≡ Nothing → first wrong (i + 1) ≡ Nothing
-    row-found j key r e er h l =
-        let held = key-held s sh j proof-here l α carried-too (rw e at (sym er ∙ h)) in
-        met (held-met (targetOf c a) s α (rw slots-here at held))
+    -- r is what row j answered for the key
+    module _ (j key : ℕ) (r : Bool) (e : key ≡ keyOf α) (er : HoldsKey s sh key j r) where
+      pub row-answered : r ≡ holdsPoint s sh α j
+      row-answered = er .tells α carried-too e
 
-    pub none-found : (j key i′ : ℕ) → key ≡ keyOf α → i ≤ t → sh .k ≤ j → j ≤ sh .k
-        → eqb (natAbs (targetOf c a α)) 0 ≡ false → first (holdsKey s sh key) j ≡ Nothing → first wrong i ≡ Nothing
-        → i′ ≡ i → At i′ ≡ first wrong (suc (termCount c))
-    none-found j key i′ e l m o h rows before ei =
+      pub row-found : r ≡ true → j < sh .k → first wrong i ≡ Nothing → first wrong (i + 1) ≡ Nothing
+      row-found h l =
+          met (held-met (targetOf c a) s α (rw slots-here at (point-held s sh α j l (sym row-answered ∙ h))))
+
+    pub none-found : (j i′ : ℕ) → i ≤ t → sh .k ≤ j → j ≤ sh .k → eqb (natAbs (targetOf c a α)) 0 ≡ false
+        → first (holdsPoint s sh α) j ≡ Nothing → first wrong i ≡ Nothing → i′ ≡ i
+        → At i′ ≡ first wrong (suc (termCount c))
+    none-found j i′ l m o h rows before ei =
         let q : j ≡ sh .k = omega arith in
-        let none : count α (slotsTo s sh (sh .k)) ≡ 0 = keys-unheld s sh α proof-here carried-too (rw (q, e) at rows) in
+        let none : count α (slotsTo s sh (sh .k)) ≡ 0 = point-unheld s sh α (rw q at rows) in
         let unheld-here = here ∙ unmet (targetOf c a) s α h (rw slots-here at none) in
         let inside : i < suc (termCount c) = omega (arith, et) in
         rw ei (first-at wrong (suc (termCount c)) i true inside before (sym unheld-here) refl)
@@ -191,13 +210,13 @@ module _ (c s : List ℕ) (a : Aim) where
   pub unheld-passes : ((α : Exponents) → length α ≡ variables c → unheldAt τ s α ≡ false) → Passes (unheldAnswer τ c s)
   unfolding unheldAnswer unheld
   unheld-passes h =
-      let none = nothing-first _ (suc (termCount c)) (λ i l. h _ (point-sized c (variables c) (termCount c) i)) in
+      let none = all-right _ (suc (termCount c)) (λ i l. h _ (point-sized c (variables c) (termCount c) i)) in
       passed (Accepted 0) _ (passed-at _ Nothing _ 16 _ none refl (accepted-says 0)) 0 refl
 
   module _ (h : Passes (unheldAnswer τ c s)) where
     listed : (i : ℕ) → i < suc (termCount c) → unheldAt τ s (pointFor c (variables c) (termCount c) i) ≡ false
     unfolding unheldAnswer unheld
-    listed = first-nothing _ (suc (termCount c)) (passes-at _ 16 _ refl h .0)
+    listed = none-wrong _ (suc (termCount c)) (passes-at _ 16 _ refl h .0)
 
     listed-constant : unheldAt τ s (replicate (variables c) 0) ≡ false
     unfolding pointFor

@@ -11,7 +11,7 @@ use Rattle.squares.specs.Decomposition.{AddsUp}
 use Rattle.sheets.specs.Layout.{variables, termCount, rowCount}
 use Rattle.sheets.specs.ProofSheet.{tripleFor}
 use Rattle.answers.specs.Answers.{says, accepted, Passes, Short}
-use Rattle.answers.specs.Bounds.{greatestWeight}
+use Rattle.bounds.specs.Bounds.{greatestWeight}
 use Rattle.answers.specs.Searches.{first}
 use Rattle.answers.specs.declared.answers.Sheet.the-variants.{Proof}
 use Rattle.answers.specs.declared.answers.Verdict.{Verdict}

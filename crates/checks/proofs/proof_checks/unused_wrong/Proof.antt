@@ -15,8 +15,8 @@ same-requires c κs = search needs
 row-triple-requires : tie.Need-row-triple-requires
 row-triple-requires c κs = search needs
 
-carries-more-requires : tie.Need-carries-more-requires
-carries-more-requires c κs = search needs
+q-or-r-requires : tie.Need-q-or-r-requires
+q-or-r-requires c κs = search needs
 
 returns : tie.Need-returns
 returns c = search unused-lone
@@ -32,6 +32,6 @@ unused-wrong-spec =
     row-w-requires
     same-requires
     row-triple-requires
-    carries-more-requires
+    q-or-r-requires
     returns
     returns-2)

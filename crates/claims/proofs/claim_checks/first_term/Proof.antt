@@ -4,7 +4,7 @@ use mathlib.Core.Path.{_≡_}
 use Rattle.answers.specs.declared.searches.Found.the-variants.{Nothing}
 use Rattle.answers.specs.Searches.{first}
 use Rattle.claims.specs.ClaimChecks.{breaks}
-use Rattle.answers.proofs.searches.Laws.{first-none, first-at, first-on, first-end}
+use Rattle.answers.proofs.searches.Laws.{first-start, first-at, first-next, first-end}
 use Rattle.claims.proofs.claim_checks.first_term.Statement.{statement}
 use Rattle.claims.proofs.claim_checks.first_term.Tie as tie
 
@@ -15,7 +15,7 @@ abbrev μ-loop : tie.MeasureT-loop
 μ-loop rule claim n t i₀ i = t - i
 
 loop-holds : tie.Need-loop-holds Inv-loop μ-loop
-loop-holds c = search (needs, first-none)
+loop-holds c = search (needs, first-start)
 
 term-wrong-requires : tie.Need-term-wrong-requires Inv-loop μ-loop
 term-wrong-requires c κs = search needs
@@ -30,7 +30,7 @@ loop-less : tie.Need-loop-less Inv-loop μ-loop
 loop-less c = search needs
 
 loop-again : tie.Need-loop-again Inv-loop μ-loop
-loop-again c = search (needs, first-on)
+loop-again c = search (needs, first-next)
 
 returns-2 : tie.Need-returns-2 Inv-loop μ-loop
 returns-2 c = search first-end

@@ -1,5 +1,5 @@
 use borrow.Author.Needs.{needs}
-use Prim.Native.Nat.{_*_, _-_, _^_, _≤_}
+use Prim.Native.Nat.{_*_, _-_, _≤_}
 use mathlib.Core.Path.{_≡_}
 use lib.IntN.{natAbs}
 use mir.Syntax.{w64}
@@ -7,21 +7,23 @@ use mir.Val.{ofZ}
 use mir.Facts.{toZ-ofZ}
 use Rattle.answers.specs.Searches.{first}
 use Rattle.answers.specs.declared.searches.Found.the-variants.{Nothing}
-use Rattle.answers.proofs.searches.Laws.{first-none}
-use Rattle.evaluation.specs.Evaluations.{large, sumTo}
+use Rattle.answers.proofs.searches.Laws.{first-start}
+use Rattle.evaluation.specs.Evaluations.{tooLarge, sumTo}
 use Rattle.evaluation.proofs.evaluations.Laws.{sum-start, small-start, large-here, none-more, small-more, sum-fits, sum-next, summed-all}
+use Rattle.bounds.specs.Bounds.{greatestValue}
 use Rattle.evaluation.proofs.evaluations.summed.Statement.{statement}
 use Rattle.evaluation.proofs.evaluations.summed.Tie as tie
 
 abbrev Inv-loop : tie.InvT-loop
 Inv-loop claim n t offsets sum₀ i₀ sum i =
-    (i ≤ t) × (first (large claim n t offsets) i ≡ Nothing) × (natAbs (sumTo claim n t offsets i) ≤ i * 2 ^ 56) × (sum ≡ ofZ w64 (sumTo claim n t offsets i))
+    (i ≤ t) × (first (tooLarge claim n t offsets) i ≡ Nothing)
+    × (natAbs (sumTo claim n t offsets i) ≤ i * greatestValue) × (sum ≡ ofZ w64 (sumTo claim n t offsets i))
 
 abbrev μ-loop : tie.MeasureT-loop
 μ-loop claim n t offsets sum₀ i₀ sum i = t - i
 
 loop-holds : tie.Need-loop-holds Inv-loop μ-loop
-loop-holds c = (search needs, search first-none, search small-start, search sum-start)
+loop-holds c = (search needs, search first-start, search small-start, search sum-start)
 
 term-value-requires : tie.Need-term-value-requires Inv-loop μ-loop
 term-value-requires c κs = search needs

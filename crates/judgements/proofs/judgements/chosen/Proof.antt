@@ -1,4 +1,4 @@
-use Rattle.judgements.proofs.judgements.Laws.{chosen-beyond, chosen-negative, chosen-large, chosen-accepted}
+use Rattle.judgements.proofs.judgements.Laws.{chosen-beyond, chosen-negative, chosen-indefinite, chosen-accepted}
 use borrow.Author.Needs.{needs}
 use Rattle.judgements.proofs.judgements.chosen.Statement.{statement}
 use Rattle.judgements.proofs.judgements.chosen.Tie as tie
@@ -21,11 +21,11 @@ returns-2 c = search chosen-negative
 enum-told-2 : tie.Need-enum-told-2
 enum-told-2 c = search needs
 
-enum-known-large : tie.Need-enum-known-large
-enum-known-large c = search needs
+enum-known-indefinite : tie.Need-enum-known-indefinite
+enum-known-indefinite c = search needs
 
 returns-3 : tie.Need-returns-3
-returns-3 c = search chosen-large
+returns-3 c = search chosen-indefinite
 
 enum-told-3 : tie.Need-enum-told-3
 enum-told-3 c = search needs
@@ -43,7 +43,7 @@ chosen-spec =
     enum-known-negative
     returns-2
     enum-told-2
-    enum-known-large
+    enum-known-indefinite
     returns-3
     enum-told-3
     returns-4)

@@ -1,5 +1,5 @@
 use mir.Facts.{toZ-ofZ}
-use Rattle.judgements.proofs.judgements.Laws.{pair-beyond, pair-within, pair-negative-p, pair-negative-q, pair-large, pair-holds}
+use Rattle.judgements.proofs.judgements.Laws.{pair-beyond, pair-within, pair-negative-p, pair-negative-q, pair-indefinite, pair-holds}
 use borrow.Author.Needs.{needs}
 use Rattle.judgements.proofs.judgements.judge_pair.Statement.{statement}
 use Rattle.judgements.proofs.judgements.judge_pair.Tie as tie
@@ -22,11 +22,11 @@ is-negative-requires-2 c κs = search needs
 returns-3 : tie.Need-returns-3
 returns-3 c = search (pair-negative-q, toZ-ofZ)
 
-is-large-requires : tie.Need-is-large-requires
-is-large-requires c κs = search pair-within
+is-indefinite-requires : tie.Need-is-indefinite-requires
+is-indefinite-requires c κs = search pair-within
 
 returns-4 : tie.Need-returns-4
-returns-4 c = search (pair-large, toZ-ofZ)
+returns-4 c = search (pair-indefinite, toZ-ofZ)
 
 returns-5 : tie.Need-returns-5
 returns-5 c = search (pair-holds, toZ-ofZ)
@@ -41,6 +41,6 @@ judge-pair-spec =
     returns-2
     is-negative-requires-2
     returns-3
-    is-large-requires
+    is-indefinite-requires
     returns-4
     returns-5)

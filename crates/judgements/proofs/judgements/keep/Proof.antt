@@ -1,4 +1,4 @@
-use Rattle.judgements.proofs.judgements.Laws.{keep-found, keep-hit, keep-none}
+use Rattle.judgements.proofs.judgements.Laws.{keep-found, keep-none}
 use borrow.Author.Needs.{needs}
 use Rattle.judgements.proofs.judgements.keep.Statement.{statement}
 use Rattle.judgements.proofs.judgements.keep.Tie as tie
@@ -13,10 +13,7 @@ returns : tie.Need-returns
 returns c = search keep-found
 
 returns-2 : tie.Need-returns-2
-returns-2 c = search keep-hit
-
-returns-3 : tie.Need-returns-3
-returns-3 c = search keep-none
+returns-2 c = search keep-none
 
 pub keep-spec : {M : Type 1} → statement M
-keep-spec = tie.close (tie.spec enum-told enum-told-2 returns returns-2 returns-3)
+keep-spec = tie.close (tie.spec enum-told enum-told-2 returns returns-2)

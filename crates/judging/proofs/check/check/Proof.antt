@@ -1,4 +1,4 @@
-use Rattle.judging.proofs.check.Laws.{check-decides, check-floors, refused-output, refused-keeps, accepted-claim, accepted-proof, own-here, check-accepted, accepted-room, within-here, accepted-output, accepted-keeps}
+use Rattle.judging.proofs.check.Laws.{check-decides, check-floors, refused-output, refused-keeps, accepted-claim, accepted-proof, writable, accepted-output, accepted-keeps}
 use borrow.Author.Needs.{needs}
 use Rattle.judging.proofs.check.check.Statement.{statement}
 use Rattle.judging.proofs.check.check.Tie as tie
@@ -19,7 +19,7 @@ aim-of-requires : tie.Need-aim-of-requires
 aim-of-requires c κs = search (accepted-claim, accepted-proof)
 
 write-exact-requires : tie.Need-write-exact-requires
-write-exact-requires c κs = (search (own-here, check-accepted), search within-here, search accepted-room)
+write-exact-requires c κs = search writable
 
 same-length : tie.Need-same-length
 same-length c = search needs

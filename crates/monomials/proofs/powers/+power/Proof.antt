@@ -1,6 +1,6 @@
 use borrow.Author.Needs.{needs}
 use mir.Facts.{toZ-ofZ}
-use Rattle.monomials.proofs.powers.Laws.{power-none, power-more}
+use Rattle.monomials.proofs.powers.Steps.{power-none, power-more}
 use Prim.Native.Nat.{ℕ, _<_}
 use borrow.Fn.Kinds.{In}
 use borrow.Fn.PlainCycle.{Measures, is, falls, and}

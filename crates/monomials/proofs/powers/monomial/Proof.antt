@@ -3,13 +3,15 @@ use Prim.Native.Nat.{_≤_}
 use mathlib.Core.Path.{_≡_}
 use lib.ListN.{length}
 use mir.Facts.{toZ-ofZ}
+use Rattle.bounds.specs.Bounds.{mostVariables}
 use Rattle.monomials.specs.Powers.{within}
-use Rattle.monomials.proofs.powers.Laws.{From, from-end, from-more, from-all}
+use Rattle.monomials.proofs.powers.Steps.{From, from-end, from-more, from-all}
+use Rattle.points.proofs.points.Laws.{Places}
 use Rattle.monomials.proofs.powers.monomial.Statement.{statement}
 use Rattle.monomials.proofs.powers.monomial.Tie as tie
 
 abbrev Inv-loop : tie.InvT-loop
-Inv-loop offsets e n i₀ value₀ i value = (i ≤ n) × (n ≤ 8) × (i ≤ length offsets) × (length e ≡ 8) × (value ≡ within (From offsets e n i))
+Inv-loop offsets e n i₀ value₀ i value = (i ≤ n) × (n ≤ mostVariables) × (i ≤ length offsets) × Places e × (value ≡ within (From offsets e n i))
 
 abbrev μ-loop : tie.MeasureT-loop
 μ-loop offsets e n i₀ value₀ i value = i

@@ -1,5 +1,5 @@
 use mir.Facts.{toZ-ofZ}
-use Rattle.monomials.proofs.powers.Laws.{times-zero, times-large, times-fits, times-value}
+use Rattle.monomials.proofs.powers.Steps.{times-zero, times-large, times-fits, times-value}
 use borrow.Author.Needs.{needs}
 use Rattle.monomials.proofs.powers.times.Statement.{statement}
 use Rattle.monomials.proofs.powers.times.Tie as tie

@@ -1,16 +1,14 @@
 use borrow.Author.Needs.{needs}
 use Prim.Native.Nat.{_-_, _≤_}
-use mathlib.Core.Path.{_≡_}
 use lib.Dec.{leb}
-use lib.ListN.{length}
 use borrow.Author.Tests.{le-leb, lt-leb}
 use Rattle.points.specs.Points.{exponentsWithin}
-use Rattle.points.proofs.points.Laws.{Passed, passed-none, passed-on, every-stops, every-ends}
+use Rattle.points.proofs.points.Laws.{Passed, passed-none, passed-on, every-stops, every-ends, Places}
 use Rattle.points.proofs.points.exponents_within.Statement.{statement}
 use Rattle.points.proofs.points.exponents_within.Tie as tie
 
 abbrev Inv-loop : tie.InvT-loop
-Inv-loop limit n x i₀ i = (i ≤ n) × (length x ≡ 8) × Passed (λ a b. leb a limit) x x i
+Inv-loop limit n x i₀ i = (i ≤ n) × Places x × Passed (λ a b. leb a limit) x x i
 
 abbrev μ-loop : tie.MeasureT-loop
 μ-loop limit n x i₀ i = n - i

@@ -1,14 +1,12 @@
 use borrow.Author.Needs.{needs}
 use Prim.Native.Nat.{_-_, _≤_}
-use mathlib.Core.Path.{_≡_}
-use lib.ListN.{length}
 use Rattle.points.specs.Points.{evenSum, hasMidpoint}
-use Rattle.points.proofs.points.Laws.{Passed, passed-none, passed-test, pair-fewer, pair-test, pair-ends}
+use Rattle.points.proofs.points.Laws.{Passed, passed-none, passed-test, pair-fewer, pair-test, pair-ends, Places}
 use Rattle.points.proofs.points.has_midpoint.Statement.{statement}
 use Rattle.points.proofs.points.has_midpoint.Tie as tie
 
 abbrev Inv-loop : tie.InvT-loop
-Inv-loop n x y i₀ i = (i ≤ n) × (length x ≡ 8) × (length y ≡ 8) × Passed evenSum x y i
+Inv-loop n x y i₀ i = (i ≤ n) × Places x × Places y × Passed evenSum x y i
 
 abbrev μ-loop : tie.MeasureT-loop
 μ-loop n x y i₀ i = n - i

@@ -1,17 +1,15 @@
 use borrow.Author.Needs.{needs}
 use Prim.Native.Nat.{_-_, _≤_}
-use mathlib.Core.Path.{_≡_}
 use Prim.Native.Nat.{_%_}
 use lib.Dec.{eqb}
-use lib.ListN.{length}
 use borrow.Author.Tests.{eq-eqb, ne-eqb}
 use Rattle.points.specs.Points.{keepsSign}
-use Rattle.points.proofs.points.Laws.{Passed, passed-none, passed-on, every-stops, every-ends}
+use Rattle.points.proofs.points.Laws.{Passed, passed-none, passed-on, every-stops, every-ends, Places}
 use Rattle.points.proofs.points.keeps_sign.Statement.{statement}
 use Rattle.points.proofs.points.keeps_sign.Tie as tie
 
 abbrev Inv-loop : tie.InvT-loop
-Inv-loop n x i₀ i = (i ≤ n) × (length x ≡ 8) × Passed (λ a b. eqb (a % 2) 0) x x i
+Inv-loop n x i₀ i = (i ≤ n) × Places x × Passed (λ a b. eqb (a % 2) 0) x x i
 
 abbrev μ-loop : tie.MeasureT-loop
 μ-loop n x i₀ i = n - i

@@ -1,14 +1,15 @@
 use borrow.Author.Needs.{needs}
 use Prim.Native.Nat.{_+_, _-_, _/_, _≤_}
 use mathlib.Core.Path.{_≡_}
-use lib.ListN.{length, getD}
+use lib.ListN.{getD}
+use Rattle.bounds.specs.Bounds.{mostVariables}
 use Rattle.points.specs.Lists.{table}
-use Rattle.points.proofs.points.Laws.{padded, filled-none, filled-on, midpoint-made}
+use Rattle.points.proofs.points.Laws.{padded, filled-none, filled-on, midpoint-made, Places}
 use Rattle.points.proofs.points.midpoint.Statement.{statement}
 use Rattle.points.proofs.points.midpoint.Tie as tie
 
 abbrev Inv-loop : tie.InvT-loop
-Inv-loop n x y exps₀ i₀ exps i = (i ≤ n) × (n ≤ 8) × (length x ≡ 8) × (length y ≡ 8) × (exps ≡ padded (table (λ j. (getD x j 0 + getD y j 0) / 2) i))
+Inv-loop n x y exps₀ i₀ exps i = (i ≤ n) × (n ≤ mostVariables) × Places x × Places y × (exps ≡ padded (table (λ j. (getD x j 0 + getD y j 0) / 2) i))
 
 abbrev μ-loop : tie.MeasureT-loop
 μ-loop n x y exps₀ i₀ exps i = n - i

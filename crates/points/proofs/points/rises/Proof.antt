@@ -1,14 +1,13 @@
 use borrow.Author.Needs.{needs}
 use Prim.Native.Nat.{_-_, _≤_}
-use mathlib.Core.Path.{_≡_}
 use lib.Dec.{eqb}
-use lib.ListN.{length}
-use Rattle.points.proofs.points.Laws.{Passed, passed-start, rises-more, rises-less, rises-on, rises-end}
+use Rattle.bounds.specs.Bounds.{mostVariables}
+use Rattle.points.proofs.points.Laws.{Passed, passed-start, rises-more, rises-less, rises-on, rises-end, Places}
 use Rattle.points.proofs.points.rises.Statement.{statement}
 use Rattle.points.proofs.points.rises.Tie as tie
 
 abbrev Inv-loop : tie.InvT-loop
-Inv-loop n x y left₀ left = (left ≤ n) × (n ≤ 8) × (length x ≡ 8) × (length y ≡ 8) × Passed eqb x y (n - left)
+Inv-loop n x y left₀ left = (left ≤ n) × (n ≤ mostVariables) × Places x × Places y × Passed eqb x y (n - left)
 
 abbrev μ-loop : tie.MeasureT-loop
 μ-loop n x y left₀ left = left

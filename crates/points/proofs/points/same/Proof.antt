@@ -1,16 +1,14 @@
 use borrow.Author.Needs.{needs}
 use Prim.Native.Nat.{_-_, _≤_}
-use mathlib.Core.Path.{_≡_}
 use lib.Dec.{eqb}
-use lib.ListN.{length}
 use borrow.Author.Tests.{eq-eqb, ne-eqb}
 use Rattle.points.specs.Points.{samePoint}
-use Rattle.points.proofs.points.Laws.{Passed, passed-none, passed-on, pair-fewer, pair-stops, pair-ends}
+use Rattle.points.proofs.points.Laws.{Passed, passed-none, passed-on, pair-fewer, pair-stops, pair-ends, Places}
 use Rattle.points.proofs.points.same.Statement.{statement}
 use Rattle.points.proofs.points.same.Tie as tie
 
 abbrev Inv-loop : tie.InvT-loop
-Inv-loop n x y i₀ i = (i ≤ n) × (length x ≡ 8) × (length y ≡ 8) × Passed eqb x y i
+Inv-loop n x y i₀ i = (i ≤ n) × Places x × Places y × Passed eqb x y i
 
 abbrev μ-loop : tie.MeasureT-loop
 μ-loop n x y i₀ i = n - i

@@ -1,19 +1,19 @@
 use borrow.Author.Needs.{needs}
 use Rattle.report.specs.Reports.{acceptedText}
 use Rattle.text.proofs.text.Laws.{room-first}
-use Rattle.report.proofs.reports.Laws.{claim-carried, proof-carried, room-carried, rows-after, accepted-written}
+use Rattle.report.proofs.reports.Laws.{claim-reportable, proof-reportable, room-reportable, rows-after, accepted-written}
 use Rattle.report.proofs.reports.accepted_text.Statement.{statement}
 use Rattle.report.proofs.reports.accepted_text.Tie as tie
 
 first-text-requires : tie.Need-first-text-requires
 unfolding acceptedText
-first-text-requires c κs = (search claim-carried, search proof-carried, search room-first)
+first-text-requires c κs = (search claim-reportable, search proof-reportable, search room-first)
 
 variables-requires : tie.Need-variables-requires
-variables-requires c κs = search proof-carried
+variables-requires c κs = search proof-reportable
 
 rows-text-requires : tie.Need-rows-text-requires
-rows-text-requires c κs = (search room-carried, search rows-after)
+rows-text-requires c κs = (search room-reportable, search rows-after)
 
 same-length : tie.Need-same-length
 same-length c = search needs

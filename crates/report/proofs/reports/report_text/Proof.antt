@@ -18,8 +18,8 @@ refused-text-requires c κs = search refused-room
 returns : tie.Need-returns
 returns c = search refused-report
 
-carries-requires : tie.Need-carries-requires
-carries-requires c κs = search needs
+reportable-requires : tie.Need-reportable-requires
+reportable-requires c κs = search needs
 
 accepted-text-requires : tie.Need-accepted-text-requires
 accepted-text-requires c κs = (search carried, search accepted-room)
@@ -39,7 +39,7 @@ report-text-spec =
     numbers-of-requires
     refused-text-requires
     returns
-    carries-requires
+    reportable-requires
     accepted-text-requires
     returns-2
     returns-3)

@@ -1,18 +1,21 @@
 use mir.Facts.{toZ-ofZ}
 use Rattle.targets.proofs.targets.Laws.{back-small}
-use Rattle.sharing.proofs.shifts.Laws.{proof-checked, carried-here, row-here, ranked-here, held-small, held-some, shifted-is}
+use Rattle.sharing.proofs.shifts.Laws.{proof-checked, row-here, key-here, own-small, targeted, held-small, held-some, shifted-is}
 use borrow.Author.Needs.{needs}
 use Rattle.sharing.proofs.shifts.shifted.Statement.{statement}
 use Rattle.sharing.proofs.shifts.shifted.Tie as tie
+
+key-of-requires : tie.Need-key-of-requires
+key-of-requires c κs = search needs
 
 shape-of-requires : tie.Need-shape-of-requires
 shape-of-requires c κs = search needs
 
 held-requires : tie.Need-held-requires
-held-requires c κs = search (proof-checked, carried-here, row-here, ranked-here)
+held-requires c κs = search (proof-checked, row-here, own-small, key-here)
 
 target-at-requires : tie.Need-target-at-requires
-target-at-requires c κs = search needs
+target-at-requires c κs = search targeted
 
 moved-requires : tie.Need-moved-requires
 moved-requires c κs = search (needs, back-small, held-small, held-some, toZ-ofZ)
@@ -24,6 +27,7 @@ pub shifted-spec : {M : Type 1} → statement M
 shifted-spec =
     tie.close
     (tie.spec
+    key-of-requires
     shape-of-requires
     held-requires
     target-at-requires

@@ -1,5 +1,5 @@
 use mir.Facts.{toZ-ofZ}
-use Rattle.sharing.proofs.shifts.Laws.{v-carries, w-carries, u-carries, lone-within, lone-held, lone-shifted, p-within, q-within, r-within, p-held, q-held, r-held, pair-shifted}
+use Rattle.sharing.proofs.shifts.Laws.{at-v-carried, at-w-carried, at-u-carried, lone-within, lone-held, lone-shifted, p-within, q-within, r-within, p-held, q-held, r-held, pair-shifted}
 use borrow.Author.Needs.{needs}
 use Rattle.sharing.proofs.shifts.shifted_weights.Statement.{statement}
 use Rattle.sharing.proofs.shifts.shifted_weights.Tie as tie
@@ -8,22 +8,22 @@ enum-known-weights : tie.Need-enum-known-weights
 enum-known-weights c = search needs
 
 shifted-requires : tie.Need-shifted-requires
-shifted-requires c κs = search (needs, v-carries, p-within, p-held, toZ-ofZ)
+shifted-requires c κs = search (needs, at-v-carried, p-within, p-held, toZ-ofZ)
 
 shifted-requires-2 : tie.Need-shifted-requires-2
-shifted-requires-2 c κs = search (needs, w-carries, q-within, q-held, toZ-ofZ)
+shifted-requires-2 c κs = search (needs, at-w-carried, q-within, q-held, toZ-ofZ)
 
 midpoint-requires : tie.Need-midpoint-requires
 midpoint-requires c κs = search needs
 
 shifted-requires-3 : tie.Need-shifted-requires-3
-shifted-requires-3 c κs = search (needs, u-carries, r-within, r-held, toZ-ofZ)
+shifted-requires-3 c κs = search (needs, at-u-carried, r-within, r-held, toZ-ofZ)
 
 enum-known-weights-2 : tie.Need-enum-known-weights-2
 enum-known-weights-2 c = search needs
 
 shifted-requires-4 : tie.Need-shifted-requires-4
-shifted-requires-4 c κs = search (needs, v-carries, lone-within, lone-held, toZ-ofZ)
+shifted-requires-4 c κs = search (needs, at-v-carried, lone-within, lone-held, toZ-ofZ)
 
 returns : tie.Need-returns
 returns c = search (pair-shifted, toZ-ofZ)

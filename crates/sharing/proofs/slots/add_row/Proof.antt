@@ -1,14 +1,13 @@
-use Rattle.checks.proofs.proof_checks.Facts.{proof-room}
 use Rattle.sharing.proofs.slots.Laws.{p-inside, q-inside, r-inside, p-within, q-within, r-within, small-first, small-second, small-third, ends-fit, lone-added, pair-added}
 use borrow.Author.Needs.{needs}
 use Rattle.sharing.proofs.slots.add_row.Statement.{statement}
 use Rattle.sharing.proofs.slots.add_row.Tie as tie
 
 v-key-requires : tie.Need-v-key-requires
-v-key-requires c κs = search (needs, proof-room)
+v-key-requires c κs = search needs
 
 w-key-requires : tie.Need-w-key-requires
-w-key-requires c κs = search (needs, proof-room)
+w-key-requires c κs = search needs
 
 triple-place-requires : tie.Need-triple-place-requires
 triple-place-requires c κs = search needs

@@ -1,14 +1,13 @@
-use Rattle.checks.proofs.proof_checks.Facts.{proof-room}
 use Rattle.sharing.proofs.slots.Laws.{key-first, key-second, key-middle, ends-fit}
 use borrow.Author.Needs.{needs}
 use Rattle.sharing.proofs.slots.holds_key.Statement.{statement}
 use Rattle.sharing.proofs.slots.holds_key.Tie as tie
 
 v-key-requires : tie.Need-v-key-requires
-v-key-requires c κs = search (needs, proof-room)
+v-key-requires c κs = search needs
 
 w-key-requires : tie.Need-w-key-requires
-w-key-requires c κs = search (needs, proof-room)
+w-key-requires c κs = search needs
 
 returns : tie.Need-returns
 returns c = search key-first

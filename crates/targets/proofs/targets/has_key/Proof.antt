@@ -1,11 +1,10 @@
-use Rattle.claims.proofs.claim_checks.Facts.{claim-room}
 use Rattle.targets.proofs.targets.Laws.{key-tested}
 use borrow.Author.Needs.{needs}
 use Rattle.targets.proofs.targets.has_key.Statement.{statement}
 use Rattle.targets.proofs.targets.has_key.Tie as tie
 
 term-key-requires : tie.Need-term-key-requires
-term-key-requires c κs = search (needs, claim-room)
+term-key-requires c κs = search needs
 
 returns : tie.Need-returns
 returns c = search key-tested

@@ -1,5 +1,5 @@
 use mir.Facts.{toZ-ofZ}
-use Rattle.targets.proofs.targets.Laws.{facts-here, back-small, target-made}
+use Rattle.targets.proofs.targets.Laws.{facts-here, target-made, back-small}
 use borrow.Author.Needs.{needs}
 use Rattle.targets.proofs.targets.target_at.Statement.{statement}
 use Rattle.targets.proofs.targets.target_at.Tie as tie
@@ -10,20 +10,11 @@ variables-requires c κs = search needs
 term-count-requires : tie.Need-term-count-requires
 term-count-requires c κs = search needs
 
-keeps-sign-requires : tie.Need-keeps-sign-requires
-keeps-sign-requires c κs = search needs
+coefficient-at-requires : tie.Need-coefficient-at-requires
+coefficient-at-requires c κs = search (needs, facts-here)
 
-key-of-requires : tie.Need-key-of-requires
-key-of-requires c κs = search needs
-
-lowered-at-requires : tie.Need-lowered-at-requires
-lowered-at-requires c κs = search (needs, facts-here)
-
-worst-requires : tie.Need-worst-requires
-worst-requires c κs = search needs
-
-scaled-requires : tie.Need-scaled-requires
-scaled-requires c κs = search needs
+target-with-requires : tie.Need-target-with-requires
+target-with-requires c κs = search (needs, back-small, toZ-ofZ)
 
 returns : tie.Need-returns
 returns c = search (target-made, back-small, toZ-ofZ)
@@ -34,9 +25,6 @@ target-at-spec =
     (tie.spec
     variables-requires
     term-count-requires
-    keeps-sign-requires
-    key-of-requires
-    lowered-at-requires
-    worst-requires
-    scaled-requires
+    coefficient-at-requires
+    target-with-requires
     returns)

@@ -7,7 +7,7 @@ copy-requires : tie.Need-copy-requires
 copy-requires c κs = search needs
 
 write-rows-requires : tie.Need-write-rows-requires
-write-rows-requires c κs = (search needs, search needs, search copied-room)
+write-rows-requires c κs = search (needs, copied-room)
 
 same-length : tie.Need-same-length
 same-length c = search needs

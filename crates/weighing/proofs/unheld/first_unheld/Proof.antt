@@ -9,18 +9,19 @@ use lib.IntN.{natAbs}
 use Rattle.keys.specs.Keys.{keyOf}
 use Rattle.answers.specs.Searches.{first}
 use Rattle.answers.specs.declared.searches.Found.the-variants.{Nothing}
-use Rattle.answers.proofs.searches.Laws.{first-none, first-on}
+use Rattle.answers.proofs.searches.Laws.{first-start, first-next}
 use Rattle.targets.specs.Targets.{targetOf}
-use Rattle.sharing.specs.Slots.{holdsKey}
+use Rattle.sharing.specs.Slots.{holdsPoint}
 use Rattle.weighing.specs.Unheld.{pointFor, unheld}
-use Rattle.weighing.proofs.unheld.Laws.{claim-here, proof-here, point-here, target-none, target-some, key-here, key-low, row-found, none-found, all-met}
+use Rattle.weighing.proofs.unheld.Laws.{claim-here, proof-here, targeted-here, point-looked, target-none, target-some, key-here, key-low, row-answered, row-found, none-found, all-met}
 use Rattle.weighing.proofs.unheld.first_unheld.Statement.{statement}
 use Rattle.weighing.proofs.unheld.first_unheld.Tie as tie
 
 abbrev Inv-loop : tie.InvT-loop
 Inv-loop claim proof aim n t shape i₀ key j₀ i j =
     (i ≡ i₀) × (i ≤ t) × (j ≤ shape .k) × (key ≡ keyOf (pointFor claim n t i))
-    × (eqb (natAbs (targetOf claim aim (pointFor claim n t i))) 0 ≡ false) × (first (holdsKey proof shape key) j ≡ Nothing)
+    × (eqb (natAbs (targetOf claim aim (pointFor claim n t i))) 0 ≡ false)
+    × (first (holdsPoint proof shape (pointFor claim n t i)) j ≡ Nothing)
     × (first (unheld (targetOf claim aim) claim proof) i ≡ Nothing)
 
 abbrev μ-loop : tie.MeasureT-loop
@@ -43,13 +44,16 @@ shape-of-requires : tie.Need-shape-of-requires Inv-loop μ-loop Inv-terms μ-ter
 shape-of-requires c κs = search needs
 
 terms-holds : tie.Need-terms-holds Inv-loop μ-loop Inv-terms μ-terms
-terms-holds c = search (needs, first-none)
+terms-holds c = search (needs, first-start)
 
 point-for-requires : tie.Need-point-for-requires Inv-loop μ-loop Inv-terms μ-terms
 point-for-requires c κs = search (needs, claim-here)
 
+key-of-requires : tie.Need-key-of-requires Inv-loop μ-loop Inv-terms μ-terms
+key-of-requires c κs = search needs
+
 no-target-requires : tie.Need-no-target-requires Inv-loop μ-loop Inv-terms μ-terms
-no-target-requires c κs = search (needs, point-here)
+no-target-requires c κs = (search targeted-here, search point-looked)
 
 add-i : tie.Need-add-i Inv-loop μ-loop Inv-terms μ-terms
 add-i c = search needs
@@ -60,12 +64,9 @@ terms-less c = search needs
 terms-again : tie.Need-terms-again Inv-loop μ-loop Inv-terms μ-terms
 terms-again c = (search needs, search target-none)
 
-key-of-requires : tie.Need-key-of-requires Inv-loop μ-loop Inv-terms μ-terms
-key-of-requires c κs = search needs
-
 loop-holds : tie.Need-loop-holds Inv-loop μ-loop Inv-terms μ-terms
 loop-holds c =
-    (search needs, search needs, search needs, search key-here, search target-some, search first-none, search needs)
+    (search needs, search needs, search needs, search key-here, search target-some, search first-start, search needs)
 
 holds-key-requires : tie.Need-holds-key-requires Inv-loop μ-loop Inv-terms μ-terms
 holds-key-requires c κs = (search proof-here, search needs, search key-low)
@@ -86,7 +87,7 @@ loop-less : tie.Need-loop-less Inv-loop μ-loop Inv-terms μ-terms
 loop-less c = search needs
 
 loop-again : tie.Need-loop-again Inv-loop μ-loop Inv-terms μ-terms
-loop-again c = (search needs, search needs, search needs, search needs, search needs, search first-on, search needs)
+loop-again c = (search needs, search needs, search needs, search needs, search needs, search (first-next, row-answered), search needs)
 
 returns : tie.Need-returns Inv-loop μ-loop Inv-terms μ-terms
 returns c = ⊎-elim (λ end. absurd (omega arith)) (λ miss. search none-found) (c .before .terms-test .came)
@@ -107,11 +108,11 @@ first-unheld-spec =
     shape-of-requires
     terms-holds
     point-for-requires
+    key-of-requires
     no-target-requires
     add-i
     terms-less
     terms-again
-    key-of-requires
     loop-holds
     holds-key-requires
     add-i-2

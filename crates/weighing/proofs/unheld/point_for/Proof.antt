@@ -1,11 +1,10 @@
 use Rattle.weighing.proofs.unheld.Laws.{point-term, point-constant}
-use Rattle.claims.proofs.claim_checks.Facts.{claim-room}
 use borrow.Author.Needs.{needs}
 use Rattle.weighing.proofs.unheld.point_for.Statement.{statement}
 use Rattle.weighing.proofs.unheld.point_for.Tie as tie
 
 term-point-requires : tie.Need-term-point-requires
-term-point-requires c κs = search (needs, claim-room)
+term-point-requires c κs = search needs
 
 returns : tie.Need-returns
 returns c = search point-term

@@ -1,7 +1,7 @@
-use Rattle.report.proofs.reports.Laws.{no-claim, no-proof, many-variables, many-rows, rows-carried}
+use Rattle.report.proofs.reports.Laws.{no-claim, no-proof, many-variables, many-rows, rows-reportable}
 use borrow.Author.Needs.{needs}
-use Rattle.report.proofs.reports.carries.Statement.{statement}
-use Rattle.report.proofs.reports.carries.Tie as tie
+use Rattle.report.proofs.reports.reportable.Statement.{statement}
+use Rattle.report.proofs.reports.reportable.Tie as tie
 
 returns : tie.Need-returns
 returns c = search no-claim
@@ -22,10 +22,10 @@ proof-length-requires : tie.Need-proof-length-requires
 proof-length-requires c κs = search needs
 
 returns-5 : tie.Need-returns-5
-returns-5 c = search rows-carried
+returns-5 c = search rows-reportable
 
-pub carries-spec : {M : Type 1} → statement M
-carries-spec =
+pub reportable-spec : {M : Type 1} → statement M
+reportable-spec =
     tie.close
     (tie.spec
     returns

@@ -1,11 +1,11 @@
 -- Laws of bounds.
-use mathlib.Core.Path.{_≡_}
-use mathlib.Core.Bool.{true, false}
+use mathlib.Core.Path.{_≡_, refl}
+use mathlib.Core.Bool.{Bool, true, false, not}
 use Prim.Native.Nat.{ℕ, _<_, _≤_}
-use lib.Dec.{ltb}
+use lib.Dec.{ltb, leb}
 use lib.IntN.{ℤ, natAbs}
-use borrow.Author.Tests.{ltb-false, le-ltb, lt-ltb}
-use Rattle.answers.specs.Bounds.{beyond}
+use borrow.Author.Tests.{ltb-false, le-ltb, lt-ltb, leb-true, leb-false}
+use Rattle.bounds.specs.Bounds.{beyond}
 
 -- is_beyond: x′ is the number as the machine reads it back, m its magnitude
 pub beyond-is : (limit m : ℕ) (x x′ : ℤ) → m ≡ natAbs x′ → x′ ≡ x → ltb limit m ≡ beyond limit x
@@ -23,3 +23,11 @@ within-bound limit x h = ltb-false limit (natAbs x) h
 pub bound-within : (limit : ℕ) (x : ℤ) → natAbs x ≤ limit → beyond limit x ≡ false
 unfolding beyond
 bound-within limit x h = le-ltb limit (natAbs x) h
+
+-- over a limit is not within it
+pub over : (limit m : ℕ) → ltb limit m ≡ not (leb m limit)
+over limit m = go (leb m limit) refl
+  where
+    go : (t : Bool) → leb m limit ≡ t → ltb limit m ≡ not t
+    go true h = le-ltb limit m (leb-true m limit h)
+    go false h = lt-ltb limit m (leb-false m limit h)

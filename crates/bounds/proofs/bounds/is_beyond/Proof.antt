@@ -1,8 +1,8 @@
 use mir.Facts.{toZ-ofZ}
-use Rattle.answers.proofs.bounds.Laws.{beyond-is}
+use Rattle.bounds.proofs.bounds.Laws.{beyond-is}
 use borrow.Author.Needs.{needs}
-use Rattle.answers.proofs.bounds.is_beyond.Statement.{statement}
-use Rattle.answers.proofs.bounds.is_beyond.Tie as tie
+use Rattle.bounds.proofs.bounds.is_beyond.Statement.{statement}
+use Rattle.bounds.proofs.bounds.is_beyond.Tie as tie
 
 magnitude-requires : tie.Need-magnitude-requires
 magnitude-requires c κs = search needs

@@ -1,0 +1,28 @@
+// The limits of document 01, each named once: `most` for what is counted, `greatest` for sizes.
+use integers::magnitudes::magnitude;
+ghost use mathlib.Core.Path.{_≡_};
+ghost use Rattle.bounds.specs.Bounds.{beyond};
+
+pub const MOST_VARIABLES: usize = 8;
+
+pub const MOST_TERMS: usize = 64;
+
+pub const MOST_ROWS: usize = 256;
+
+pub const GREATEST_EXPONENT: u8 = 120;
+
+// 2^20
+pub const GREATEST_SCALE: u64 = 1048576;
+
+// 2^30
+pub const GREATEST_WEIGHT: u64 = 1073741824;
+
+// 2^56
+pub const GREATEST_VALUE: u64 = 72057594037927936;
+
+// Whether a number is beyond ± a limit.
+pub fn is_beyond(x: i64, limit: u64) -> bool
+    ensures { λ r. ⌜ r ≡ beyond limit x ⌝ }
+{
+    limit < magnitude(x)
+}

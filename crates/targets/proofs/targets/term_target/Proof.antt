@@ -1,0 +1,30 @@
+use mir.Facts.{toZ-ofZ}
+use Rattle.targets.proofs.targets.Laws.{room-here, facts-here, term-inside, term-small, term-made, back-small}
+use borrow.Author.Needs.{needs}
+use Rattle.targets.proofs.targets.term_target.Statement.{statement}
+use Rattle.targets.proofs.targets.term_target.Tie as tie
+
+variables-requires : tie.Need-variables-requires
+variables-requires c κs = search needs
+
+term-count-requires : tie.Need-term-count-requires
+term-count-requires c κs = search needs
+
+coefficient-requires : tie.Need-coefficient-requires
+coefficient-requires c κs = search (room-here, term-inside)
+
+target-with-requires : tie.Need-target-with-requires
+target-with-requires c κs = search (needs, term-small, facts-here, term-inside, toZ-ofZ)
+
+returns : tie.Need-returns
+returns c = search (term-made, back-small, toZ-ofZ)
+
+pub term-target-spec : {M : Type 1} → statement M
+term-target-spec =
+    tie.close
+    (tie.spec
+    variables-requires
+    term-count-requires
+    coefficient-requires
+    target-with-requires
+    returns)
