@@ -1,10 +1,10 @@
 -- The laws of ℤ that the whole project shares: equations, orders and bounds over ℤ, decided by `simp` and `omega`.
 --
 --     by-eq (simp ring (omega ints))        x ≡ y
---     by-le (simp ring (omega ints))        x ≤ℤ y, and so by-lt, by-fits
---     simp ring at (read-le h)              a fact h : x ≤ℤ y, read for `omega`; and so read-eq, read-lt, read-fits
+--     by-le (simp ring (omega ints))        x ≤ℤ y, and so by-fits
+--     simp ring at (read-le h)              a fact h : x ≤ℤ y, read for `omega`; and so read-eq, read-fits
 --
--- Each integer is a difference of naturals, its parts `up` and `dn`. A mark goes down to the unknowns, each becomes such a
+-- Each integer is a difference of naturals, its parts `up` and `dn`. A mark goes down to the unknowns, each becomes a
 -- difference, and what is left is arithmetic of naturals.
 use mathlib.Core.Path.{_≡_, refl, sym, ap, subst}
 use mathlib.Core.Logic.{_⊎_, inl, inr, ⊎-elim, _↔_}
@@ -14,9 +14,9 @@ use native.Mathlib.Nat.{mul-le-mul-right}
 use native.Mathlib.Omega.{arith}
 use lib.Dec.{T, ltb, ltb→lt, nltb→le, leb→le, le→leb, lt→ltb}
 use lib.IntN.{ℤ, pos, negsuc, negℤ, natAbs, subℕ, _+ℤ_, _*ℤ_, zero-*ℤ, *ℤ-comm, negℤ-+ℤ, negℤ-negℤ}
-use lib.Signed.{mag, ltZ, leZ, _≤ℤ_, _<ℤ_, ≤ℤ-refl, ltZ-no}
+use lib.Signed.{mag, ltZ, leZ, nonNeg, _≤ℤ_, _<ℤ_, ≤ℤ-refl, ltZ-no}
 use mir.Syntax.{Width, w64}
-use mir.Val.{SFits, hbits, toZ, ofZ}
+use mir.Val.{Fits, SFits, hbits, toZ, ofZ}
 
 -- ---- differences of naturals
 
@@ -75,10 +75,10 @@ pub ⊖-add : (a b c d : ℕ) → (a ⊖ b) +ℤ (c ⊖ d) ≡ (a + c) ⊖ (b + 
 pub ⊖-mul : (a b c d : ℕ) → (a ⊖ b) *ℤ (c ⊖ d) ≡ (a * c + b * d) ⊖ (a * d + b * c)
 ⊖-mul a b c d = same (product (diff a b) (diff c d)) (diff (a * c + b * d) (a * d + b * c)) refl
 
-pub ⊖-pos : (n : ℕ) → pos n ≡ n ⊖ 0
+⊖-pos : (n : ℕ) → pos n ≡ n ⊖ 0
 ⊖-pos n = same (over n (omega arith)) (diff n 0) refl
 
-pub ⊖-negsuc : (n : ℕ) → negsuc n ≡ 0 ⊖ suc n
+⊖-negsuc : (n : ℕ) → negsuc n ≡ 0 ⊖ suc n
 ⊖-negsuc n = same (under n (omega arith)) (diff 0 (suc n)) refl
 
 -- ---- their order and size
@@ -147,7 +147,7 @@ abbrev pub dn : ℤ → ℕ
 dn (pos n) = 0
 dn (negsuc n) = suc n
 
-pub parts : (z : ℤ) → z ≡ up z ⊖ dn z
+parts : (z : ℤ) → z ≡ up z ⊖ dn z
 parts (pos n) = ⊖-pos n
 parts (negsuc n) = ⊖-negsuc n
 
@@ -202,7 +202,7 @@ pub by-le : {x y : ℤ} → read x ≤ℤ read y → x ≤ℤ y
 unfolding read
 by-le h = h
 
-pub by-lt : {x y : ℤ} → read x <ℤ read y → x <ℤ y
+by-lt : {x y : ℤ} → read x <ℤ read y → x <ℤ y
 unfolding read
 by-lt h = h
 
@@ -210,7 +210,7 @@ pub by-fits : {w : Width} {x : ℤ} → SFits w (read x) → SFits w x
 unfolding read
 by-fits h = h
 
-pub by-abs : (x : ℤ) → natAbs x ≡ natAbs (read x)
+by-abs : (x : ℤ) → natAbs x ≡ natAbs (read x)
 unfolding read
 by-abs x = refl
 
@@ -223,7 +223,7 @@ pub read-le : {x y : ℤ} → x ≤ℤ y → read x ≤ℤ read y
 unfolding read
 read-le h = h
 
-pub read-lt : {x y : ℤ} → x <ℤ y → read x <ℤ read y
+read-lt : {x y : ℤ} → x <ℤ y → read x <ℤ read y
 unfolding read
 read-lt h = h
 
@@ -265,10 +265,10 @@ ltZ-false x y e = ltZ-no (subst (λ b. T (not b)) (sym e) tt)
     pick true e = inr (ltZ-true y x e)
     pick false e = inl (ltZ-false y x e)
 
-pub leZ-true : (x y : ℤ) → leZ x y ≡ true → x ≤ℤ y
+leZ-true : (x y : ℤ) → leZ x y ≡ true → x ≤ℤ y
 leZ-true x y e = record { le = subst T (sym e) tt }
 
-pub leZ-false : (x y : ℤ) → leZ x y ≡ false → y <ℤ x
+leZ-false : (x y : ℤ) → leZ x y ≡ false → y <ℤ x
 leZ-false x y e = ⊎-elim (λ h. absurd (subst T e (h .le))) (λ h. h) (≤ℤ-or-<ℤ x y)
 
 -- and the test from the fact
@@ -339,7 +339,7 @@ pub ≤ℤ-trans : {x y z : ℤ} → x ≤ℤ y → y ≤ℤ z → x ≤ℤ z
 pub +ℤ-mono : {x y u v : ℤ} → x ≤ℤ y → u ≤ℤ v → (x +ℤ u) ≤ℤ (y +ℤ v)
 +ℤ-mono h k = by-le (simp ring (omega ints))
 
-pub *ℤ-mono : {x y z : ℤ} → pos 0 ≤ℤ z → x ≤ℤ y → (x *ℤ z) ≤ℤ (y *ℤ z)
+*ℤ-mono : {x y z : ℤ} → pos 0 ≤ℤ z → x ≤ℤ y → (x *ℤ z) ≤ℤ (y *ℤ z)
 *ℤ-mono {z = pos k} h l = by-le (simp ring (omega (ints, mul-le-mul-right k (le-parts l))))
 *ℤ-mono {z = negsuc k} h l = absurd (h .le)
 
@@ -393,11 +393,24 @@ fits-within z k h l = by-fits (simp ring (omega (ints, sizes z)))
 abbrev pub back : ℤ → ℤ
 back z = toZ w64 (ofZ w64 z)
 
+-- a cast of a number that is n: its value, that it is not negative, and that it fits where n does
+module _ {y : ℤ} {n : ℕ} (e : y ≡ pos n) where
+  pub cast-value : natAbs y ≡ n
+  cast-value = ap natAbs e
+
+  pub cast-sign : T (nonNeg y)
+  cast-sign = rw e tt
+
+  pub cast-fits : {w : Width} → Fits w n → Fits w (natAbs y)
+  cast-fits f = rw e f
+
+pub ruleset casts = (cast-value, cast-sign, cast-fits)
+
 -- ---- large identities
 
--- Where `omega` would meet more products than it takes (64), multiply out over ℤ first and take each product as one unknown:
+-- Where `omega` would meet more products than it takes (64), multiply out over ℤ first and take each as one unknown:
 --     by-eq (simp expand (simp linear (omega ints)))
--- A numeral stands at the right of its product.
+-- A numeral stands at the right of its product. Nothing uses this yet: requests 5 and 11 need it.
 
 -- k times x
 pub times : ℕ → ℤ → ℤ
@@ -439,7 +452,7 @@ pub ruleset expand = (multiples, signs, *ℤ-+ℤ, +ℤ-*ℤ, *ℤ-assoc, *ℤ-c
 
 pub ruleset linear = (read-add, read-neg, read-pos, read-negsuc, read-times, read-parts, ⊖-add, ⊖-neg, ⊖-eq, ⊖-le, ⊖-lt)
 
--- for example, the cube of a sum of three
+-- an example that it works: the cube of a sum of three
 cube : (x y z : ℤ) → (x +ℤ y +ℤ z) *ℤ (x +ℤ y +ℤ z) *ℤ (x +ℤ y +ℤ z)
     ≡ x *ℤ x *ℤ x +ℤ y *ℤ y *ℤ y +ℤ z *ℤ z *ℤ z +ℤ (x +ℤ y) *ℤ (y +ℤ z) *ℤ (z +ℤ x) *ℤ pos 3
 cube x y z = by-eq (simp expand (simp linear (omega ints)))

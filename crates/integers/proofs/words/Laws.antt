@@ -1,20 +1,16 @@
--- Laws of words: what is written reads back, what was read and is written again gives the same bytes, no other byte changes.
-use mathlib.Core.Path.{_≡_, refl, sym, _∙_, ap}
-use mathlib.Core.Bool.{true, false}
+-- Laws of words: what is written reads back, what was read and written again is the same bytes, no other byte changes.
+use mathlib.Core.Path.{_≡_, refl, _∙_, ap}
 use mathlib.Core.List.{List, [], _∷_, _++_}
-use Prim.Native.Nat.{ℕ, zero, suc, _+_, _*_, _-_, _/_, _%_, _^_, _<_, _≤_}
+use Prim.Native.Nat.{ℕ, zero, suc, _+_, _*_, _/_, _%_, _<_, _≤_}
 use native.Mathlib.Nat.{add-zero}
 use native.Mathlib.Numerals.{towards-suc}
 use native.Mathlib.Omega.{arith}
-use lib.Dec.{T}
-use lib.IntN.{ℤ, pos, negsuc, natAbs, _+ℤ_, _-ℤ_}
+use lib.IntN.{ℤ}
 use lib.ListN.{length, getD, set, length-set}
 use lib.Seq.{sets, length-sets, set-append-left, getD-set-same, getD-set-other, set-getD}
-use lib.Signed.{ltZ, nonNeg}
-use mir.Syntax.{w8, w32, w64}
+use mir.Syntax.{w8, w32}
 use mir.Val.{Fits, SFits, toZ, ofZ}
-use mir.Facts.{toZ-pos, toZ-neg, toZ-ofZ, ofZ-toZ, sfits-toZ, fits-ofZ, sfits-widen}
-use Rattle.integers.proofs.Integers.{back, ring, ints, by-eq, by-fits, sizes}
+use mir.Facts.{toZ-ofZ, ofZ-toZ, sfits-toZ, fits-ofZ}
 use Rattle.integers.specs.Words.{u32At, i32At, bytesOf, withBits, withI32}
 
 -- every element is a byte, as owning a slice of them tells
@@ -40,7 +36,8 @@ i32-fits s at b = sfits-toZ (record { fits = u32-bound s at b })
 
 sets-before : (vs l : List ℕ) (i j : ℕ) → j < i → getD (sets l i vs) j 0 ≡ getD l j 0
 sets-before [] l i j h = refl
-sets-before (v ∷ vs) l i j h = sets-before vs (set l i v) (suc i) j (omega arith) ∙ getD-set-other l i j v 0 (omega arith)
+sets-before (v ∷ vs) l i j h =
+    sets-before vs (set l i v) (suc i) j (omega arith) ∙ getD-set-other l i j v 0 (omega arith)
 
 sets-after : (vs l : List ℕ) (i j : ℕ) → i + length vs ≤ j → getD (sets l i vs) j 0 ≡ getD l j 0
 sets-after [] l i j h = refl
@@ -55,12 +52,13 @@ sets-in (v ∷ vs) l i (suc k) h m =
     let e : i + suc k ≡ suc i + k = omega arith in
     rw e (sets-in vs (set l i v) (suc i) k (rw length-set (omega arith)) (omega arith))
 
--- ---- a word written
-
 sets-append : (vs s l : List ℕ) (at : ℕ) → at + length vs ≤ length s → sets (s ++ l) at vs ≡ sets s at vs ++ l
 sets-append [] s l at h = refl
 sets-append (v ∷ vs) s l at h =
-    rw (set-append-left s l at v (omega arith)) (sets-append vs (set s at v) l (suc at) (rw (length-set s at v) (omega arith)))
+    rw (set-append-left s l at v (omega arith))
+    (sets-append vs (set s at v) l (suc at) (rw length-set (omega arith)))
+
+-- ---- a word written
 
 -- a number is the sum of its bytes
 whole : (u : ℕ) → u < 4294967296 → u % 256 + u / 256 % 256 * 256 + u / 65536 % 256 * 65536 + u / 16777216 * 16777216 ≡ u
@@ -72,10 +70,6 @@ unfolding u32At
 same-bits s t p e =
     let e0 : getD s p 0 ≡ getD t p 0 = rw add-zero at (e 0 (omega arith)) in
     rw (e0, e 1 (omega arith), e 2 (omega arith), e 3 (omega arith))
-
-same-word : (s t : List ℕ) (p : ℕ) → ((k : ℕ) → k < 4 → getD s (p + k) 0 ≡ getD t (p + k) 0) → i32At s p ≡ i32At t p
-unfolding i32At
-same-word s t p e = ap (toZ w32) (same-bits s t p e)
 
 module _ (s : List ℕ) (at : ℕ) (v : ℤ) where
   pub written-length : length (withI32 s at v) ≡ length s
@@ -98,10 +92,8 @@ module _ (s : List ℕ) (at : ℕ) (v : ℤ) where
 
   -- so a word that stands apart reads as before
   pub read-before : (p : ℕ) → p + 4 ≤ at → i32At (withI32 s at v) p ≡ i32At s p
-  read-before p h = same-word (withI32 s at v) s p (λ k l. written-before (p + k) (omega arith))
-
-  pub read-after : (p : ℕ) → at + 4 ≤ p → i32At (withI32 s at v) p ≡ i32At s p
-  read-after p h = same-word (withI32 s at v) s p (λ k l. written-after (p + k) (omega arith))
+  unfolding i32At
+  read-before p h = ap (toZ w32) (same-bits (withI32 s at v) s p (λ k l. written-before (p + k) (omega arith)))
 
   -- and what is written reads back
   pub read-written : at + 4 ≤ length s → SFits w32 v → i32At (withI32 s at v) at ≡ v
@@ -126,83 +118,3 @@ written-read s at b =
     let e2 : u / 65536 % 256 ≡ getD s (at + 2) 0 = rw d2 (omega (arith, b (at + 2))) in
     let e3 : u / 16777216 ≡ getD s (at + 3) 0 = omega (arith, b at, b (at + 1), b (at + 2)) in
     rw (ofZ-toZ {w = w32} {n = u} (record { fits = u32-bound s at b }), e0, e1, e2, e3) (simp (towards-suc, set-getD))
-
--- ---- the ways through the code, over what the machine reads back
-
-module _ (n : ℕ) (h : n < 4294967296) where
-  word-is : toZ w64 n ≡ pos n
-  word-is = toZ-pos w64 (omega arith)
-
-  pub low-word : n < 2147483648 → toZ w64 n ≡ toZ w32 n
-  low-word l = word-is ∙ sym (toZ-pos w32 l)
-
-  pub high-fits : (k : ℕ) → k ≤ 4294967296 → SFits w64 (toZ w64 n -ℤ pos k)
-  high-fits k l = rw word-is (by-fits (simp ring (omega arith)))
-
-  pub high-word : 2147483648 ≤ n → back (toZ w64 n -ℤ pos 4294967296) ≡ toZ w32 n
-  high-word l =
-      let e : 2 ^ 32 - suc (4294967295 - n) ≡ n = omega arith in
-      let z : toZ w32 n ≡ negsuc (4294967295 - n) = rw e at (toZ-neg w32 (4294967295 - n) (omega arith)) in
-      toZ-ofZ (high-fits 4294967296 (omega arith)) ∙ rw (word-is, z) (by-eq (simp ring (omega arith)))
-
-module _ (v : ℤ) (f : SFits w32 v) where
-  back-is : back v ≡ v
-  back-is = toZ-ofZ (sfits-widen tt f)
-
-  bits-narrow : Fits w64 (ofZ w32 v)
-  bits-narrow = let b = fits-ofZ {w = w32} f in record { fits = omega arith }
-
-  module _ (t : ltZ (back v) (pos 0) ≡ true) where
-    pub below-fits : SFits w64 (back v +ℤ pos 4294967296)
-    below-fits = rw back-is (by-fits (simp ring (omega (ints, sizes v))))
-
-    raised : back (back v +ℤ pos 4294967296) ≡ pos (ofZ w32 v)
-    raised = toZ-ofZ below-fits ∙ rw back-is (go v f (rw back-is at t))
-      where
-        go : (v : ℤ) → SFits w32 v → ltZ v (pos 0) ≡ true → v +ℤ pos 4294967296 ≡ pos (ofZ w32 v)
-        go (pos n) f t = absurd (omega ints)
-        go (negsuc n) f t = by-eq (simp ring (omega ints))
-
-    pub below-bits : natAbs (back (back v +ℤ pos 4294967296)) ≡ ofZ w32 v
-    below-bits = ap natAbs raised
-
-    pub below-narrow : Fits w64 (natAbs (back (back v +ℤ pos 4294967296)))
-    below-narrow = rw below-bits bits-narrow
-
-    pub below-nonneg : T (nonNeg (back (back v +ℤ pos 4294967296)))
-    below-nonneg = rw raised tt
-
-  module _ (t : ltZ (back v) (pos 0) ≡ false) where
-    kept : back v ≡ pos (ofZ w32 v)
-    kept = back-is ∙ go v (rw back-is at t)
-      where
-        go : (v : ℤ) → ltZ v (pos 0) ≡ false → v ≡ pos (ofZ w32 v)
-        go (pos n) t = refl
-        go (negsuc n) t = absurd (omega ints)
-
-    pub above-bits : natAbs (back v) ≡ ofZ w32 v
-    above-bits = ap natAbs kept
-
-    pub above-narrow : Fits w64 (natAbs (back v))
-    above-narrow = rw above-bits bits-narrow
-
-    pub above-nonneg : T (nonNeg (back v))
-    above-nonneg = rw kept tt
-
--- read_i32: u is the word's bits, r their number, and r′ what the machine reads back of it
-module _ (u : ℕ) (r r′ : ℤ) (e : r ≡ toZ w32 u) (back-same : r′ ≡ r) where
-  pub word-read : (s : List ℕ) (at : ℕ) → u ≡ u32At s at → r′ ≡ i32At s at
-  unfolding i32At
-  word-read s at h = back-same ∙ e ∙ ap (toZ w32) h
-
-  pub word-range : u < 4294967296 → SFits w32 r′
-  word-range l = rw (back-same, e) (sfits-toZ (record { fits = l }))
-
--- write_i32: u is the bits of the number as the machine reads it
-module _ (v v′ : ℤ) (u : ℕ) (e : u ≡ ofZ w32 v′) (back-same : v′ ≡ v) where
-  pub bits-bound : SFits w32 v → u < 4294967296
-  bits-bound f = rw (e, back-same) (fits-ofZ f .fits)
-
-  pub word-written : (s t : List ℕ) (at : ℕ) → t ≡ withBits s at u → t ≡ withI32 s at v
-  unfolding withI32
-  word-written s t at h = rw (h, e, back-same)

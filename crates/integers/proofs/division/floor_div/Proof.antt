@@ -1,4 +1,4 @@
-use Rattle.integers.proofs.division.Laws.{quot-fits, div-less-fits, div-less, div-more}
+use Rattle.integers.proofs.division.Steps.{quot-fits, div-less-fits, div-less, div-more}
 use borrow.Author.Needs.{needs}
 use Rattle.integers.proofs.division.floor_div.Statement.{statement}
 use Rattle.integers.proofs.division.floor_div.Tie as tie
@@ -7,10 +7,10 @@ cast-c : tie.Need-cast-c
 cast-c c = search needs
 
 div-q : tie.Need-div-q
-div-q c = (search needs, search quot-fits)
+div-q c = search (needs, quot-fits)
 
 rem-if1 : tie.Need-rem-if1
-rem-if1 c = (search needs, search quot-fits)
+rem-if1 c = search (needs, quot-fits)
 
 sub-result : tie.Need-sub-result
 sub-result c = search (needs, div-less-fits)

@@ -1,5 +1,5 @@
 use mir.Facts.{toZ-ofZ}
-use Rattle.integers.proofs.division.Laws.{more-fits, share-more, share-least}
+use Rattle.integers.proofs.division.Steps.{more-fits, share-more, share-least}
 use borrow.Author.Needs.{needs}
 use Rattle.integers.proofs.division.share.Statement.{statement}
 use Rattle.integers.proofs.division.share.Tie as tie

@@ -1,4 +1,4 @@
-use Rattle.integers.proofs.words.Laws.{word-read, word-range}
+use Rattle.integers.proofs.words.Steps.{word-read, word-range}
 use mir.Facts.{toZ-ofZ}
 use borrow.Author.Needs.{needs}
 use Rattle.integers.proofs.words.read_i32.Statement.{statement}

@@ -1,4 +1,4 @@
-use Rattle.integers.proofs.words.Laws.{bits-bound, word-written}
+use Rattle.integers.proofs.words.Steps.{bits-bound, word-written}
 use mir.Facts.{toZ-ofZ}
 use borrow.Author.Needs.{needs}
 use Rattle.integers.proofs.words.write_i32.Statement.{statement}

@@ -1,0 +1,74 @@
+-- The ways through the code of words, over what the machine reads back.
+use mathlib.Core.Path.{_≡_, refl, sym, _∙_, ap}
+use mathlib.Core.Bool.{true, false}
+use mathlib.Core.List.{List}
+use Prim.Native.Nat.{ℕ, suc, _-_, _^_, _<_, _≤_}
+use native.Mathlib.Omega.{arith}
+use lib.IntN.{ℤ, pos, negsuc, _+ℤ_, _-ℤ_}
+use lib.Signed.{ltZ}
+use mir.Syntax.{w32, w64}
+use mir.Val.{Fits, SFits, toZ, ofZ}
+use mir.Facts.{toZ-pos, toZ-neg, toZ-ofZ, sfits-toZ, fits-ofZ, sfits-widen}
+use Rattle.integers.proofs.Integers.{back, ring, ints, by-eq, by-fits, sizes}
+use Rattle.integers.specs.Words.{u32At, i32At, withBits, withI32}
+
+-- signed: n is the bits
+module _ (n : ℕ) (h : n < 4294967296) where
+  word-is : toZ w64 n ≡ pos n
+  word-is = toZ-pos w64 (omega arith)
+
+  pub low-word : n < 2147483648 → toZ w64 n ≡ toZ w32 n
+  low-word l = word-is ∙ sym (toZ-pos w32 l)
+
+  pub high-fits : (k : ℕ) → k ≤ 4294967296 → SFits w64 (toZ w64 n -ℤ pos k)
+  high-fits k l = rw word-is (by-fits (simp ring (omega arith)))
+
+  pub high-word : 2147483648 ≤ n → back (toZ w64 n -ℤ pos 4294967296) ≡ toZ w32 n
+  high-word l =
+      let e : 2 ^ 32 - suc (4294967295 - n) ≡ n = omega arith in
+      let z : toZ w32 n ≡ negsuc (4294967295 - n) = rw e at (toZ-neg w32 (4294967295 - n) (omega arith)) in
+      toZ-ofZ (high-fits 4294967296 (omega arith)) ∙ rw (word-is, z) (by-eq (simp ring (omega arith)))
+
+-- bits_of: a negative number is lifted by 2^32, another is kept
+module _ (v : ℤ) (f : SFits w32 v) where
+  back-is : back v ≡ v
+  back-is = toZ-ofZ (sfits-widen tt f)
+
+  pub bits-fit : Fits w64 (ofZ w32 v)
+  bits-fit = let b = fits-ofZ {w = w32} f in record { fits = omega arith }
+
+  module _ (t : ltZ (back v) (pos 0) ≡ true) where
+    pub lift-fits : SFits w64 (back v +ℤ pos 4294967296)
+    lift-fits = rw back-is (by-fits (simp ring (omega (ints, sizes v))))
+
+    pub lifted : back (back v +ℤ pos 4294967296) ≡ pos (ofZ w32 v)
+    lifted = toZ-ofZ lift-fits ∙ rw back-is (go v f (rw back-is at t))
+      where
+        go : (v : ℤ) → SFits w32 v → ltZ v (pos 0) ≡ true → v +ℤ pos 4294967296 ≡ pos (ofZ w32 v)
+        go (pos n) f t = absurd (omega ints)
+        go (negsuc n) f t = by-eq (simp ring (omega ints))
+
+  pub kept : ltZ (back v) (pos 0) ≡ false → back v ≡ pos (ofZ w32 v)
+  kept t = back-is ∙ go v (rw back-is at t)
+    where
+      go : (v : ℤ) → ltZ v (pos 0) ≡ false → v ≡ pos (ofZ w32 v)
+      go (pos n) t = refl
+      go (negsuc n) t = absurd (omega ints)
+
+-- read_i32: u is the word's bits, r their number, and r′ what the machine reads back of it
+module _ (u : ℕ) (r r′ : ℤ) (e : r ≡ toZ w32 u) (back-same : r′ ≡ r) where
+  pub word-read : (s : List ℕ) (at : ℕ) → u ≡ u32At s at → r′ ≡ i32At s at
+  unfolding i32At
+  word-read s at h = back-same ∙ e ∙ ap (toZ w32) h
+
+  pub word-range : u < 4294967296 → SFits w32 r′
+  word-range l = rw (back-same, e) (sfits-toZ (record { fits = l }))
+
+-- write_i32: u is the bits of the number as the machine reads it
+module _ (v v′ : ℤ) (u : ℕ) (e : u ≡ ofZ w32 v′) (back-same : v′ ≡ v) where
+  pub bits-bound : SFits w32 v → u < 4294967296
+  bits-bound f = rw (e, back-same) (fits-ofZ f .fits)
+
+  pub word-written : (s t : List ℕ) (at : ℕ) → t ≡ withBits s at u → t ≡ withI32 s at v
+  unfolding withI32
+  word-written s t at h = rw (h, e, back-same)
