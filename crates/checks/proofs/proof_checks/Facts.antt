@@ -15,7 +15,7 @@ use Rattle.bounds.specs.Bounds.{greatestExponent, greatestWeight, mostVariables
 use Rattle.answers.proofs.answers.Laws.{passes-if, passes-at}
 use Rattle.bounds.proofs.bounds.Laws.{within-bound, bound-within}
 use Rattle.answers.proofs.searches.Laws.{none-wrong}
-use Rattle.answers.proofs.Tests.{nor, nand}
+use Rattle.integers.proofs.Tests.{nor, nand}
 use Rattle.answers.proofs.Short.{short-accepted, short-if, short-at}
 use Rattle.sheets.specs.Layout.{variables, rowCount, shapeOf, proofLength}
 use Rattle.sheets.specs.ProofSheet.{vOf, wOf, tripleOf}

@@ -18,7 +18,7 @@ use Rattle.answers.specs.declared.answers.Verdict.the-variants.{Accepted}
 use Rattle.answers.proofs.answers.Laws.{passes-if, passes-at, passed}
 use Rattle.bounds.proofs.bounds.Laws.{within-bound}
 use Rattle.answers.proofs.searches.Laws.{none-wrong}
-use Rattle.answers.proofs.Tests.{nor, nand}
+use Rattle.integers.proofs.Tests.{nor, nand}
 use Rattle.answers.proofs.Short.{short-accepted, short-if, short-at}
 use Rattle.sheets.specs.Layout.{variables, termCount}
 use Rattle.sheets.specs.ClaimSheet.{floorOf, termPoint, coefficientOf}
