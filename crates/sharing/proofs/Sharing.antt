@@ -1,9 +1,10 @@
 -- Laws of sharing, on a list of slots alone: where a point has a slot the shifted weights add up to its target, where it
 -- has none to 0, and weights that add up stay as they are; and of slots gathered from rows, whatever a row is.
-use mathlib.Core.Path.{_≡_, refl, _∙_, ap}
+use mathlib.Core.Path.{_≡_, refl, _∙_}
 use mathlib.Core.Bool.{Bool, true, false, cond}
 use mathlib.Core.List.{[], _∷_, _++_, append-nil, append-assoc}
-use Prim.Native.Nat.{ℕ, zero, suc, _+_, _-_, _<_, _≤_}
+use Prim.Native.Nat.{ℕ, zero, suc, _+_, _<_, _≤_}
+use native.Mathlib.Decide.{le-ind}
 use native.Mathlib.Omega.{arith}
 use lib.IntN.{ℤ, pos, _+ℤ_, +ℤ-idr, +ℤ-invr}
 use Rattle.integers.specs.Division.{share, shares}
@@ -127,20 +128,12 @@ module _ {A : Type 0} (own : A → Sum) (row : ℕ → A) where
   abbrev to : ℕ → Sum
   to i = gathered own (table row i)
 
-  -- more rows have at least as many slots at a point
-  grows : (α : Exponents) (i d : ℕ) → count α (to i) ≤ count α (to (i + d))
-  grows α i zero = let e : i + 0 ≡ i = omega arith in rw e (omega arith)
-  grows α i (suc d) =
-      let e : i + suc d ≡ suc (i + d) = omega arith in
-      rw (e, gathered-more own row (i + d), count-append) (omega (arith, grows α i d))
-
   -- those of the rows before a row and its own are among all
   pub row-counted : (α : Exponents) (i k : ℕ) → i < k → count α (to i) + count α (own (row i)) ≤ count α (to k)
-  row-counted α i k l =
-      let e : suc i + (k - suc i) ≡ k = omega arith in
-      let g : count α (to (suc i)) ≤ count α (to k) = rw e at (grows α (suc i) (k - suc i)) in
-      let m = ap (count α) (gathered-more own row i) ∙ count-append α (to i) (own (row i)) in
-      omega (arith, g, m)
+  row-counted α i =
+      le-ind (λ m. count α (to i) + count α (own (row i)) ≤ count α (to m))
+      (rw (gathered-more own row i, count-append) (omega arith))
+      (λ m _ h. rw (gathered-more own row m, count-append) (omega arith))
 
   -- where each row of `shifted` has the slots of that of `row`, shifted, all its rows have all slots, shifted
   module _ (τ : Exponents → ℤ) (shifted : ℕ → A) (L : Sum) (k : ℕ) (all : to k ≡ L)

@@ -2,7 +2,8 @@
 use mathlib.Core.Path.{_≡_, refl, sym, _∙_}
 use mathlib.Core.Bool.{Bool, true, false, true≢false}
 use mathlib.Core.List.{List}
-use Prim.Native.Nat.{ℕ, zero, suc, _+_, _-_, _<_, _≤_}
+use Prim.Native.Nat.{ℕ, suc, _-_, _<_, _≤_}
+use native.Mathlib.Decide.{le-ind}
 use native.Mathlib.Omega.{arith}
 use lib.Dec.{eqb, ltb}
 use lib.IntN.{natAbs}
@@ -76,19 +77,15 @@ module _ (c : List ℕ) (v : Verdict) (e : says v ≡ claimAnswer c) (j : ℕ) (
   claim-long = omega (arith, claim-passed .sized)
 
 -- the points of a claim rise from any to any later one, so no two are the same
-points-rise : (c : List ℕ) (n t : ℕ) → ClaimFacts c n t → (i d : ℕ) → suc i + d < t
-    → risesTo (termPoint c n i) (termPoint c n (suc i + d)) ≡ true
-points-rise c n t f i zero l = let e : suc i + 0 ≡ suc i = omega arith in rw e (f .rising i (omega arith))
-points-rise c n t f i (suc d) l =
-    let e : suc i + suc d ≡ suc (suc i + d) = omega arith in
-    rw e (rises-trans _ _ _ (points-rise c n t f i d (omega arith)) (f .rising (suc i + d) (omega arith)))
-
 pub points-differ : (c : List ℕ) (n t : ℕ) → ClaimFacts c n t → (i j : ℕ) → i < j → j < t
     → samePoint (termPoint c n i) (termPoint c n j) ≡ false
-points-differ c n t f i j l h =
-    let e : suc i + (j - suc i) ≡ j = omega arith in
-    go (samePoint (termPoint c n i) (termPoint c n j)) refl (rw e at (points-rise c n t f i (j - suc i) (omega arith)))
+points-differ c n t f i j l h = go (samePoint (termPoint c n i) (termPoint c n j)) refl (rises j l h)
   where
+    rises : (j : ℕ) → i < j → j < t → risesTo (termPoint c n i) (termPoint c n j) ≡ true
+    rises =
+        le-ind (λ m. m < t → risesTo (termPoint c n i) (termPoint c n m) ≡ true) (f .rising i)
+        (λ m _ r l. rises-trans _ _ _ (r (omega arith)) (f .rising m l))
+
     go : (b : Bool) → samePoint (termPoint c n i) (termPoint c n j) ≡ b
         → risesTo (termPoint c n i) (termPoint c n j) ≡ true → b ≡ false
     go true e r = absurd (true≢false (sym r ∙ rw (same-eq _ _ e) (rises-self (termPoint c n j))))

@@ -2,7 +2,8 @@
 use mathlib.Core.Path.{_≡_, refl, sym, _∙_, ap}
 use mathlib.Core.Bool.{Bool, true, false, _&&_, and-eq-true-iff}
 use mathlib.Core.List.{List, [], _∷_, _++_}
-use Prim.Native.Nat.{ℕ, zero, suc, _+_, _-_, _*_, _^_, _<_, _≤_}
+use Prim.Native.Nat.{ℕ, zero, suc, _+_, _*_, _^_, _<_, _≤_}
+use native.Mathlib.Decide.{le-ind}
 use native.Mathlib.Numerals.{add-one}
 use native.Mathlib.Omega.{arith}
 use lib.Dec.{leb}
@@ -88,20 +89,16 @@ module _ (s l : List ℕ) (sh : Shape) (at : ℕ) where
   rows-none r =
       rw (rows-zero s sh) (record { bytes = refl; ends = omega arith; kept = refl; inside = omega (arith, r .room) })
 
-  rows-grow : (i d : ℕ) → length (rowsText s sh i) ≤ length (rowsText s sh (i + d))
-  rows-grow i zero = let e : i + 0 ≡ i = omega arith in rw e (omega arith)
-  rows-grow i (suc d) =
-      let e : i + suc d ≡ suc (i + d) = omega arith in
-      rw (e, rows-next s sh (i + d), length-append (rowsText s sh (i + d)) (rowText s sh (i + d)))
-      (omega (arith, rows-grow i d))
+  rows-grow : (i k : ℕ) → i < k → length (rowsText s sh i ++ rowText s sh i) ≤ length (rowsText s sh k)
+  rows-grow i =
+      le-ind (λ m. length (rowsText s sh i ++ rowText s sh i) ≤ length (rowsText s sh m)) (rw rows-next (omega arith))
+      (λ m _ g. rw (rows-next s sh m, length-append (rowsText s sh m)) (omega arith))
 
   module _ (i mid : ℕ) (m : List ℕ) (w : Written l at (rowsText s sh i) m mid) where
     pub next-room : Room l at (rowsText s sh (sh .k)) → i < sh .k → Room m mid (rowText s sh i)
     next-room r h =
-        let e : suc i + (sh .k - suc i) ≡ sh .k = omega arith in
-        let g : length (rowsText s sh i ++ rowText s sh i) ≤ length (rowsText s sh (sh .k)) =
-        rw (e, rows-next s sh i) at (rows-grow (suc i) (sh .k - suc i)) in
-        room-then (rowsText s sh i) (rowText s sh i) (record { room = omega (arith, r .room) }) w
+        room-then (rowsText s sh i) (rowText s sh i)
+        (record { room = omega (arith, r .room, rows-grow i (sh .k) h) }) w
 
     pub rows-more : (o : List ℕ) (end : ℕ) → Written m mid (rowText s sh i) o end
         → Written l at (rowsText s sh (i + 1)) o end
