@@ -6,6 +6,7 @@ use native.Mathlib.Nat.{div-add-mod, mod-lt, div-le-self, zero-div, zero-mod}
 use native.Mathlib.Omega.{arith}
 use lib.Dec.{T, ltb, ltb→lt, nltb→le, leb·suc-zero}
 use lib.IntN.{ℤ, pos, negsuc, natAbs, _+ℤ_, _*ℤ_}
+use lib.Signed.{mag}
 use Rattle.integers.proofs.Integers.{abs-add, ring, ints, by-eq, read-eq}
 use Rattle.integers.specs.Division.{floorDiv, floorMod, share, shares}
 
@@ -59,16 +60,17 @@ pub share-none : (c k : ℕ) → share (pos 0) c k ≡ pos 0
 unfolding share floorDiv floorMod
 share-none c k = rw (zero-div, zero-mod, leb·suc-zero)
 
--- a share is at most one larger than the error
-floorDiv-abs : (e : ℤ) (c : ℕ) → natAbs (floorDiv e c) ≤ natAbs e
+-- a quotient is no larger than what is divided
+pub floorDiv-size : (e : ℤ) (c : ℕ) → (natAbs (floorDiv e c) ≤ natAbs e) × (mag (floorDiv e c) ≤ mag e)
 unfolding floorDiv
-floorDiv-abs (pos a) c = div-le-self a c
-floorDiv-abs (negsuc a) c = omega (arith, div-le-self a c)
+floorDiv-size (pos a) c = (div-le-self a c, div-le-self a c)
+floorDiv-size (negsuc a) c = let h = div-le-self a c in (omega arith, h)
 
+-- a share is at most one larger than the error
 pub share-abs : (e : ℤ) (c k : ℕ) → natAbs (share e c k) ≤ natAbs e + 1
 unfolding share
 share-abs e c k = go (ltb k (floorMod e c))
   where
     go : (b : Bool) → natAbs (cond b (floorDiv e c +ℤ pos 1) (floorDiv e c)) ≤ natAbs e + 1
-    go true = omega (arith, floorDiv-abs e c, abs-add (floorDiv e c) (pos 1))
-    go false = omega (arith, floorDiv-abs e c)
+    go true = omega (arith, floorDiv-size e c, abs-add (floorDiv e c) (pos 1))
+    go false = omega (arith, floorDiv-size e c)

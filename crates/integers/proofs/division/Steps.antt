@@ -13,7 +13,7 @@ use mir.Val.{SFits, Fits, toZ}
 use mir.Facts.{toZ-pos, toZ-ofZ}
 use Rattle.integers.proofs.Integers.{up, dn, back, by-fits, read-fits, abs-add, ring, ints, by-eq, read-eq, sizes, abs-neg, le-parts, lt-parts, ltZ-true, ltZ-false, fits-within}
 use Rattle.integers.specs.Division.{floorDiv, floorMod, share}
-use Rattle.integers.proofs.division.Laws.{floorMod-<, floor-sum}
+use Rattle.integers.proofs.division.Laws.{floorMod-<, floor-sum, floorDiv-size}
 
 -- ---- no other quotient and remainder add up so
 
@@ -24,16 +24,9 @@ floor-unique : (e q : ℤ) (c m : ℕ) → m < c → e ≡ q *ℤ pos c +ℤ pos
 floor-unique e q c m h s =
     let d = floorDiv e c in
     let l = floorMod-< e c (omega arith) in
-    let t : (up q + dn d) * c + m ≡ (up d + dn q) * c + floorMod e c =
-    let r = simp ring at (read-eq (sym s ∙ floor-sum e c (omega arith))) in omega arith in
-    let u = same-quotient c (up q + dn d) (up d + dn q) m (floorMod e c) h l t in
+    let r = simp ring at (read-eq (sym s ∙ floor-sum e c (omega arith))) in
+    let u = same-quotient c (up q + dn d) (up d + dn q) m (floorMod e c) h l (omega arith) in
     (omega ints, omega (arith, ap (λ (z : ℕ). z * c) u))
-
--- a quotient is no larger than what is divided
-floorDiv-mag : (e : ℤ) (c : ℕ) → mag (floorDiv e c) ≤ mag e
-unfolding floorDiv
-floorDiv-mag (pos a) c = div-le-self a c
-floorDiv-mag (negsuc a) c = div-le-self a c
 
 -- ---- the machine's quotient and remainder, which round towards zero
 
@@ -117,7 +110,7 @@ module _ (e : ℤ) (n : ℕ) (h : 0 < n) (f : SFits w64 e) (g : Fits w32 n) wher
     div-less-is = rw quot-is (rem-below e n h less .0)
 
     less-fits : SFits w64 (back (quot e n) -ℤ pos 1)
-    less-fits = rw div-less-is (record { sfits = omega (arith, floorDiv-mag e n) })
+    less-fits = rw div-less-is (record { sfits = omega (arith, floorDiv-size e n) })
 
     pub div-less-fits : (k : ℕ) → k ≤ 1 → SFits w64 (back (quot e n) -ℤ pos k)
     div-less-fits k l =
