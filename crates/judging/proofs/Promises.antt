@@ -20,8 +20,7 @@ use Rattle.sheets.specs.ProofSheet.{scaleOf, rowsOf}
 use Rattle.sheets.proofs.claim_sheet.Laws.{terms-sized}
 use Rattle.answers.specs.Answers.{accepted, Passes, Short}
 use Rattle.bounds.specs.Bounds.{greatestWeight}
-use Rattle.answers.proofs.answers.Laws.{passes-then, then-on, accepted-passes}
-use Rattle.answers.proofs.Short.{short-then}
+use Rattle.answers.proofs.answers.Laws.{passes-then, then-on, accepted-passes, short-then}
 use Rattle.checks.specs.Input.{WellFormed}
 use Rattle.checks.proofs.input.Laws.{input-passes, input-formed, input-enough, input-short}
 use Rattle.targets.specs.Targets.{aimOf, targetOf}

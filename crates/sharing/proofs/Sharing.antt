@@ -13,8 +13,7 @@ use Rattle.integers.proofs.division.Laws.{shares-none, shares-more, shares-sum,
 use Rattle.points.specs.Points.{Exponents, samePoint}
 use Rattle.points.specs.Lists.{table}
 use Rattle.squares.specs.Sums.{Sum, gathered, coefficient}
-use Rattle.squares.proofs.Sums.{coefficient-nil, coefficient-cons}
-use Rattle.squares.proofs.Gathered.{gathered-none, gathered-more}
+use Rattle.squares.proofs.Sums.{coefficient-nil, coefficient-cons, gathered-none, gathered-more}
 use Rattle.points.proofs.points.Laws.{same-eq}
 use Rattle.sharing.specs.Sharing.{count, errorAt, shiftedWeight, shiftedFrom, shiftedSlots}
 

@@ -23,9 +23,8 @@ use Rattle.squares.specs.declared.rows.Weights.the-variants.{Pair, Lone}
 use Rattle.points.proofs.points.Laws.{midpoint-sized}
 use Rattle.points.proofs.Lists.{all-map}
 use Rattle.squares.proofs.Targets.{worst-zero, worst-scaled, worst-below, target-zero}
-use Rattle.squares.proofs.Sums.{scaled, coefficient-scaled, value-scaled, dominate, coefficient-none}
+use Rattle.squares.proofs.Sums.{scaled, coefficient-scaled, value-scaled, dominate, coefficient-none, gathered-all}
 use Rattle.monomials.proofs.powers.Laws.{monomial-sign, monomial-mean, monomial-constant}
-use Rattle.squares.proofs.Gathered.{gathered-all}
 use Rattle.squares.proofs.rows.Laws.{Mean, absolute, rows-nonneg}
 
 -- ---- any worth of points

@@ -1,4 +1,3 @@
 pub mod Sums
-pub mod Gathered
 pub mod Targets
 pub mod Floor

@@ -1,19 +1,20 @@
 -- Laws of formal sums, and `dominate`: weights compared at every point compare the values. No order of terms, no sorting, no
 -- distinct points are asked: the induction takes one point out of both sums.
-use mathlib.Core.Path.{_≡_, refl, sym, subst}
+use mathlib.Core.Path.{_≡_, refl, sym, subst, _∙_, ap}
 use mathlib.Core.Bool.{Bool, true, false, cond}
-use mathlib.Core.List.{[], _∷_, _++_}
+use mathlib.Core.List.{[], _∷_, _++_, List, append-nil, append-assoc}
 use Prim.Native.Nat.{ℕ, zero, suc, _+_, _≤_}
 use native.Mathlib.Nat.{le-refl}
 use native.Mathlib.Omega.{arith}
 use lib.IntN.{ℤ, pos, _+ℤ_, _*ℤ_, +ℤ-idl, +ℤ-idr, +ℤ-assoc, *ℤ-zero}
 use lib.ListN.{length}
 use lib.Signed.{_≤ℤ_, ≤ℤ-refl}
-use Rattle.integers.proofs.Integers.{ring, ints, by-eq, +ℤ-mono, *ℤ-+ℤ}
+use Rattle.integers.proofs.Integers.{ring, ints, by-eq, +ℤ-mono, *ℤ-+ℤ, pos-nonneg}
 use Rattle.points.specs.Points.{Exponents, samePoint}
-use Rattle.squares.specs.Sums.{Sum, coefficient, value}
-use Rattle.points.specs.Lists.{All}
+use Rattle.squares.specs.Sums.{Sum, coefficient, value, gathered}
+use Rattle.points.specs.Lists.{All, table}
 use Rattle.points.proofs.points.Laws.{same-eq, same-refl}
+use Rattle.points.proofs.Lists.{all-append, table-none, table-more}
 
 -- ---- sums of sums, and multiples
 
@@ -170,3 +171,38 @@ coefficient-none P α (t ∷ L) s d = go (samePoint α (t .0)) (same-eq α (t .0
         → cond b (t .1 +ℤ coefficient α L) (coefficient α L) ≡ pos 0
     go true f e = absurd (d (subst P (sym (f refl)) (s .0)))
     go false f e = e
+
+-- ---- slots gathered from rows, whatever a row is
+
+module _ {A : Type 0} (own : A → Sum) where
+  gathered-append : (rows more : List A) → gathered own (rows ++ more) ≡ gathered own rows ++ gathered own more
+  unfolding gathered
+  gathered-append [] more = refl
+  gathered-append (a ∷ rows) more =
+      rw (gathered-append rows more) (sym (append-assoc (own a) (gathered own rows) (gathered own more)))
+
+  -- of rows by an index: of none, and of one row more
+  module _ (row : ℕ → A) where
+    pub gathered-none : gathered own (table row 0) ≡ []
+    unfolding gathered
+    gathered-none = rw (table-none row)
+
+    pub gathered-more : (i : ℕ) → gathered own (table row (suc i)) ≡ gathered own (table row i) ++ own (row i)
+    unfolding gathered
+    gathered-more i =
+        ap (gathered own) (table-more row i) ∙ gathered-append (table row i) (row i ∷ [])
+        ∙ ap (_++_ (gathered own (table row i))) (append-nil (own (row i)))
+
+  -- what holds of every row's slots holds of all
+  pub gathered-all : (P : Exponents × ℤ → Type 0) (rows : List A) → All (λ a. All P (own a)) rows
+      → All P (gathered own rows)
+  unfolding gathered
+  gathered-all P [] h = tt
+  gathered-all P (a ∷ rows) h = all-append P (own a) (gathered own rows) (h .0) (gathered-all P rows (h .1))
+
+  -- where every row is worth at least 0, all are
+  pub gathered-nonneg : (φ : Exponents → ℤ) (rows : List A) → All (λ a. pos 0 ≤ℤ value φ (own a)) rows
+      → pos 0 ≤ℤ value φ (gathered own rows)
+  unfolding gathered
+  gathered-nonneg φ [] h = rw value-nil (pos-nonneg 0)
+  gathered-nonneg φ (a ∷ rows) h = rw value-append (+ℤ-mono (h .0) (gathered-nonneg φ rows (h .1)))

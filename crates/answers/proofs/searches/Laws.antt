@@ -3,12 +3,14 @@ use mathlib.Core.Path.{_≡_, refl, sym, _∙_}
 use mathlib.Core.Bool.{Bool, true, false}
 use mathlib.Core.Logic.{⊎-elim}
 use Prim.Native.Nat.{ℕ, zero, suc, _+_, _<_, _≤_}
+use native.Mathlib.Decide.{le-ind}
 use native.Mathlib.Nat.{eq-or-lt-of-le, le-of-suc-le-suc}
 use native.Mathlib.Numerals.{add-one}
 use native.Mathlib.Omega.{arith}
 use Rattle.answers.specs.Searches.{first}
 use Rattle.answers.specs.declared.searches.Found.{Found}
 use Rattle.answers.specs.declared.searches.Found.the-variants.{At, Nothing}
+use Rattle.integers.proofs.Tests.{never}
 
 module _ (wrong : ℕ → Bool) where
   pub first-start : first wrong 0 ≡ Nothing
@@ -24,12 +26,7 @@ module _ (wrong : ℕ → Bool) where
   first-stays n i h = simp (first, h)
 
   first-found : (n i : ℕ) → i < n → first wrong i ≡ Nothing → wrong i ≡ true → first wrong n ≡ At i
-  first-found zero i l h k = absurd (omega arith)
-  first-found (suc n) i l h k =
-      ⊎-elim
-      (λ e. rw (← e) (first-here i h k))
-      (λ m. first-stays n i (first-found n i m h k))
-      (eq-or-lt-of-le (le-of-suc-le-suc l))
+  first-found n i l h k = le-ind (λ m. first wrong m ≡ At i) (first-here i h k) (λ m _. first-stays m i) n l
 
   -- the loop `while i < n { if wrong(i) { return At(i); } i += 1; } Nothing`, where r is what wrong(i) answered
   pub first-at : (n i : ℕ) (r : Bool) → i < n → first wrong i ≡ Nothing → r ≡ wrong i → r ≡ true → At i ≡ first wrong n
@@ -53,8 +50,8 @@ none-before : (wrong : ℕ → Bool) (n : ℕ) → first wrong (suc n) ≡ Nothi
 none-before wrong n h = go (first wrong n) (wrong n) refl refl
   where
     go : (f : Found) (b : Bool) → first wrong n ≡ f → wrong n ≡ b → (first wrong n ≡ Nothing) × (wrong n ≡ false)
-    go (At i) b e k = let s = first-stays wrong n i e in let z : _≡_ {A = ℕ} 0 1 = cc in absurd (omega arith)
-    go Nothing true e k = let s = first-here wrong n e k in let z : _≡_ {A = ℕ} 0 1 = cc in absurd (omega arith)
+    go (At i) b e k = let s = first-stays wrong n i e in never (cc)
+    go Nothing true e k = let s = first-here wrong n e k in never (cc)
     go Nothing false e k = (e, k)
 
 pub none-wrong : (wrong : ℕ → Bool) (n : ℕ) → first wrong n ≡ Nothing → (i : ℕ) → i < n → wrong i ≡ false
@@ -68,7 +65,7 @@ none-wrong wrong (suc n) h i l =
 -- what is found is below n, and something is wrong there
 pub first-inside : (wrong : ℕ → Bool) (n i : ℕ) → first wrong n ≡ At i → (i < n) × (wrong i ≡ true)
 unfolding first
-first-inside wrong zero i h = let z : _≡_ {A = ℕ} 0 1 = cc in absurd (omega arith)
+first-inside wrong zero i h = never (cc)
 first-inside wrong (suc n) i h = go (first wrong n) (wrong n) refl refl (first-inside wrong n i)
   where
     go : (f : Found) (b : Bool) → first wrong n ≡ f → wrong n ≡ b → (first wrong n ≡ At i → (i < n) × (wrong i ≡ true))
@@ -83,5 +80,4 @@ first-inside wrong (suc n) i h = go (first wrong n) (wrong n) refl refl (first-i
         (omega arith, rw (← q) k)
     go Nothing false e k below =
         let s : first wrong (suc n) ≡ Nothing = rw add-one at (first-next wrong n false e (sym k) refl) in
-        let z : _≡_ {A = ℕ} 0 1 = cc in
-        absurd (omega arith)
+        never (cc)

@@ -11,15 +11,14 @@ use Rattle.answers.specs.declared.answers.Sheet.{Sheet}
 use Rattle.answers.specs.declared.answers.Sheet.the-variants.{Output}
 use Rattle.answers.specs.declared.answers.Verdict.{Verdict}
 use Rattle.answers.specs.declared.answers.Verdict.the-variants.{Accepted, Refused}
-use Rattle.answers.proofs.answers.Laws.{refused-if, passed-if, accepted-says, refused-says, passes-if, passes-then, then-passes, then-refused, then-passed, passed}
-use Rattle.answers.proofs.Short.{short-accepted, short-if, short-then}
+use Rattle.answers.proofs.answers.Laws.{refused-if, passed-if, accepted-says, refused-says, passes-if, passes-then, then-passes, then-refused, then-passed, passed, short-accepted, short-if, short-then}
 use Rattle.sheets.specs.Layout.{variables, termCount, shapeOf, ProofRoom}
 use Rattle.sheets.specs.declared.layout.Shape.{Shape}
 use Rattle.claims.specs.ClaimChecks.{claimAnswer, ClaimFacts}
-use Rattle.claims.proofs.claim_checks.Facts.{claim-facts, claim-short}
+use Rattle.claims.proofs.claim_checks.Laws.{claim-facts, claim-short}
 use Rattle.checks.specs.ProofChecks.{headerAnswer, rowsAnswer, HeaderFacts, ProofFacts}
 use Rattle.checks.specs.Input.{headAnswer, roomAnswer, bodyAnswer, inputAnswer, formedAnswer, WellFormed}
-use Rattle.checks.proofs.proof_checks.Facts.{header-facts, proof-facts, header-short, rows-short}
+use Rattle.checks.proofs.proof_checks.Laws.{header-facts, proof-facts, header-short, rows-short}
 
 -- ---- check_head: v is the verdict on the claim
 

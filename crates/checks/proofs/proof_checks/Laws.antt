@@ -1,118 +1,120 @@
--- Laws of the checks of the proof: the ways through the code, by the numbers of the refusals.
-use mathlib.Core.Path.{_≡_, _∙_, ap}
-use mathlib.Core.Bool.{Bool, true, false, not, _&&_}
+-- Proofs that pass: what it says of their numbers and points, and how short their answers are.
+use mathlib.Core.Path.{_≡_, refl}
+use mathlib.Core.Bool.{true, false, and-eq-true-iff}
 use mathlib.Core.List.{List}
 use Prim.Native.Nat.{ℕ, _<_, _≤_}
-use lib.Dec.{eqb, ltb, leb}
-use lib.IntN.{ℤ, natAbs}
-use lib.ListN.{getD}
-use borrow.Author.Tests.{eq-eqb, ne-eqb, le-leb, lt-leb}
-use Rattle.points.specs.Points.{exponents, pointOf, samePoint, hasMidpoint, exponentsWithin}
-use Rattle.points.specs.declared.points.Point.{Point}
-use Rattle.points.proofs.points.Laws.{exponents-of}
-use Rattle.bounds.specs.Bounds.{greatestScale, beyond}
-use Rattle.sheets.specs.Layout.{variables, rowCount}
-use Rattle.sheets.specs.ProofSheet.{scaleOf, vOf, wOf, tripleOf}
-use Rattle.checks.specs.ProofChecks.{headerRight, qOrR, anyBeyond, breaks}
-use Rattle.checks.specs.declared.proof_checks.RowRule.{RowRule}
-use Rattle.checks.specs.declared.proof_checks.RowRule.the-variants.{Exponent, Midpoint, Unused, Weight}
+use native.Mathlib.Omega.{arith}
+use lib.IntN.{pos}
+use lib.ListN.{length}
+use borrow.Author.Tests.{leb-true, eqb-true, not-false}
+use Rattle.integers.proofs.Integers.{abs-zero}
+use Rattle.integers.proofs.words.Laws.{Bytes}
+use Rattle.points.specs.Points.{samePoint, hasMidpoint, exponentsWithin}
+use Rattle.answers.specs.Answers.{Passes, Short}
+use Rattle.bounds.specs.Bounds.{greatestExponent, greatestWeight, mostVariables}
+use Rattle.answers.proofs.answers.Laws.{passes-if, passes-at, short-accepted, short-if, short-at}
+use Rattle.bounds.proofs.bounds.Laws.{within-bound, bound-within}
+use Rattle.answers.proofs.searches.Laws.{none-wrong}
+use Rattle.integers.proofs.Tests.{nor, nand}
+use Rattle.sheets.specs.Layout.{variables, rowCount, shapeOf, proofLength}
+use Rattle.sheets.specs.ProofSheet.{vOf, wOf, tripleOf}
 use Rattle.sheets.specs.declared.layout.Shape.{Shape}
 use Rattle.sheets.specs.declared.proof_sheet.Triple.{Triple}
-use Rattle.bounds.proofs.bounds.Laws.{over}
+use Rattle.checks.specs.ProofChecks.{headerRight, headerAnswer, qOrR, anyBeyond, breaks, rowsAnswer, Within, HeaderFacts, ProofFacts}
+use Rattle.checks.specs.declared.proof_checks.RowRule.the-variants.{Exponent, Midpoint, Unused, Weight}
 
--- ---- 9
+-- ---- what each check says that is passed
 
-module _ (s : List ℕ) (limit n m : ℕ) (em : m ≡ variables s) where
-  pub header-other : (m ≡ n → ⊥) → true ≡ not (headerRight limit n s)
-  unfolding headerRight
-  header-other h = rw (← em, ne-eqb m n h)
-
-  module _ (p : m ≡ n) where
-    pub header-one : (getD s 1 0 ≡ 0 → ⊥) → true ≡ not (headerRight limit n s)
-    unfolding headerRight
-    header-one h = rw (← em, eq-eqb m n p, ne-eqb (getD s 1 0) 0 h)
-
-    module _ (q : getD s 1 0 ≡ 0) (k : ℕ) (ek : k ≡ rowCount s) where
-      pub header-rows : limit < k → true ≡ not (headerRight limit n s)
-      unfolding headerRight
-      header-rows h = rw (← em, eq-eqb m n p, eq-eqb (getD s 1 0) 0 q, ← ek, lt-leb k limit h)
-
-      module _ (r : k ≤ limit) (u : ℕ) (eu : u ≡ scaleOf s) where
-        right : eqb (variables s) n && eqb (getD s 1 0) 0 && leb (rowCount s) limit ≡ true
-        right = rw (← em, eq-eqb m n p, eq-eqb (getD s 1 0) 0 q, ← ek, le-leb k limit r)
-
-        pub header-scaleless : u < 1 → true ≡ not (headerRight limit n s)
-        unfolding headerRight
-        header-scaleless h = rw (right, ← eu, lt-leb 1 u h)
-
-        pub header-scale : 1 ≤ u → ltb greatestScale u ≡ not (headerRight limit n s)
-        unfolding headerRight
-        header-scale h = rw (right, ← eu, le-leb 1 u h) (over greatestScale u)
-
--- ---- 12 and 13: points by value
-
-module _ (s : List ℕ) (sh : Shape) (i : ℕ) (v : Point) (ev : v ≡ pointOf (vOf s sh i)) where
-  v-is : exponents v ≡ vOf s sh i
-  v-is = ap exponents ev ∙ exponents-of (vOf s sh i)
-
-  module _ (limit : ℕ) (a : Bool) (ea : a ≡ exponentsWithin limit (exponents v)) where
-    pub v-high : a ≡ false → true ≡ breaks (Exponent limit) s sh i
-    unfolding breaks
-    v-high h = rw (← v-is, ← ea, h)
-
-    pub w-judged : a ≡ true → (w : Point) (b : Bool) → w ≡ pointOf (wOf s sh i)
-        → b ≡ exponentsWithin limit (exponents w)
-        → not b ≡ breaks (Exponent limit) s sh i
-    unfolding breaks
-    w-judged h w b ew eb = rw (← v-is, ← ea, h, eb, ew, exponents-of (wOf s sh i))
-
-  module _ (w : Point) (ew : w ≡ pointOf (wOf s sh i)) where
-    w-is : exponents w ≡ wOf s sh i
-    w-is = ap exponents ew ∙ exponents-of (wOf s sh i)
-
-    pub midpoint-judged : (b : Bool) → b ≡ hasMidpoint (exponents v) (exponents w) → not b ≡ breaks Midpoint s sh i
-    unfolding breaks
-    midpoint-judged b e = rw (e, v-is, w-is)
-
-    -- ---- 14
-    module _ (lone : Bool) (el : lone ≡ samePoint (exponents v) (exponents w)) where
-      pub unused-pair : lone ≡ false → false ≡ breaks Unused s sh i
-      unfolding breaks
-      unused-pair h = rw (← v-is, ← w-is, ← el, h)
-
-      pub unused-lone : lone ≡ true → (x : Triple) (b : Bool) → x ≡ tripleOf s sh i → b ≡ qOrR x
-          → b ≡ breaks Unused s sh i
-      unfolding breaks
-      unused-lone h x b ex eb = rw (← v-is, ← w-is, ← el, h, ← ex) eb
-
--- q and r as the machine reads them back, and their magnitudes
-module _ (x : Triple) (q : ℤ) (m : ℕ) (eq : q ≡ x .q) (em : m ≡ natAbs q) where
-  pub q-not-zero : (m ≡ 0 → ⊥) → true ≡ qOrR x
-  unfolding qOrR
-  q-not-zero h = rw (← eq, ← em, ne-eqb m 0 h)
-
-  pub r-not-zero : m ≡ 0 → (r : ℤ) (u : ℕ) → r ≡ x .r → u ≡ natAbs r → not (eqb u 0) ≡ qOrR x
-  unfolding qOrR
-  r-not-zero h r u er eu = rw (← eq, ← em, eq-eqb m 0 h, eu, er)
-
--- ---- 15
-
-module _ (limit : ℕ) (x : Triple) (p : ℤ) (a : Bool) (ep : p ≡ x .p) (ea : a ≡ beyond limit p) where
-  pub beyond-p : a ≡ true → true ≡ anyBeyond limit x
+-- three weights, none of which is beyond a limit
+module _ (limit : ℕ) (x : Triple) where
+  pub none-beyond : anyBeyond limit x ≡ false → Within limit x
   unfolding anyBeyond
-  beyond-p h = rw (← ep, ← ea, h)
+  none-beyond h =
+      let y = nor _ _ h in
+      let z = nor _ _ (y .0) in
+      record { p-within = within-bound _ _ (z .0); q-within = within-bound _ _ (z .1); r-within = within-bound _ _ (y .1) }
 
-  module _ (h : a ≡ false) (q : ℤ) (b : Bool) (eq : q ≡ x .q) (eb : b ≡ beyond limit q) where
-    pub beyond-q : b ≡ true → true ≡ anyBeyond limit x
-    unfolding anyBeyond
-    beyond-q g = rw (← ep, ← ea, h, ← eq, ← eb, g)
+  pub within-none : Within limit x → anyBeyond limit x ≡ false
+  unfolding anyBeyond
+  within-none w =
+      rw (bound-within limit (x .p) (w .p-within), bound-within limit (x .q) (w .q-within), bound-within limit (x .r) (w .r-within))
 
-    pub beyond-r : b ≡ false → (r : ℤ) (d : Bool) → r ≡ x .r → d ≡ beyond limit r → d ≡ anyBeyond limit x
-    unfolding anyBeyond
-    beyond-r g r d er ed = rw (← ep, ← ea, h, ← eq, ← eb, g, ed, er)
+module _ (s : List ℕ) (sh : Shape) (i : ℕ) where
+  ends-facts : breaks (Exponent greatestExponent) s sh i ≡ false
+      → (exponentsWithin greatestExponent (vOf s sh i) ≡ true) × (exponentsWithin greatestExponent (wOf s sh i) ≡ true)
+  unfolding breaks
+  ends-facts h = let z = nor _ _ h in (not-false _ (z .0), not-false _ (z .1))
 
-pub weight-judged : (s : List ℕ) (sh : Shape) (i limit : ℕ) (rule : RowRule) (x : Triple) (r : Bool)
-    → x ≡ tripleOf s sh i
-    → r ≡ anyBeyond limit x → rule ≡ Weight limit → r ≡ breaks rule s sh i
-unfolding breaks
-weight-judged s sh i limit rule x r ex er e = er ∙ rw (e, ex)
+  whole-fact : breaks Midpoint s sh i ≡ false → hasMidpoint (vOf s sh i) (wOf s sh i) ≡ true
+  unfolding breaks
+  whole-fact h = not-false _ h
+
+  unused-facts : breaks Unused s sh i ≡ false → samePoint (vOf s sh i) (wOf s sh i) ≡ true
+      → (tripleOf s sh i .q ≡ pos 0) × (tripleOf s sh i .r ≡ pos 0)
+  unfolding breaks qOrR
+  unused-facts h e =
+      let z = nor _ _ (nand (samePoint (vOf s sh i) (wOf s sh i)) _ h e) in
+      (abs-zero _ (eqb-true _ _ (not-false _ (z .0))), abs-zero _ (eqb-true _ _ (not-false _ (z .1))))
+
+  weights-fact : breaks (Weight greatestWeight) s sh i ≡ false → Within greatestWeight (tripleOf s sh i)
+  unfolding breaks
+  weights-fact h = none-beyond greatestWeight _ h
+
+-- 8 to 10, beside a claim of n variables
+pub header-facts : (n : ℕ) (s : List ℕ) → 1 ≤ n → n ≤ mostVariables → Passes (headerAnswer n s)
+    → (variables s ≡ n) × HeaderFacts s (shapeOf s)
+unfolding headerAnswer headerRight
+header-facts n s some few h =
+    let p₈ = passes-if _ 8 _ refl h in
+    let p₉ = passes-if _ 9 _ refl (p₈ .1) in
+    let p₁₀ = passes-if _ 10 _ refl (p₉ .1) in
+    let d = and-eq-true-iff _ _ .0 (not-false _ (p₉ .0)) in
+    let e = and-eq-true-iff _ _ .0 (d .0) in
+    let f = and-eq-true-iff _ _ .0 (e .0) in
+    let same = eqb-true (variables s) n (and-eq-true-iff _ _ .0 (f .0) .0) in
+    let sized = eqb-true (length s) (proofLength (shapeOf s)) (not-false _ (p₁₀ .0)) in (
+      same,
+      record {
+        some = rw same some;
+        room = record { few = rw same few; rows = leb-true _ _ (f .1); long = omega arith };
+        sized = sized;
+        scale-positive = leb-true _ _ (e .1);
+        scale-within = leb-true _ _ (d .1);
+      },
+    )
+
+pub proof-facts : (s : List ℕ) → HeaderFacts s (shapeOf s) → Passes (rowsAnswer s (shapeOf s)) → ProofFacts s (shapeOf s)
+unfolding rowsAnswer
+proof-facts s header h =
+    let p₁₂ = passes-at _ 12 _ refl h in
+    let p₁₃ = passes-at _ 13 _ refl (p₁₂ .1) in
+    let p₁₄ = passes-at _ 14 _ refl (p₁₃ .1) in
+    let p₁₅ = passes-at _ 15 _ refl (p₁₄ .1) in
+    record {
+      header = header;
+      v-within = λ i l. ends-facts s _ i (none-wrong _ _ (p₁₂ .0) i l) .0;
+      w-within = λ i l. ends-facts s _ i (none-wrong _ _ (p₁₂ .0) i l) .1;
+      whole = λ i l. whole-fact s _ i (none-wrong _ _ (p₁₃ .0) i l);
+      unused = λ i l. unused-facts s _ i (none-wrong _ _ (p₁₄ .0) i l);
+      weights-within = λ i l. weights-fact s _ i (none-wrong _ _ (p₁₅ .0) i l);
+    }
+
+-- ---- every number is document 01's, and an index is below a count that two bytes give
+
+pub header-short : (n : ℕ) (s : List ℕ) → Short (headerAnswer n s)
+unfolding headerAnswer
+header-short n s =
+    short-if 8 _ (omega arith)
+    (short-if 9 _ (omega arith) (short-if 10 _ (omega arith) (short-accepted 0 (omega arith)) _) _) _
+
+pub rows-counted : (s : List ℕ) → Bytes s → rowCount s < 65536
+rows-counted s b = omega (arith, b 2, b 3)
+
+pub rows-short : (s : List ℕ) → Bytes s → Short (rowsAnswer s (shapeOf s))
+unfolding rowsAnswer
+rows-short s b =
+    let k : rowCount s ≤ 65536 = omega (arith, rows-counted s b) in
+    short-at 12 _ (omega arith)
+    (short-at 13 _ (omega arith)
+    (short-at 14 _ (omega arith)
+    (short-at 15 _ (omega arith) (short-accepted 0 (omega arith)) _ _ k) _ _ k) _ _ k) _ _ k

@@ -1,93 +1,48 @@
--- Laws of the checks of the claim: the ways through the code, by the numbers of the refusals.
-use mathlib.Core.Path.{_≡_, sym, _∙_, ap}
-use mathlib.Core.Bool.{Bool, true, false, not, and-eq-true-iff}
+-- Claims that pass: what it says of their numbers and points, and how short their answers are.
+use mathlib.Core.Path.{_≡_, refl, sym, _∙_}
+use mathlib.Core.Bool.{Bool, true, false, true≢false, and-eq-true-iff}
 use mathlib.Core.List.{List}
-use Prim.Native.Nat.{ℕ, _+_, _-_, _<_, _≤_}
-use native.Mathlib.Nat.{pos-of-ne-zero}
+use Prim.Native.Nat.{ℕ, suc, _-_, _<_, _≤_}
+use native.Mathlib.Decide.{le-ind}
 use native.Mathlib.Omega.{arith}
-use lib.Dec.{ltb, eqb}
-use lib.IntN.{ℤ, natAbs}
-use lib.ListN.{length, getD}
-use borrow.Author.Tests.{not-true, eq-eqb, ne-eqb, lt-ltb, le-ltb, le-leb, lt-leb, leb-true, not-false}
-use Rattle.points.specs.Points.{exponents, pointOf, risesTo, exponentsWithin}
-use Rattle.points.specs.declared.points.Point.{Point}
-use Rattle.points.proofs.points.Laws.{exponents-of}
-use Rattle.answers.specs.Answers.{says}
-use Rattle.bounds.specs.Bounds.{beyond, mostVariables, mostTerms}
-use Rattle.sheets.specs.Layout.{variables, termCount, place, ClaimRoom, claimLength}
-use Rattle.sheets.specs.ClaimSheet.{floorOf, termPoint, coefficientOf}
-use Rattle.claims.specs.ClaimChecks.{countsRight, headerRight, breaks, termsAnswer}
+use lib.Dec.{eqb, ltb}
+use lib.IntN.{natAbs}
+use lib.ListN.{length}
+use borrow.Author.Tests.{eqb-true, not-false, lt-ltb, leb-true}
+use Rattle.integers.proofs.words.Laws.{Bytes}
+use Rattle.points.specs.Points.{samePoint, risesTo, exponentsWithin}
+use Rattle.points.proofs.points.Laws.{same-eq, rises-self, rises-trans}
+use Rattle.answers.specs.Answers.{says, Passes, Short}
+use Rattle.bounds.specs.Bounds.{greatestExponent, greatestWeight}
 use Rattle.answers.specs.declared.answers.Verdict.{Verdict}
+use Rattle.answers.specs.declared.answers.Verdict.the-variants.{Accepted}
+use Rattle.answers.proofs.answers.Laws.{passes-if, passes-at, passed, short-accepted, short-if, short-at}
+use Rattle.bounds.proofs.bounds.Laws.{within-bound}
+use Rattle.answers.proofs.searches.Laws.{none-wrong}
+use Rattle.integers.proofs.Tests.{nor, nand}
+use Rattle.sheets.specs.Layout.{variables, termCount, ClaimRoom, claimLength}
+use Rattle.sheets.specs.ClaimSheet.{floorOf, termPoint, coefficientOf}
+use Rattle.claims.specs.ClaimChecks.{breaks, termsAnswer, claimAnswer, ClaimFacts, countsRight, headerRight}
 use Rattle.claims.specs.declared.claim_checks.TermRule.the-variants.{Coefficient, Exponent, Order}
-use Rattle.sheets.proofs.layout.Laws.{claim-asked}
-use Rattle.bounds.proofs.bounds.Laws.{over}
 
--- ---- 2: n and t are the counts that were read, r the test of both
+-- ---- what each check says that is passed
 
-module _ (c : List ℕ) (n : ℕ) (en : n ≡ variables c) where
-  pub counts-none : n < 1 → true ≡ not (countsRight c)
-  unfolding countsRight
-  counts-none h = rw (← en, lt-leb 1 n h)
-
-  module _ (p : 1 ≤ n) where
-    pub counts-many : mostVariables < n → true ≡ not (countsRight c)
-    unfolding countsRight
-    counts-many h = rw (← en, le-leb 1 n p, lt-leb n mostVariables h)
-
-    pub counts-terms : n ≤ mostVariables → (t : ℕ) → t ≡ termCount c → ltb mostTerms t ≡ not (countsRight c)
-    unfolding countsRight
-    counts-terms q t et = rw (← en, ← et, le-leb 1 n p, le-leb n mostVariables q) (over mostTerms t)
-
-module _ (c : List ℕ) (r : Bool) (e : r ≡ not (countsRight c)) where
-  pub header-counts : r ≡ true → true ≡ not (headerRight c)
-  unfolding headerRight
-  header-counts h = rw (not-true (countsRight c) (sym e ∙ h))
-
-  module _ (h : r ≡ false) where
-    right : countsRight c ≡ true
-    right = not-false _ (sym e ∙ h)
-
-    pub header-two : (getD c 2 0 ≡ 0 → ⊥) → true ≡ not (headerRight c)
-    unfolding headerRight
-    header-two k = rw (right, ne-eqb (getD c 2 0) 0 k)
-
-    pub header-three : getD c 2 0 ≡ 0 → not (eqb (getD c 3 0) 0) ≡ not (headerRight c)
-    unfolding headerRight
-    header-three k = rw (right, eq-eqb (getD c 2 0) 0 k)
-
--- ---- 5: z is the coefficient, z′ what the machine reads back of it
-
-module _ (c : List ℕ) (n t i limit m : ℕ) (z z′ : ℤ)
-    (h : z ≡ coefficientOf c n t i) (e : z′ ≡ z) (f : m ≡ natAbs z′) where
-  size : natAbs (coefficientOf c n t i) ≡ m
-  size = sym (f ∙ ap natAbs (e ∙ h))
-
-  pub coefficient-zero : m ≡ 0 → true ≡ breaks (Coefficient limit) c n t i
+module _ (c : List ℕ) (n t i : ℕ) where
+  coefficient-fact : breaks (Coefficient greatestWeight) c n t i ≡ false → natAbs (coefficientOf c n t i) ≤ greatestWeight
   unfolding breaks
-  coefficient-zero g = rw (size, eq-eqb m 0 g)
+  coefficient-fact h = within-bound greatestWeight _ (nor (eqb (natAbs (coefficientOf c n t i)) 0) _ h .1)
 
-  pub coefficient-else : (m ≡ 0 → ⊥) → (r : Bool) → r ≡ beyond limit z′ → r ≡ breaks (Coefficient limit) c n t i
+  exponents-fact : breaks (Exponent greatestExponent) c n t i ≡ false
+      → exponentsWithin greatestExponent (termPoint c n i) ≡ true
   unfolding breaks
-  coefficient-else g r k = rw (size, ne-eqb m 0 g) (k ∙ rw (e, h))
+  exponents-fact h = not-false _ h
 
--- ---- 6 and 7
-
-pub exponent-judged : (c : List ℕ) (n t i limit : ℕ) (p : Point) (r : Bool) → p ≡ pointOf (termPoint c n i)
-    → r ≡ exponentsWithin limit (exponents p) → not r ≡ breaks (Exponent limit) c n t i
-unfolding breaks
-exponent-judged c n t i limit p r h e = rw (e, h, exponents-of (termPoint c n i))
-
-pub order-first : (c : List ℕ) (n t i : ℕ) → i ≡ 0 → false ≡ breaks Order c n t i
-unfolding breaks
-order-first c n t i h = rw (le-ltb 0 i (omega arith))
-
-pub order-later : (c : List ℕ) (n t i : ℕ) (p q : Point) (r : Bool) → (i ≡ 0 → ⊥) → p ≡ pointOf (termPoint c n (i - 1))
-    → q ≡ pointOf (termPoint c n i) → r ≡ risesTo (exponents p) (exponents q) → not r ≡ breaks Order c n t i
-unfolding breaks
-order-later c n t i p q r h ep eq er =
-    rw (er, ep, eq, exponents-of (termPoint c n (i - 1)), exponents-of (termPoint c n i), lt-ltb 0 i (pos-of-ne-zero h))
-
--- ---- 3, 4, and room for the terms
+  rising-fact : breaks Order c n t (suc i) ≡ false → risesTo (termPoint c n i) (termPoint c n (suc i)) ≡ true
+  unfolding breaks
+  rising-fact h =
+      let e : suc i - 1 ≡ i = omega arith in
+      let z = nand (ltb 0 (suc i)) _ h (lt-ltb 0 (suc i) (omega arith)) in
+      rw e at (not-false (risesTo (termPoint c n (suc i - 1)) (termPoint c n (suc i))) z)
 
 -- a right header's counts, and room for the terms where the length is right too
 pub header-room : (c : List ℕ) → headerRight c ≡ true → length c ≡ claimLength (variables c) (termCount c)
@@ -102,16 +57,60 @@ header-room c h sized =
       record { few = leb-true _ _ (e .1); terms = leb-true _ _ (d .1); long = omega arith },
     )
 
-pub terms-room : (c : List ℕ) (r : Bool) (n t l : ℕ) → r ≡ not (headerRight c) → r ≡ false → n ≡ variables c
-    → t ≡ termCount c → l ≡ place 8 t (n + 4) → length c ≡ l → ClaimRoom c n t
-terms-room c r n t l e h en et el p =
-    rw (en, et) (header-room c (not-false _ (sym e ∙ h)) (p ∙ claim-asked c n t l el en et) .1)
+pub claim-facts : (c : List ℕ) → Passes (claimAnswer c) → ClaimFacts c (variables c) (termCount c)
+unfolding claimAnswer termsAnswer
+claim-facts c h =
+    let p₁ = passes-if _ 1 _ refl h in
+    let p₂ = passes-if _ 2 _ refl (p₁ .1) in
+    let p₃ = passes-if _ 3 _ refl (p₂ .1) in
+    let p₄ = passes-if _ 4 _ refl (p₃ .1) in
+    let p₅ = passes-at _ 5 _ refl (p₄ .1) in
+    let p₆ = passes-at _ 6 _ refl (p₅ .1) in
+    let p₇ = passes-at _ 7 _ refl (p₆ .1) in
+    let sized = eqb-true _ _ (not-false _ (p₃ .0)) in
+    let counts = header-room c (not-false _ (p₂ .0)) sized in
+    record {
+      some = counts .0;
+      room = counts .1;
+      sized = sized;
+      floor-within = within-bound greatestWeight (floorOf c) (p₄ .0);
+      coefficient-within = λ i l. coefficient-fact c _ _ i (none-wrong _ _ (p₅ .0) i l);
+      exponents-within = λ i l. exponents-fact c _ _ i (none-wrong _ _ (p₆ .0) i l);
+      rising = λ i l. rising-fact c _ _ i (none-wrong _ _ (p₇ .0) (suc i) l);
+    }
 
--- z is the floor, z′ what the machine reads back of it
-pub floor-judged : (c : List ℕ) (limit : ℕ) (b r : Bool) (z z′ : ℤ) → r ≡ beyond limit z′ → z ≡ floorOf c → z′ ≡ z
-    → r ≡ b → beyond limit (floorOf c) ≡ b
-floor-judged c limit b r z z′ e ez back h = rw (← ez, ← back) (sym e ∙ h)
+-- of a claim that a verdict accepts
+module _ (c : List ℕ) (v : Verdict) (e : says v ≡ claimAnswer c) (j : ℕ) (h : v ≡ Accepted j) where
+  pub claim-passed : ClaimFacts c (variables c) (termCount c)
+  claim-passed = claim-facts c (passed v _ e j h)
 
-pub terms-judged : (c : List ℕ) (n t : ℕ) (v : Verdict) → says v ≡ termsAnswer c n t → n ≡ variables c → t ≡ termCount c
-    → says v ≡ termsAnswer c (variables c) (termCount c)
-terms-judged c n t v h en et = rw (← en, ← et) h
+  pub claim-long : 8 ≤ length c
+  claim-long = omega (arith, claim-passed .sized)
+
+-- the points of a claim rise from any to any later one, so no two are the same
+pub points-differ : (c : List ℕ) (n t : ℕ) → ClaimFacts c n t → (i j : ℕ) → i < j → j < t
+    → samePoint (termPoint c n i) (termPoint c n j) ≡ false
+points-differ c n t f i j l h = go (samePoint (termPoint c n i) (termPoint c n j)) refl (rises j l h)
+  where
+    rises : (j : ℕ) → i < j → j < t → risesTo (termPoint c n i) (termPoint c n j) ≡ true
+    rises =
+        le-ind (λ m. m < t → risesTo (termPoint c n i) (termPoint c n m) ≡ true) (f .rising i)
+        (λ m _ r l. rises-trans _ _ _ (r (omega arith)) (f .rising m l))
+
+    go : (b : Bool) → samePoint (termPoint c n i) (termPoint c n j) ≡ b
+        → risesTo (termPoint c n i) (termPoint c n j) ≡ true → b ≡ false
+    go true e r = absurd (true≢false (sym r ∙ rw (same-eq _ _ e) (rises-self (termPoint c n j))))
+    go false e r = refl
+
+-- every number is document 01's, and an index is below a count that a byte gives
+pub claim-short : (c : List ℕ) → Bytes c → Short (claimAnswer c)
+unfolding claimAnswer termsAnswer
+claim-short c b =
+    let t : termCount c ≤ 65536 = omega (arith, b 1) in
+    short-if 1 _ (omega arith)
+    (short-if 2 _ (omega arith)
+    (short-if 3 _ (omega arith)
+    (short-if 4 _ (omega arith)
+    (short-at 5 _ (omega arith)
+    (short-at 6 _ (omega arith)
+    (short-at 7 _ (omega arith) (short-accepted 0 (omega arith)) _ _ t) _ _ t) _ _ t) _) _) _) _

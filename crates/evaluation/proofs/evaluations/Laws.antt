@@ -36,17 +36,17 @@ use Rattle.answers.specs.declared.answers.Sheet.the-variants.{Claim, Offsets}
 use Rattle.answers.specs.declared.answers.Verdict.{Verdict}
 use Rattle.answers.specs.declared.answers.Verdict.the-variants as Verdicts
 use Rattle.answers.specs.declared.searches.Found.the-variants.{At, Nothing}
-use Rattle.answers.proofs.answers.Laws.{passes-if, passes-at, passes-then, then-on, if-on, at-on, accepted-passes, failed, then-refused, passed, then-passed, refused-if, refused-at, refused-says}
+use Rattle.answers.proofs.answers.Laws.{passes-if, passes-at, passes-then, then-on, if-on, at-on, accepted-passes, failed, then-refused, passed, then-passed, refused-if, refused-at, refused-says, short-accepted, short-if, short-at, short-then}
 use Rattle.bounds.proofs.bounds.Laws.{over-bound, within-bound, bound-within}
 use Rattle.answers.proofs.searches.Laws.{first-at, first-next, none-wrong, all-right}
-use Rattle.claims.proofs.claim_checks.Facts.{claim-passed}
+use Rattle.claims.proofs.claim_checks.Laws.{claim-passed, claim-short}
 use Rattle.judging.proofs.Promises.{floor-kept}
-use Rattle.evaluation.proofs.Short.{evaluation-short}
 use Rattle.evaluation.specs.Evaluations as Spec
 use Rattle.evaluation.specs.Evaluations.{refusal, tells, toldBy, termValue, tooLarge, tooLargeAnswer, sumTo, summed, evaluationAnswer, evaluationOf, Evaluable, Evaluates, Floored}
 use Rattle.evaluation.specs.declared.evaluations.Evaluation.{Evaluation}
 use Rattle.evaluation.specs.declared.evaluations.Evaluation.the-variants.{Value, Refused}
 use Rattle.bounds.specs.Bounds.{greatestValue}
+use Rattle.integers.proofs.Tests.{never}
 
 -- ---- what checks tell
 
@@ -65,7 +65,7 @@ value-told a y z h = go (blameless a) refl h
   where
     go : (b : Bool) → blameless a ≡ b → cond b (Spec.value z) (refusal a) ≡ Spec.value y → Passes a × (y ≡ z)
     go true e k = (e, cc)
-    go false e k = let q : _≡_ {A = ℕ} 0 1 = cc in absurd (omega arith)
+    go false e k = never (cc)
 
 -- a refusal is told as the checks answer it
 refusal-told : (a b : Answer) (z : ℤ) → toldBy a z ≡ refusal b → b ≡ a
@@ -73,8 +73,17 @@ unfolding toldBy
 refusal-told a b z h = go (blameless a) h
   where
     go : (e : Bool) → cond e (Spec.value z) (refusal a) ≡ refusal b → b ≡ a
-    go true k = let q : _≡_ {A = ℕ} 0 1 = cc in absurd (omega arith)
+    go true k = never (cc)
     go false k = cc
+
+-- ---- a refusal is short
+
+pub evaluation-short : (c : List ℕ) (x : List ℤ) → Bytes c → Short (evaluationAnswer c x)
+unfolding evaluationAnswer tooLargeAnswer
+evaluation-short c x b =
+    let t : termCount c ≤ 65536 = omega (arith, b 1) in
+    short-then _ _ (claim-short c b)
+    (short-if 20 _ (omega arith) (short-at 21 _ (omega arith) (short-accepted 0 (omega arith)) _ _ t) _)
 
 -- ---- for the crates above: what a value and a refusal tell
 

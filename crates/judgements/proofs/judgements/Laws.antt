@@ -30,15 +30,15 @@ use Rattle.answers.specs.declared.answers.Verdict.{Verdict}
 use Rattle.answers.specs.declared.answers.Verdict.the-variants.{Accepted, Refused}
 use Rattle.answers.specs.declared.searches.Found.{Found}
 use Rattle.answers.specs.declared.searches.Found.the-variants.{At, Nothing}
-use Rattle.answers.proofs.answers.Laws.{passes-at, refused-at, passed-at, accepted-says, refused-says}
-use Rattle.answers.proofs.Short.{short-accepted, short-at}
+use Rattle.answers.proofs.answers.Laws.{passes-at, refused-at, passed-at, accepted-says, refused-says, short-accepted, short-at}
 use Rattle.bounds.proofs.bounds.Laws.{within-bound, bound-within}
 use Rattle.answers.proofs.searches.Laws.{first-start, first-here, first-stays, first-next, none-wrong, all-right}
-use Rattle.checks.proofs.proof_checks.Facts.{none-beyond, within-none}
+use Rattle.checks.proofs.proof_checks.Laws.{none-beyond, within-none}
 use Rattle.judgements.specs.Judgements.{negative, indefinite, judgePair, judgeLone, judgementOf, numberOf, judgedAs, kept, noted, firstsTo, judgedAnswer}
 use Rattle.judgements.specs.declared.judgements.Firsts.{Firsts}
 use Rattle.judgements.specs.declared.judgements.Judgement.{Judgement}
 use Rattle.judgements.specs.declared.judgements.Judgement.the-variants.{Holds, Beyond, Negative, Indefinite}
+use Rattle.integers.proofs.Tests.{never}
 
 -- ---- is_negative and is_indefinite: a prime marks a number as the machine reads it back
 
@@ -272,10 +272,10 @@ pair-judged limit x h =
         → ltZ (x .p *ℤ x .q *ℤ pos 4) (x .r *ℤ x .r) ≡ e
         → _≡_ {A = Judgement} (cond a Beyond (cond (b || d) Negative (cond e Indefinite Holds))) Holds
         → Within limit x × Formal.Holds (Pair (x .p) (x .q) (x .r))
-    go true b d e ea eb ed ee k = let z : _≡_ {A = ℕ} 0 1 = cc in absurd (omega arith)
-    go false true d e ea eb ed ee k = let z : _≡_ {A = ℕ} 0 1 = cc in absurd (omega arith)
-    go false false true e ea eb ed ee k = let z : _≡_ {A = ℕ} 0 1 = cc in absurd (omega arith)
-    go false false false true ea eb ed ee k = let z : _≡_ {A = ℕ} 0 1 = cc in absurd (omega arith)
+    go true b d e ea eb ed ee k = never (cc)
+    go false true d e ea eb ed ee k = never (cc)
+    go false false true e ea eb ed ee k = never (cc)
+    go false false false true ea eb ed ee k = never (cc)
     go false false false false ea eb ed ee k =
         (none-beyond limit x ea, (ltZ-false _ _ eb, ltZ-false _ _ ed, ltZ-false _ _ ee))
 
@@ -287,8 +287,8 @@ lone-judged limit p h = go (beyond limit p) (ltZ p (pos 0)) refl refl h
     go : (a b : Bool) → beyond limit p ≡ a → ltZ p (pos 0) ≡ b
         → _≡_ {A = Judgement} (cond a Beyond (cond b Negative Holds)) Holds
         → Within limit (record { p = p; q = pos 0; r = pos 0 }) × (pos 0 ≤ℤ p)
-    go true b ea eb k = let z : _≡_ {A = ℕ} 0 1 = cc in absurd (omega arith)
-    go false true ea eb k = let z : _≡_ {A = ℕ} 0 1 = cc in absurd (omega arith)
+    go true b ea eb k = never (cc)
+    go false true ea eb k = never (cc)
     go false false ea eb k =
         (record { p-within = within-bound limit p ea; q-within = omega arith; r-within = omega arith }, ltZ-false _ _ eb)
 

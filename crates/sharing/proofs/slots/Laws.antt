@@ -25,8 +25,7 @@ use Rattle.points.proofs.points.Laws.{same-eq, midpoint-sized, midpoint-within}
 use Rattle.keys.proofs.keys.Laws.{key-midpoint}
 use Rattle.squares.specs.Sums.{Sum, coefficient}
 use Rattle.squares.specs.Rows.{slotsOf, slots}
-use Rattle.squares.proofs.Sums.{coefficient-nil, coefficient-cons}
-use Rattle.squares.proofs.Gathered.{gathered-none, gathered-more}
+use Rattle.squares.proofs.Sums.{coefficient-nil, coefficient-cons, gathered-none, gathered-more}
 use Rattle.squares.proofs.rows.Laws.{slots-pair, slots-lone}
 use Rattle.bounds.specs.Bounds.{greatestExponent, greatestWeight}
 use Rattle.answers.specs.Searches.{first}

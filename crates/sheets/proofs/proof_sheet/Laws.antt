@@ -23,6 +23,7 @@ use Rattle.sheets.specs.ProofSheet.{scaleOf, vOf, wOf, wordsAt, tripleOf
 use Rattle.sheets.specs.declared.proof_sheet.Row.{Row}
 use Rattle.sheets.specs.declared.proof_sheet.Triple.{Triple}
 use Rattle.bounds.specs.Bounds.{mostVariables, mostRows}
+use Rattle.integers.proofs.Tests.{never}
 
 -- ---- fields read
 
@@ -207,7 +208,7 @@ module _ (s : List ℕ) (sh : Shape) (i : ℕ) where
     where
       go : (b : Bool) → samePoint (vOf s sh i) (wOf s sh i) ≡ b → (b ≡ true) × (tripleOf s sh i .p ≡ p)
       go true e = let g = row-lone e in (refl, cc)
-      go false e = let g = row-pair e in let z : _≡_ {A = ℕ} 0 1 = cc in absurd (omega arith)
+      go false e = let g = row-pair e in never (cc)
 
   pub pair-of : (p q r : ℤ) → rowOf s sh i .weights ≡ Pair p q r
       → (samePoint (vOf s sh i) (wOf s sh i) ≡ false) × (tripleOf s sh i .p ≡ p) × (tripleOf s sh i .q ≡ q) × (tripleOf s sh i .r ≡ r)
@@ -215,7 +216,7 @@ module _ (s : List ℕ) (sh : Shape) (i : ℕ) where
     where
       go : (b : Bool) → samePoint (vOf s sh i) (wOf s sh i) ≡ b
           → (b ≡ false) × (tripleOf s sh i .p ≡ p) × (tripleOf s sh i .q ≡ q) × (tripleOf s sh i .r ≡ r)
-      go true e = let g = row-lone e in let z : _≡_ {A = ℕ} 0 1 = cc in absurd (omega arith)
+      go true e = let g = row-lone e in never (cc)
       go false e = let g = row-pair e in (refl, cc, cc, cc)
 
   pub row-v : rowOf s sh i .v ≡ vOf s sh i

@@ -15,7 +15,7 @@ use Rattle.squares.specs.Sums.{value}
 use Rattle.squares.specs.Rows.{Row, slotsAt, slotsOf, slots, Holds}
 use Rattle.squares.specs.declared.rows.Weights.{Weights}
 use Rattle.squares.specs.declared.rows.Weights.the-variants.{Pair, Lone}
-use Rattle.squares.proofs.Gathered.{gathered-nonneg}
+use Rattle.squares.proofs.Sums.{gathered-nonneg}
 
 -- ---- slots
 

@@ -37,7 +37,7 @@ use Rattle.answers.specs.declared.searches.Found.{Found}
 use Rattle.answers.specs.declared.searches.Found.the-variants.{At, Nothing}
 use Rattle.answers.proofs.searches.Laws.{first-start, first-here, first-stays, first-next, first-inside, first-at, all-right}
 use Rattle.sheets.proofs.claim_sheet.Laws.{terms-table, term-point, term-coefficient}
-use Rattle.claims.proofs.claim_checks.Facts.{points-differ}
+use Rattle.claims.proofs.claim_checks.Laws.{points-differ}
 use Rattle.targets.specs.declared.targets.Aim.{Aim}
 use Rattle.targets.specs.Targets.{AimWithin, Targeted, aimOf, targetOf, hasKey, loweredBy, foundAt, coefficientWith, targetWith}
 use Rattle.targets.specs.Carried.{Carried}

@@ -32,8 +32,7 @@ use Rattle.claims.specs.ClaimChecks.{ClaimFacts}
 use Rattle.checks.specs.ProofChecks.{ProofFacts}
 use Rattle.answers.specs.declared.searches.Found.the-variants.{At, Nothing}
 use Rattle.answers.specs.declared.answers.Verdict.the-variants.{Accepted}
-use Rattle.answers.proofs.answers.Laws.{passes-at, passed-at, accepted-says, passed}
-use Rattle.answers.proofs.Short.{short-accepted, short-at}
+use Rattle.answers.proofs.answers.Laws.{passes-at, passed-at, accepted-says, passed, short-accepted, short-at}
 use Rattle.answers.proofs.searches.Laws.{first-at, first-next, first-end, none-wrong, all-right}
 use Rattle.targets.specs.Carried.{Carried}
 use Rattle.sharing.specs.Sharing.{count}

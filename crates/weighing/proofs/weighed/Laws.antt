@@ -18,10 +18,9 @@ use Rattle.answers.specs.declared.answers.Verdict.{Verdict}
 use Rattle.answers.specs.declared.answers.Verdict.the-variants.{Accepted, Refused}
 use Rattle.answers.specs.declared.searches.Found.{Found}
 use Rattle.answers.specs.declared.searches.Found.the-variants.{At, Nothing}
-use Rattle.answers.proofs.answers.Laws.{refused-at, passed-at, accepted-says, refused-says, then-refused, then-passed, passes-then, then-on}
-use Rattle.answers.proofs.Short.{short-then}
+use Rattle.answers.proofs.answers.Laws.{refused-at, passed-at, accepted-says, refused-says, then-refused, then-passed, passes-then, then-on, short-then}
 use Rattle.checks.specs.ProofChecks.{Within}
-use Rattle.checks.proofs.proof_checks.Facts.{rows-counted}
+use Rattle.checks.proofs.proof_checks.Laws.{rows-counted}
 use Rattle.targets.specs.Targets.{targetOf}
 use Rattle.targets.specs.declared.targets.Aim.{Aim}
 use Rattle.sharing.specs.Shifts.{shiftedRow, shiftedRows}

@@ -1,5 +1,5 @@
 use Rattle.evaluation.proofs.evaluations.Laws.{evaluates, floored, claim-refused, offsets-refused, terms-room, all-summed}
-use Rattle.claims.proofs.claim_checks.Facts.{claim-long}
+use Rattle.claims.proofs.claim_checks.Laws.{claim-long}
 use borrow.Author.Needs.{needs}
 use Rattle.evaluation.proofs.evaluations.evaluate.Statement.{statement}
 use Rattle.evaluation.proofs.evaluations.evaluate.Tie as tie

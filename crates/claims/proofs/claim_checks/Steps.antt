@@ -1,0 +1,105 @@
+-- Laws of the checks of the claim: the ways through the code, by the numbers of the refusals.
+use mathlib.Core.Path.{_≡_, sym, _∙_, ap}
+use mathlib.Core.Bool.{Bool, true, false, not}
+use mathlib.Core.List.{List}
+use Prim.Native.Nat.{ℕ, _+_, _-_, _<_, _≤_}
+use native.Mathlib.Nat.{pos-of-ne-zero}
+use native.Mathlib.Omega.{arith}
+use lib.Dec.{ltb, eqb}
+use lib.IntN.{ℤ, natAbs}
+use lib.ListN.{length, getD}
+use borrow.Author.Tests.{not-true, eq-eqb, ne-eqb, lt-ltb, le-ltb, le-leb, lt-leb, not-false}
+use Rattle.points.specs.Points.{exponents, pointOf, risesTo, exponentsWithin}
+use Rattle.points.specs.declared.points.Point.{Point}
+use Rattle.points.proofs.points.Laws.{exponents-of}
+use Rattle.answers.specs.Answers.{says}
+use Rattle.bounds.specs.Bounds.{beyond, mostVariables, mostTerms}
+use Rattle.sheets.specs.Layout.{variables, termCount, place, ClaimRoom}
+use Rattle.sheets.specs.ClaimSheet.{floorOf, termPoint, coefficientOf}
+use Rattle.claims.specs.ClaimChecks.{countsRight, headerRight, breaks, termsAnswer}
+use Rattle.answers.specs.declared.answers.Verdict.{Verdict}
+use Rattle.claims.specs.declared.claim_checks.TermRule.the-variants.{Coefficient, Exponent, Order}
+use Rattle.sheets.proofs.layout.Laws.{claim-asked}
+use Rattle.bounds.proofs.bounds.Laws.{over}
+use Rattle.claims.proofs.claim_checks.Laws.{header-room}
+
+-- ---- 2: n and t are the counts that were read, r the test of both
+
+module _ (c : List ℕ) (n : ℕ) (en : n ≡ variables c) where
+  pub counts-none : n < 1 → true ≡ not (countsRight c)
+  unfolding countsRight
+  counts-none h = rw (← en, lt-leb 1 n h)
+
+  module _ (p : 1 ≤ n) where
+    pub counts-many : mostVariables < n → true ≡ not (countsRight c)
+    unfolding countsRight
+    counts-many h = rw (← en, le-leb 1 n p, lt-leb n mostVariables h)
+
+    pub counts-terms : n ≤ mostVariables → (t : ℕ) → t ≡ termCount c → ltb mostTerms t ≡ not (countsRight c)
+    unfolding countsRight
+    counts-terms q t et = rw (← en, ← et, le-leb 1 n p, le-leb n mostVariables q) (over mostTerms t)
+
+module _ (c : List ℕ) (r : Bool) (e : r ≡ not (countsRight c)) where
+  pub header-counts : r ≡ true → true ≡ not (headerRight c)
+  unfolding headerRight
+  header-counts h = rw (not-true (countsRight c) (sym e ∙ h))
+
+  module _ (h : r ≡ false) where
+    right : countsRight c ≡ true
+    right = not-false _ (sym e ∙ h)
+
+    pub header-two : (getD c 2 0 ≡ 0 → ⊥) → true ≡ not (headerRight c)
+    unfolding headerRight
+    header-two k = rw (right, ne-eqb (getD c 2 0) 0 k)
+
+    pub header-three : getD c 2 0 ≡ 0 → not (eqb (getD c 3 0) 0) ≡ not (headerRight c)
+    unfolding headerRight
+    header-three k = rw (right, eq-eqb (getD c 2 0) 0 k)
+
+-- ---- 5: z is the coefficient, z′ what the machine reads back of it
+
+module _ (c : List ℕ) (n t i limit m : ℕ) (z z′ : ℤ)
+    (h : z ≡ coefficientOf c n t i) (e : z′ ≡ z) (f : m ≡ natAbs z′) where
+  size : natAbs (coefficientOf c n t i) ≡ m
+  size = sym (f ∙ ap natAbs (e ∙ h))
+
+  pub coefficient-zero : m ≡ 0 → true ≡ breaks (Coefficient limit) c n t i
+  unfolding breaks
+  coefficient-zero g = rw (size, eq-eqb m 0 g)
+
+  pub coefficient-else : (m ≡ 0 → ⊥) → (r : Bool) → r ≡ beyond limit z′ → r ≡ breaks (Coefficient limit) c n t i
+  unfolding breaks
+  coefficient-else g r k = rw (size, ne-eqb m 0 g) (k ∙ rw (e, h))
+
+-- ---- 6 and 7
+
+pub exponent-judged : (c : List ℕ) (n t i limit : ℕ) (p : Point) (r : Bool) → p ≡ pointOf (termPoint c n i)
+    → r ≡ exponentsWithin limit (exponents p) → not r ≡ breaks (Exponent limit) c n t i
+unfolding breaks
+exponent-judged c n t i limit p r h e = rw (e, h, exponents-of (termPoint c n i))
+
+pub order-first : (c : List ℕ) (n t i : ℕ) → i ≡ 0 → false ≡ breaks Order c n t i
+unfolding breaks
+order-first c n t i h = rw (le-ltb 0 i (omega arith))
+
+pub order-later : (c : List ℕ) (n t i : ℕ) (p q : Point) (r : Bool) → (i ≡ 0 → ⊥) → p ≡ pointOf (termPoint c n (i - 1))
+    → q ≡ pointOf (termPoint c n i) → r ≡ risesTo (exponents p) (exponents q) → not r ≡ breaks Order c n t i
+unfolding breaks
+order-later c n t i p q r h ep eq er =
+    rw (er, ep, eq, exponents-of (termPoint c n (i - 1)), exponents-of (termPoint c n i), lt-ltb 0 i (pos-of-ne-zero h))
+
+-- ---- 3, 4, and room for the terms
+
+pub terms-room : (c : List ℕ) (r : Bool) (n t l : ℕ) → r ≡ not (headerRight c) → r ≡ false → n ≡ variables c
+    → t ≡ termCount c → l ≡ place 8 t (n + 4) → length c ≡ l → ClaimRoom c n t
+terms-room c r n t l e h en et el p =
+    rw (en, et) (header-room c (not-false _ (sym e ∙ h)) (p ∙ claim-asked c n t l el en et) .1)
+
+-- z is the floor, z′ what the machine reads back of it
+pub floor-judged : (c : List ℕ) (limit : ℕ) (b r : Bool) (z z′ : ℤ) → r ≡ beyond limit z′ → z ≡ floorOf c → z′ ≡ z
+    → r ≡ b → beyond limit (floorOf c) ≡ b
+floor-judged c limit b r z z′ e ez back h = rw (← ez, ← back) (sym e ∙ h)
+
+pub terms-judged : (c : List ℕ) (n t : ℕ) (v : Verdict) → says v ≡ termsAnswer c n t → n ≡ variables c → t ≡ termCount c
+    → says v ≡ termsAnswer c (variables c) (termCount c)
+terms-judged c n t v h en et = rw (← en, ← et) h
