@@ -310,19 +310,19 @@ sizes (negsuc n) = omega arith
 pub *ℤ-assoc : (x y z : ℤ) → (x *ℤ y) *ℤ z ≡ x *ℤ (y *ℤ z)
 *ℤ-assoc x y z = by-eq (simp ring (omega ints))
 
-pub *ℤ-left-comm : (x y z : ℤ) → x *ℤ (y *ℤ z) ≡ y *ℤ (x *ℤ z)
+*ℤ-left-comm : (x y z : ℤ) → x *ℤ (y *ℤ z) ≡ y *ℤ (x *ℤ z)
 *ℤ-left-comm x y z = by-eq (simp ring (omega ints))
 
 pub *ℤ-+ℤ : (x y z : ℤ) → x *ℤ (y +ℤ z) ≡ x *ℤ y +ℤ x *ℤ z
 *ℤ-+ℤ x y z = by-eq (simp ring (omega ints))
 
-pub +ℤ-*ℤ : (x y z : ℤ) → (x +ℤ y) *ℤ z ≡ x *ℤ z +ℤ y *ℤ z
++ℤ-*ℤ : (x y z : ℤ) → (x +ℤ y) *ℤ z ≡ x *ℤ z +ℤ y *ℤ z
 +ℤ-*ℤ x y z = by-eq (simp ring (omega ints))
 
 pub negℤ-*ℤ : (x y : ℤ) → negℤ x *ℤ y ≡ negℤ (x *ℤ y)
 negℤ-*ℤ x y = by-eq (simp ring (omega ints))
 
-pub *ℤ-negℤ : (x y : ℤ) → x *ℤ negℤ y ≡ negℤ (x *ℤ y)
+*ℤ-negℤ : (x y : ℤ) → x *ℤ negℤ y ≡ negℤ (x *ℤ y)
 *ℤ-negℤ x y = by-eq (simp ring (omega ints))
 
 pub one-*ℤ : (x : ℤ) → pos 1 *ℤ x ≡ x
@@ -413,44 +413,44 @@ pub ruleset casts = (cast-value, cast-sign, cast-fits)
 -- A numeral stands at the right of its product. Nothing uses this yet: requests 5 and 11 need it.
 
 -- k times x
-pub times : ℕ → ℤ → ℤ
+times : ℕ → ℤ → ℤ
 times k x = x *ℤ pos k
 
-pub to-times : (x : ℤ) (k : ℕ) → x *ℤ pos k ≡ times k x
+to-times : (x : ℤ) (k : ℕ) → x *ℤ pos k ≡ times k x
 unfolding times
 to-times x k = refl
 
-pub times-add : (k : ℕ) (x y : ℤ) → times k (x +ℤ y) ≡ times k x +ℤ times k y
+times-add : (k : ℕ) (x y : ℤ) → times k (x +ℤ y) ≡ times k x +ℤ times k y
 unfolding times
 times-add k x y = by-eq (simp ring (omega ints))
 
-pub times-neg : (k : ℕ) (x : ℤ) → times k (negℤ x) ≡ negℤ (times k x)
+times-neg : (k : ℕ) (x : ℤ) → times k (negℤ x) ≡ negℤ (times k x)
 unfolding times
 times-neg k x = by-eq (simp ring (omega ints))
 
-pub times-times : (k j : ℕ) (x : ℤ) → times k (times j x) ≡ times (k * j) x
+times-times : (k j : ℕ) (x : ℤ) → times k (times j x) ≡ times (k * j) x
 unfolding times
 times-times k j x = by-eq (simp ring (omega ints))
 
-pub times-mul : (k : ℕ) (x y : ℤ) → times k x *ℤ y ≡ times k (x *ℤ y)
+times-mul : (k : ℕ) (x y : ℤ) → times k x *ℤ y ≡ times k (x *ℤ y)
 unfolding times
 times-mul k x y = by-eq (simp ring (omega ints))
 
-pub mul-times : (k : ℕ) (x y : ℤ) → x *ℤ times k y ≡ times k (x *ℤ y)
+mul-times : (k : ℕ) (x y : ℤ) → x *ℤ times k y ≡ times k (x *ℤ y)
 unfolding times
 mul-times k x y = by-eq (simp ring (omega ints))
 
-pub read-times : (k : ℕ) (x : ℤ) → read (times k x) ≡ k * up x ⊖ k * dn x
+read-times : (k : ℕ) (x : ℤ) → read (times k x) ≡ k * up x ⊖ k * dn x
 unfolding times
 read-times k x = simp ring (omega ints)
 
-pub ruleset multiples = (to-times, times-add, times-neg, times-times, times-mul, mul-times)
+ruleset multiples = (to-times, times-add, times-neg, times-times, times-mul, mul-times)
 
-pub ruleset signs = (negℤ-*ℤ, *ℤ-negℤ, negℤ-+ℤ, negℤ-negℤ)
+ruleset signs = (negℤ-*ℤ, *ℤ-negℤ, negℤ-+ℤ, negℤ-negℤ)
 
-pub ruleset expand = (multiples, signs, *ℤ-+ℤ, +ℤ-*ℤ, *ℤ-assoc, *ℤ-comm, *ℤ-left-comm)
+ruleset expand = (multiples, signs, *ℤ-+ℤ, +ℤ-*ℤ, *ℤ-assoc, *ℤ-comm, *ℤ-left-comm)
 
-pub ruleset linear = (read-add, read-neg, read-pos, read-negsuc, read-times, read-parts, ⊖-add, ⊖-neg, ⊖-eq, ⊖-le, ⊖-lt)
+ruleset linear = (read-add, read-neg, read-pos, read-negsuc, read-times, read-parts, ⊖-add, ⊖-neg, ⊖-eq, ⊖-le, ⊖-lt)
 
 -- an example that it works: the cube of a sum of three
 cube : (x y z : ℤ) → (x +ℤ y +ℤ z) *ℤ (x +ℤ y +ℤ z) *ℤ (x +ℤ y +ℤ z)

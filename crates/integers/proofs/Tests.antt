@@ -3,7 +3,6 @@ use mathlib.Core.Path.{_≡_, refl, sym}
 use mathlib.Core.Bool.{Bool, true, false, _&&_, _||_, true≢false}
 use Prim.Native.Nat.{ℕ}
 use native.Mathlib.Omega.{arith}
-use Rattle.integers.proofs.Tests.{never}
 
 pub nor : (a b : Bool) → a || b ≡ false → (a ≡ false) × (b ≡ false)
 nor true b h = absurd (true≢false h)

@@ -26,8 +26,7 @@ use Rattle.checks.proofs.input.Laws.{input-passes, input-formed, input-enough, 
 use Rattle.targets.specs.Targets.{aimOf, targetOf}
 use Rattle.targets.proofs.targets.Laws.{targets-are}
 use Rattle.sharing.specs.Shifts.{shiftedRows, CheckedSheets}
-use Rattle.sharing.proofs.shifts.Laws.{sheets-checked}
-use Rattle.sharing.proofs.Rows.{rows-stay-placed, rows-stay}
+use Rattle.sharing.proofs.shifts.Laws.{sheets-checked, rows-stay-placed, rows-stay}
 use Rattle.weighing.specs.Exact.{exactProof, AllWithin}
 use Rattle.weighing.specs.Weighed.{weighedAnswer}
 use Rattle.weighing.proofs.weighed.Laws.{weighed-within, weighed-hold, weighed-adds, weighed-accepted, weighed-short}
@@ -62,7 +61,7 @@ module _ (c s : List ℕ) where
     unfolding targetsOf
     accepted-within = weighed-within c s (aimOf c s) weighed
 
-    pub accepted-decomposes : Decomposes c s (shiftedRows τ s)
+    accepted-decomposes : Decomposes c s (shiftedRows τ s)
     unfolding targetsOf
     accepted-decomposes = record {
       hold = weighed-hold c s (aimOf c s) weighed;
@@ -85,7 +84,7 @@ module _ (c s : List ℕ) where
 
   -- ---- and what is accepted
 
-  pub accepts : (room : ℕ) → WellFormed c s → length s ≤ room → AllWithin greatestWeight τ s
+  accepts : (room : ℕ) → WellFormed c s → length s ≤ room → AllWithin greatestWeight τ s
       → Decomposes c s (shiftedRows τ s) → checkAnswer c s room ≡ accepted (rowCount s)
   unfolding checkAnswer targetsOf
   accepts room f l w d =

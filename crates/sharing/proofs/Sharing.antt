@@ -39,15 +39,15 @@ unfolding count
 count-nil α = refl
 
 -- a slot elsewhere does not count
-pub count-past : (α : Exponents) (L : Sum) (t : Exponents × ℤ) → samePoint α (t .0) ≡ false
+count-past : (α : Exponents) (L : Sum) (t : Exponents × ℤ) → samePoint α (t .0) ≡ false
     → count α (L ++ (t ∷ [])) ≡ count α L
 count-past α L t h = rw (count-append α L (t ∷ []), count-cons, count-nil, h) (omega arith)
 
-pub count-here : (α : Exponents) (L : Sum) (t : Exponents × ℤ) → samePoint α (t .0) ≡ true
+count-here : (α : Exponents) (L : Sum) (t : Exponents × ℤ) → samePoint α (t .0) ≡ true
     → count α (L ++ (t ∷ [])) ≡ suc (count α L)
 count-here α L t h = rw (count-append α L (t ∷ []), count-cons, count-nil, h) (omega arith)
 
-pub coefficient-unheld : (α : Exponents) (L : Sum) → count α L ≡ 0 → coefficient α L ≡ pos 0
+coefficient-unheld : (α : Exponents) (L : Sum) → count α L ≡ 0 → coefficient α L ≡ pos 0
 unfolding count
 coefficient-unheld α [] h = coefficient-nil α
 coefficient-unheld α (t ∷ L) h = rw (coefficient-cons α t L) (go (samePoint α (t .0)) h (coefficient-unheld α L))
@@ -69,7 +69,7 @@ pub from-cons : (τ : Exponents → ℤ) (L before : Sum) (t : Exponents × ℤ)
 unfolding shiftedFrom
 from-cons τ L before t rest = refl
 
-pub from-append : (τ : Exponents → ℤ) (L before M N : Sum)
+from-append : (τ : Exponents → ℤ) (L before M N : Sum)
     → shiftedFrom τ L before (M ++ N) ≡ shiftedFrom τ L before M ++ shiftedFrom τ L (before ++ M) N
 from-append τ L before [] N = rw (from-nil, append-nil)
 from-append τ L before (t ∷ M) N =

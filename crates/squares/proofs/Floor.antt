@@ -31,7 +31,7 @@ use Rattle.squares.proofs.rows.Laws.{Mean, absolute, rows-nonneg}
 
 -- weights that are the target at every point are worth no more, at absolute values, than S times g
 module _ (φ : Exponents → ℤ) (signs : (α : Exponents) → keepsSign α ≡ true → pos 0 ≤ℤ φ α) where
-  pub target-bounds : (S : ℕ) (g M : Sum) → ((α : Exponents) → coefficient α M ≡ target S g α)
+  target-bounds : (S : ℕ) (g M : Sum) → ((α : Exponents) → coefficient α M ≡ target S g α)
       → value (absolute φ) M ≤ℤ (pos S *ℤ value φ g)
   unfolding target
   target-bounds S g M e =
@@ -44,7 +44,7 @@ module _ (φ : Exponents → ℤ) (signs : (α : Exponents) → keepsSign α ≡
 -- ---- points of n exponents are enough
 
 -- weights that add up at every point of n exponents add up at every point
-pub everywhere : (n S : ℕ) (b : ℤ) (f M : Sum) → Sized n f → Sized n M → AddsUp n (target S (lowered n b f)) M
+everywhere : (n S : ℕ) (b : ℤ) (f M : Sum) → Sized n f → Sized n M → AddsUp n (target S (lowered n b f)) M
     → (α : Exponents) → coefficient α M ≡ target S (lowered n b f) α
 unfolding lowered
 everywhere n S b f M sf sm e α = go (ℕ-discrete (length α) n)
@@ -60,7 +60,7 @@ unfolding slotsAt
 slots-sized n v w (Pair p q r) h k = (h, (k, (midpoint-sized v w n h k, tt)))
 slots-sized n v w (Lone p) h k = (h, tt)
 
-pub rows-sized : (n : ℕ) (rows : List Row) → All (Placed n) rows → Sized n (slots rows)
+rows-sized : (n : ℕ) (rows : List Row) → All (Placed n) rows → Sized n (slots rows)
 rows-sized n rows t =
     gathered-all slotsOf (λ t. length (t .0) ≡ n) rows
     (all-map _ _ rows (λ a h. slots-sized n (a .v) (a .w) (a .weights) (h .v-length) (h .w-length)) t)
@@ -68,7 +68,7 @@ rows-sized n rows t =
 -- ---- the floor, for any slots that are worth at least 0 at absolute values
 
 module _ (φ : Exponents → ℤ) (signs : (α : Exponents) → keepsSign α ≡ true → pos 0 ≤ℤ φ α) where
-  pub worth-floor : (n S : ℕ) (b : ℤ) (f M : Sum) → 0 < S → Sized n f → Sized n M
+  worth-floor : (n S : ℕ) (b : ℤ) (f M : Sum) → 0 < S → Sized n f → Sized n M
       → AddsUp n (target S (lowered n b f)) M → pos 0 ≤ℤ value (absolute φ) M → pos 0 ≤ℤ value φ (lowered n b f)
   worth-floor n S b f M s sf sm e h =
       nonneg-cancel S (value φ (lowered n b f)) s
@@ -88,7 +88,7 @@ all-means x n rows t = all-map _ _ rows (λ a h. means x (a .v) (a .w) (a .weigh
 raise : (b v : ℤ) → pos 0 ≤ℤ (negℤ b *ℤ pos 1 +ℤ v) → b ≤ℤ v
 raise b v h = let s = simp ring at (read-le h) in by-le (simp ring (omega arith))
 
-pub slots-floor : (n S : ℕ) (b : ℤ) (f M : Sum) → 0 < S → Sized n f → Sized n M
+slots-floor : (n S : ℕ) (b : ℤ) (f M : Sum) → 0 < S → Sized n f → Sized n M
     → AddsUp n (target S (lowered n b f)) M → (x : List ℤ) → pos 0 ≤ℤ value (absolute (monomialOf x)) M
     → b ≤ℤ valueAt x f
 unfolding lowered value

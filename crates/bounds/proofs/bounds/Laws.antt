@@ -7,11 +7,6 @@ use lib.IntN.{ℤ, natAbs}
 use borrow.Author.Tests.{ltb-false, le-ltb, lt-ltb, leb-true, leb-false}
 use Rattle.bounds.specs.Bounds.{beyond}
 
--- is_beyond: x′ is the number as the machine reads it back, m its magnitude
-pub beyond-is : (limit m : ℕ) (x x′ : ℤ) → m ≡ natAbs x′ → x′ ≡ x → ltb limit m ≡ beyond limit x
-unfolding beyond
-beyond-is limit m x x′ h e = rw (h, e)
-
 pub over-bound : (limit : ℕ) (x : ℤ) → limit < natAbs x → beyond limit x ≡ true
 unfolding beyond
 over-bound limit x h = lt-ltb limit (natAbs x) h

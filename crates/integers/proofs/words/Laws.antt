@@ -81,7 +81,7 @@ module _ (s : List ℕ) (at : ℕ) (v : ℤ) where
   unfolding withI32 withBits
   written-before j h = sets-before (bytesOf (ofZ w32 v)) s at j h
 
-  pub written-after : (j : ℕ) → at + 4 ≤ j → getD (withI32 s at v) j 0 ≡ getD s j 0
+  written-after : (j : ℕ) → at + 4 ≤ j → getD (withI32 s at v) j 0 ≡ getD s j 0
   unfolding withI32 withBits
   written-after j h = sets-after (bytesOf (ofZ w32 v)) s at j h
 

@@ -1,25 +1,16 @@
 -- Laws of keys: points with as many exponents are the same where their keys are, and a midpoint's key is half the sum.
 use mathlib.Core.Path.{_≡_, refl, sym, _∙_, ap, ap₂}
 use mathlib.Core.Bool.{Bool, true, false, false≢true}
-use mathlib.Core.List.{List, [], _∷_, _++_}
-use Prim.Native.Nat.{ℕ, zero, suc, _+_, _*_, _-_, _/_, _^_, _<_, _≤_}
-use native.Mathlib.Decide.{decLt}
-use native.Mathlib.Nat.{add-assoc, add-zero}
+use mathlib.Core.List.{[], _∷_}
+use Prim.Native.Nat.{ℕ, zero, suc, _+_, _*_, _^_, _<_, _≤_}
 use native.Mathlib.Omega.{arith}
-use lib.Arith.{digits-div}
 use borrow.Author.Tests.{eq-eqb, ne-eqb}
 use lib.Dec.{eqb}
-use lib.ListN.{length, getD, replicate, take, drop, length-take, drop-of-length-le, List·getD-eq-default}
-use mir.Syntax.{w64}
-use mir.Val.{Fits}
-use lib.Seq.{drop-cons, getD-take}
-use lib.Pow.{pow-add, pow-pos, pow-mono}
-use Rattle.integers.specs.Words.{u32At}
-use Rattle.integers.proofs.words.Laws.{Bytes, u32-bytes}
-use Rattle.points.specs.Points.{Exponents, exponents, bytesAt, samePoint, hasMidpoint, midpointOf, exponentsWithin}
+use lib.ListN.{length, getD, replicate}
+use lib.Pow.{pow-add, pow-mono}
+use Rattle.points.specs.Points.{Exponents, samePoint, hasMidpoint, midpointOf, exponentsWithin}
 use Rattle.keys.specs.Keys.{keyOf}
-use Rattle.points.specs.declared.points.Point.{Point}
-use Rattle.points.proofs.points.Laws.{exponents-counted, same-eq, same-refl, bytes-length, bytes-get, bytes-split, bytes-eight, within-more, midpoint-none, midpoint-more, whole-more, whole-sized}
+use Rattle.points.proofs.points.Laws.{same-eq, same-refl, within-more, midpoint-none, midpoint-more, whole-more, whole-sized}
 
 -- every exponent is below a bound
 abbrev pub Below : ℕ → Exponents → Type 0
@@ -30,22 +21,8 @@ within-below limit bound [] h e i = omega arith
 within-below limit bound (a ∷ α) h e zero = omega (arith, within-more limit a α e .0)
 within-below limit bound (a ∷ α) h e (suc i) = within-below limit bound α h (within-more limit a α e .1) i
 
-key-cons : (a : ℕ) (α : Exponents) → keyOf (a ∷ α) ≡ a + keyOf α * 256
-unfolding keyOf
-key-cons a α = refl
-
-byte-more : (n : ℕ) → 2 ^ (8 * suc n) ≡ 2 ^ (8 * n) * 256
+pub byte-more : (n : ℕ) → 2 ^ (8 * suc n) ≡ 2 ^ (8 * n) * 256
 byte-more n = let e : 8 * suc n ≡ 8 * n + 8 = omega arith in rw e (pow-add 2 (8 * n) 8)
-
-key-below : (α : Exponents) → Below 256 α → keyOf α < 2 ^ (8 * length α)
-unfolding keyOf
-key-below [] h = omega arith
-key-below (a ∷ α) h = rw (byte-more (length α)) (omega (arith, h 0, key-below α (λ i. h (suc i))))
-
-key-append : (α β : Exponents) → keyOf (α ++ β) ≡ keyOf β * 2 ^ (8 * length α) + keyOf α
-unfolding keyOf
-key-append [] β = omega arith
-key-append (a ∷ α) β = rw (byte-more (length α)) (omega (arith, key-append α β))
 
 -- ---- comparing by keys
 
@@ -92,75 +69,3 @@ key-half (a ∷ α) h = rw (byte-more (length α)) (omega (arith, h 0, key-half 
 
 pub key-low : (α : Exponents) → length α ≤ 8 → Below 128 α → keyOf α * 2 < 2 ^ 64
 key-low α l h = let e : 8 * length α ≤ 64 = omega arith in omega (arith, key-half α h, pow-mono e)
-
--- ---- the ways through key_at
-
-pub eight-key : (s : List ℕ) (at low high : ℕ) → low ≡ u32At s at → high ≡ u32At s (at + 4)
-    → low + high * 4294967296 ≡ keyOf (bytesAt s at 8)
-unfolding keyOf
-eight-key s at low high l h =
-    rw (l, h, u32-bytes s at, u32-bytes s (at + 4), bytes-eight) (simp (add-assoc, add-zero) (omega arith))
-
-bytes-small : (s : List ℕ) (at n : ℕ) → Bytes s → Below 256 (bytesAt s at n)
-bytes-small s at n b i = go (decLt i n)
-  where
-    go : Dec (i < n) → getD (bytesAt s at n) i 0 < 256
-    go (yes l) = rw (bytes-get s at n i l) (omega (arith, b (at + i)))
-    go (no l) = rw (List·getD-eq-default (bytesAt s at n) 0 {n = i} (rw bytes-length (omega arith))) (omega arith)
-
--- of the key of m + n bytes, what is left without the m lowest
-key-high : (s : List ℕ) (at m n : ℕ) → Bytes s
-    → keyOf (bytesAt s at (m + n)) / 2 ^ (8 * m) ≡ keyOf (bytesAt s (at + m) n)
-key-high s at m n b =
-    let low : keyOf (bytesAt s at m) < 2 ^ (8 * m) =
-    rw bytes-length at (key-below (bytesAt s at m) (bytes-small s at m b)) in
-    rw (bytes-split s at m n, key-append (bytesAt s at m) (bytesAt s (at + m) n), bytes-length s at m)
-    (digits-div (keyOf (bytesAt s (at + m) n)) low)
-
-pub key-here : (s : List ℕ) (at n eight : ℕ) → Bytes s → n ≤ 8 → 8 ≤ at + n → eight ≡ keyOf (bytesAt s (at + n - 8) 8)
-    → eight / 2 ^ (64 - 8 * n) ≡ keyOf (bytesAt s at n)
-key-here s at n eight b h l e =
-    let e₁ : 64 - 8 * n ≡ 8 * (8 - n) = omega arith in
-    let e₂ : 8 - n + n ≡ 8 = omega arith in
-    let e₃ : at + n - 8 + (8 - n) ≡ at = omega arith in
-    rw (e, e₁) (rw (e₂, e₃) at (key-high s (at + n - 8) (8 - n) n b))
-
--- ---- the ways through key_of
-
--- the key of the exponents from place i on, of eight of which n count
-unfoldable pub keyFrom : List ℕ → ℕ → ℕ → ℕ
-keyFrom x n i = keyOf (drop i (take n x))
-
-pub from-none : (x : List ℕ) (n : ℕ) → 0 ≡ keyFrom x n n
-unfolding keyFrom keyOf
-from-none x n = rw (drop-of-length-le (take n x) {i = n} (omega (arith, length-take n x)))
-
-pub from-on : (x : List ℕ) (n i key a : ℕ) → key ≡ keyFrom x n i → 0 < i → i ≤ n → n ≤ 8 → length x ≡ 8
-    → a ≡ getD x (i - 1) 0 → key * 256 + a ≡ keyFrom x n (i - 1)
-unfolding keyFrom
-from-on x n i key a e l h m le ea =
-    let j : suc (i - 1) ≡ i = omega arith in
-    let d = drop-cons (take n x) (i - 1) 0 (omega (arith, length-take n x)) in
-    rw (d, key-cons, j, getD-take n x (i - 1) 0 (omega arith)) (omega (arith, e, ea))
-
-pub from-first : (p : Point) (n i key : ℕ) → key ≡ keyFrom (p .exps) n i → i ≤ 0 → n ≡ length (exponents p)
-    → key ≡ keyOf (exponents p)
-unfolding keyFrom
-from-first p n i key e h en = let z : i ≡ 0 = omega arith in e ∙ rw z (ap keyOf (exponents-counted p n en))
-
--- it leaves a byte for each exponent still to come
-pub from-low : (n : ℕ) → 0 < 2 ^ (8 * (8 - n))
-from-low n = pow-pos (8 * (8 - n))
-
-module _ (n i key : ℕ) (k : key < 2 ^ (8 * (8 - i))) (l : 0 < i) (h : i ≤ n) (m : n ≤ 8) where
-  pub from-lower : (a : ℕ) → a < 256 → key * 256 + a < 2 ^ (8 * (8 - (i - 1)))
-  from-lower a b = let e : 8 - (i - 1) ≡ suc (8 - i) = omega arith in rw (e, byte-more (8 - i)) (omega arith)
-
-  least : 2 ^ (8 * (8 - (i - 1))) ≤ 2 ^ 64
-  least = let e : 8 * (8 - (i - 1)) ≤ 64 = omega arith in pow-mono e
-
-  pub plus-fits : (a : ℕ) → a < 256 → Fits w64 (key * 256 + a)
-  plus-fits a b = omega (arith, from-lower a b, least)
-
-  pub times-fits : Fits w64 (key * 256)
-  times-fits = omega (arith, from-lower 0 (omega arith), least)

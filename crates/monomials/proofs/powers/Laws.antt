@@ -15,7 +15,7 @@ use Rattle.monomials.specs.Powers.{powerOf, monomialOf}
 
 -- ---- powers
 
-pub power-add : (x : ℤ) (a b : ℕ) → powerOf x (a + b) ≡ powerOf x a *ℤ powerOf x b
+power-add : (x : ℤ) (a b : ℕ) → powerOf x (a + b) ≡ powerOf x a *ℤ powerOf x b
 unfolding powerOf
 power-add x zero b = rw zero-add (sym (one-*ℤ (powerOf x b)))
 power-add x (suc a) b = rw (suc-add, power-add x a b) (sym (*ℤ-assoc x (powerOf x a) (powerOf x b)))

@@ -37,7 +37,7 @@ by-size z P f g = go (leb (natAbs z) greatestValue) refl
 pub within-represents : (z : ℤ) → Represents (within z) z
 within-represents z = by-size z (λ b. Represents b z) (λ h. (refl, h)) (λ h. h)
 
-pub represents-within : (b : Bounded) (z : ℤ) → Represents b z → b ≡ within z
+represents-within : (b : Bounded) (z : ℤ) → Represents b z → b ≡ within z
 unfolding within
 represents-within (Value x) z s = rw (le-leb _ _ (s .1)) (ap Value (s .0))
 represents-within TooLarge z s = rw (lt-leb _ _ s)
@@ -57,14 +57,14 @@ large-factor x y h = go (eqb (natAbs x) 0) refl
     go false e = represents-within TooLarge (x *ℤ y) (omega (arith, abs-more x y (eqb-false _ _ e)))
 
 -- a number of whatever size, times one that may be too large
-pub product-value : (x y : ℤ) → productOf (Value x) (within y) ≡ within (x *ℤ y)
+product-value : (x y : ℤ) → productOf (Value x) (within y) ≡ within (x *ℤ y)
 unfolding productOf
 product-value x y = by-size y (λ b. productOf (Value x) b ≡ within (x *ℤ y)) (λ h. refl) (λ h. large-factor x y h)
 
 large-both : (x y : ℤ) → greatestValue < natAbs x → greatestValue < natAbs y → TooLarge ≡ within (x *ℤ y)
 large-both x y h k = represents-within TooLarge (x *ℤ y) (omega (arith, abs-more x y (λ e. omega arith)))
 
-pub product-within : (x y : ℤ) → productOf (within x) (within y) ≡ within (x *ℤ y)
+product-within : (x y : ℤ) → productOf (within x) (within y) ≡ within (x *ℤ y)
 unfolding productOf largeTimes
 product-within x y =
     by-size x (λ a. productOf a (within y) ≡ within (x *ℤ y))

@@ -1,55 +1,33 @@
 -- Laws of 16 to 19: the ways through them, and what it says of the shifted rows that they are passed.
-use mathlib.Core.Path.{_≡_, refl, _∙_}
+use mathlib.Core.Path.{_≡_, _∙_}
 use mathlib.Core.List.{List}
-use Prim.Native.Nat.{ℕ, suc, _<_}
+use Prim.Native.Nat.{ℕ, _<_}
 use lib.IntN.{ℤ}
 use Rattle.integers.proofs.words.Laws.{Bytes}
 use Rattle.points.specs.Lists.{All}
 use Rattle.points.specs.Points.{Exponents}
 use Rattle.squares.specs.Rows.{slots, Holds}
 use Rattle.squares.specs.Decomposition.{AddsUp}
-use Rattle.sheets.specs.Layout.{variables, termCount, rowCount}
+use Rattle.sheets.specs.Layout.{variables, rowCount}
 use Rattle.sheets.specs.ProofSheet.{tripleFor}
-use Rattle.answers.specs.Answers.{says, accepted, Passes, Short}
+use Rattle.answers.specs.Answers.{accepted, Passes, Short}
 use Rattle.bounds.specs.Bounds.{greatestWeight}
-use Rattle.answers.specs.Searches.{first}
-use Rattle.answers.specs.declared.answers.Sheet.the-variants.{Proof}
-use Rattle.answers.specs.declared.answers.Verdict.{Verdict}
-use Rattle.answers.specs.declared.answers.Verdict.the-variants.{Accepted, Refused}
-use Rattle.answers.specs.declared.searches.Found.{Found}
-use Rattle.answers.specs.declared.searches.Found.the-variants.{At, Nothing}
-use Rattle.answers.proofs.answers.Laws.{refused-at, passed-at, accepted-says, refused-says, then-refused, then-passed, passes-then, then-on, short-then}
+use Rattle.answers.proofs.answers.Laws.{passes-then, then-on, short-then}
 use Rattle.checks.specs.ProofChecks.{Within}
 use Rattle.checks.proofs.proof_checks.Laws.{rows-counted}
 use Rattle.targets.specs.Targets.{targetOf}
 use Rattle.targets.specs.declared.targets.Aim.{Aim}
 use Rattle.sharing.specs.Shifts.{shiftedRow, shiftedRows}
-use Rattle.sharing.proofs.Rows.{rows-all, rows-each}
-use Rattle.judgements.specs.Judgements.{firstsTo, judgedAnswer}
 use Rattle.judgements.proofs.judgements.Laws.{judged-passed, judged-accepted, judged-short}
-use Rattle.weighing.specs.Unheld.{unheld, unheldAnswer}
 use Rattle.weighing.specs.Exact.{weightsFor, AllWithin}
 use Rattle.weighing.specs.Weighed.{weighedAnswer}
 use Rattle.weighing.proofs.unheld.Laws.{unheld-passes, unheld-passed, met-adds, adds-met, unheld-short}
-
--- ---- weigh: f is what 16 found
-
-module _ (τ : Exponents → ℤ) (c s : List ℕ) (f : Found) (e : f ≡ first (unheld τ c s) (suc (termCount c))) where
-  pub weighed-unheld : (i : ℕ) → f ≡ At i → says (Refused (Proof 16 i)) ≡ weighedAnswer τ c s
-  unfolding weighedAnswer unheldAnswer
-  weighed-unheld i h =
-      then-refused _ _ (refused-at _ f _ 16 _ e i h (refused-says _ 16 i refl)) (Proof 16 i) refl _
-
-  pub weighed-judged : (v : Verdict) → f ≡ Nothing
-      → says v ≡ judgedAnswer (firstsTo greatestWeight (shiftedRow τ s) (rowCount s)) (rowCount s)
-      → says v ≡ weighedAnswer τ c s
-  unfolding weighedAnswer unheldAnswer
-  weighed-judged v h ev = then-passed (Accepted 0) _ (passed-at _ f _ 16 _ e h (accepted-says 0)) 0 refl v _ ev
+use Rattle.sharing.proofs.shifts.Laws.{rows-all, rows-each}
 
 -- ---- 16 to 19 are passed exactly where the weights are within the limit, every row holds, and they add up
 
 module _ (c s : List ℕ) (a : Aim) where
-  abbrev τ : Exponents → ℤ
+  abbrev pub τ : Exponents → ℤ
   τ = targetOf c a
 
   abbrev AllHold : Type 0

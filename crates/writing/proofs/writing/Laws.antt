@@ -8,10 +8,10 @@ use native.Mathlib.Decide.{decLt}
 use native.Mathlib.Nat.{mul-le-mul-right}
 use native.Mathlib.Numerals.{add-one}
 use native.Mathlib.Omega.{arith}
-use lib.IntN.{ℤ, pos}
+use lib.IntN.{pos}
 use lib.ListN.{length, getD}
 use Rattle.integers.specs.Words.{i32At, withI32}
-use Rattle.integers.proofs.words.Laws.{Bytes, written-length, written-before, written-after, written-append, read-before, read-written, written-read}
+use Rattle.integers.proofs.words.Laws.{Bytes, written-length, written-before, written-append, read-before, read-written, written-read}
 use Rattle.points.specs.Points.{samePoint}
 use Rattle.points.specs.Lists.{table}
 use Rattle.points.proofs.Lists.{table-same}
@@ -33,23 +33,17 @@ module _ (s : List ℕ) (at : ℕ) (x : Triple) where
   abbrev two : List ℕ
   two = withI32 one (at + 4) (x .q)
 
-  pub triple-length : length (withTriple s at x) ≡ length s
+  triple-length : length (withTriple s at x) ≡ length s
   unfolding withTriple
   triple-length = written-length two (at + 8) (x .r) ∙ written-length one (at + 4) (x .q) ∙ written-length s at (x .p)
 
-  pub triple-before : (j : ℕ) → j < at → getD (withTriple s at x) j 0 ≡ getD s j 0
+  triple-before : (j : ℕ) → j < at → getD (withTriple s at x) j 0 ≡ getD s j 0
   unfolding withTriple
   triple-before j h =
       written-before two (at + 8) (x .r) j (omega arith) ∙ written-before one (at + 4) (x .q) j (omega arith)
       ∙ written-before s at (x .p) j h
 
-  pub triple-after : (j : ℕ) → at + 12 ≤ j → getD (withTriple s at x) j 0 ≡ getD s j 0
-  unfolding withTriple
-  triple-after j h =
-      written-after two (at + 8) (x .r) j (omega arith) ∙ written-after one (at + 4) (x .q) j (omega arith)
-      ∙ written-after s at (x .p) j (omega arith)
-
-  pub triple-append : (l : List ℕ) → at + 12 ≤ length s → withTriple (s ++ l) at x ≡ withTriple s at x ++ l
+  triple-append : (l : List ℕ) → at + 12 ≤ length s → withTriple (s ++ l) at x ≡ withTriple s at x ++ l
   unfolding withTriple
   triple-append l h =
       let l₁ = written-length s at (x .p) in
@@ -60,7 +54,7 @@ module _ (s : List ℕ) (at : ℕ) (x : Triple) where
         written-append two (at + 8) (x .r) l (omega arith),
       )
 
-  pub triple-reads : at + 12 ≤ length s → Narrow x → wordsAt (withTriple s at x) at ≡ x
+  triple-reads : at + 12 ≤ length s → Narrow x → wordsAt (withTriple s at x) at ≡ x
   unfolding withTriple
   triple-reads h f =
       let l₁ = written-length s at (x .p) in
@@ -71,7 +65,7 @@ module _ (s : List ℕ) (at : ℕ) (x : Triple) where
       (read-before two (at + 8) (x .r) (at + 4) (omega arith) ∙ read-written one (at + 4) (x .q) (omega arith) (f .q-fits))
       (read-written two (at + 8) (x .r) (omega arith) (f .r-fits))
 
-  pub triple-earlier : (p : ℕ) → p + 12 ≤ at → wordsAt (withTriple s at x) p ≡ wordsAt s p
+  triple-earlier : (p : ℕ) → p + 12 ≤ at → wordsAt (withTriple s at x) p ≡ wordsAt s p
   unfolding withTriple
   triple-earlier p h =
       words-are _ p (wordsAt s p .p) (wordsAt s p .q) (wordsAt s p .r) (rw words-p (same p (omega arith)))
@@ -83,7 +77,7 @@ module _ (s : List ℕ) (at : ℕ) (x : Triple) where
           ∙ read-before s at (x .p) p h
 
 -- what was read and is written again gives the same bytes
-pub triple-again : (s : List ℕ) (at : ℕ) → Bytes s → withTriple s at (wordsAt s at) ≡ s
+triple-again : (s : List ℕ) (at : ℕ) → Bytes s → withTriple s at (wordsAt s at) ≡ s
 unfolding withTriple
 triple-again s at b =
     rw (words-p, words-q, words-r) (rw (written-read s at b, written-read s (at + 4) b, written-read s (at + 8) b))
@@ -147,7 +141,7 @@ module _ (weights : ℕ → Weights) (s : List ℕ) (sh : Shape) where
           rw q (triple-reads (so i) (tripleAt sh i) (next i) room (f i l))
 
   -- weights written as they were give the same sheet, byte by byte
-  pub all-again : (i : ℕ) → Bytes s → ((j : ℕ) → j < i → next j ≡ tripleOf s sh j) → so i ≡ s
+  all-again : (i : ℕ) → Bytes s → ((j : ℕ) → j < i → next j ≡ tripleOf s sh j) → so i ≡ s
   unfolding withRows withWeights
   all-again zero b h = refl
   all-again (suc i) b h =
@@ -182,7 +176,7 @@ module _ (s : List ℕ) (sh : Shape) where
     kept : (j : ℕ) → j < place 8 (sh .k) (2 * sh .n) → getD written j 0 ≡ getD s j 0
     kept = all-before weights s sh (sh .k)
 
-    pub row-written : (i : ℕ) → i < sh .k → rowOf written sh i ≡ row i
+    row-written : (i : ℕ) → i < sh .k → rowOf written sh i ≡ row i
     row-written i l =
         rw (
           row-is,
@@ -196,14 +190,3 @@ module _ (s : List ℕ) (sh : Shape) where
     sheet-read e =
         let shape : sh ≡ shapeOf written = e ∙ rw (kept 0 (omega arith), kept 2 (omega arith), kept 3 (omega arith)) in
         sym (rows-table written sh shape) ∙ table-same (rowOf written sh) row (sh .k) row-written
-
--- ---- write_triple and write_weights
-
-pub triple-written : (out o₁ o₂ o₃ : List ℕ) (at : ℕ) (x : Triple) (p q r : ℤ) → o₁ ≡ withI32 out at p
-    → o₂ ≡ withI32 o₁ (at + 4) q → o₃ ≡ withI32 o₂ (at + 8) r → p ≡ x .p → q ≡ x .q → r ≡ x .r
-    → o₃ ≡ withTriple out at x
-unfolding withTriple
-triple-written out o₁ o₂ o₃ at x p q r e₁ e₂ e₃ ep eq er = e₃ ∙ rw (e₂, e₁, ep, eq, er)
-
-pub narrow-here : (a : Weights) (x : Triple) → x ≡ tripleFor a → Narrow (tripleFor a) → Narrow x
-narrow-here a x e h = rw e h

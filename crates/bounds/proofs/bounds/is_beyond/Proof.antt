@@ -1,6 +1,6 @@
 use mir.Facts.{toZ-ofZ}
-use Rattle.bounds.proofs.bounds.Laws.{beyond-is}
 use borrow.Author.Needs.{needs}
+use Rattle.bounds.proofs.bounds.Steps.{beyond-is}
 use Rattle.bounds.proofs.bounds.is_beyond.Statement.{statement}
 use Rattle.bounds.proofs.bounds.is_beyond.Tie as tie
 

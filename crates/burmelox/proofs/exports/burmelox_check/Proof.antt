@@ -1,5 +1,5 @@
-use Rattle.burmelox.proofs.exports.Laws.{checked-short, checked-code}
 use borrow.Author.Needs.{needs}
+use Rattle.burmelox.proofs.exports.Steps.{checked-code, checked-short}
 use Rattle.burmelox.proofs.exports.burmelox_check.Statement.{statement}
 use Rattle.burmelox.proofs.exports.burmelox_check.Tie as tie
 

@@ -1,5 +1,5 @@
-use Rattle.burmelox.proofs.exports.Laws.{code-is}
 use borrow.Author.Needs.{needs}
+use Rattle.burmelox.proofs.exports.Steps.{code-is}
 use Rattle.burmelox.proofs.exports.code.Statement.{statement}
 use Rattle.burmelox.proofs.exports.code.Tie as tie
 

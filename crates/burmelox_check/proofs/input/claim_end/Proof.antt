@@ -1,5 +1,5 @@
-use Rattle.burmelox_check.proofs.input.Laws.{end-short, end-wrong, end-cut, end-said}
 use borrow.Author.Needs.{needs}
+use Rattle.burmelox_check.proofs.input.Steps.{end-short, end-cut, end-said, end-wrong}
 use Rattle.burmelox_check.proofs.input.claim_end.Statement.{statement}
 use Rattle.burmelox_check.proofs.input.claim_end.Tie as tie
 

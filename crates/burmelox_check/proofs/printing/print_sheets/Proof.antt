@@ -1,5 +1,5 @@
-use Rattle.burmelox_check.proofs.printing.Laws.{sheets-written}
 use borrow.Author.Needs.{needs}
+use Rattle.burmelox_check.proofs.printing.Steps.{sheets-written}
 use Rattle.burmelox_check.proofs.printing.print_sheets.Statement.{statement}
 use Rattle.burmelox_check.proofs.printing.print_sheets.Tie as tie
 

@@ -1,5 +1,5 @@
-use Rattle.checks.proofs.input.Laws.{body-room, body-rows, room-here}
 use borrow.Author.Needs.{needs}
+use Rattle.checks.proofs.input.Steps.{body-room, room-here, body-rows}
 use Rattle.checks.proofs.input.check_body.Statement.{statement}
 use Rattle.checks.proofs.input.check_body.Tie as tie
 

@@ -1,6 +1,6 @@
-use Rattle.checks.proofs.input.Laws.{head-claim, head-proof}
 use Rattle.claims.proofs.claim_checks.Laws.{claim-long}
 use borrow.Author.Needs.{needs}
+use Rattle.checks.proofs.input.Steps.{head-claim, head-proof}
 use Rattle.checks.proofs.input.check_head.Statement.{statement}
 use Rattle.checks.proofs.input.check_head.Tie as tie
 

@@ -1,5 +1,5 @@
-use Rattle.checks.proofs.input.Laws.{input-head, input-room, input-body}
 use borrow.Author.Needs.{needs}
+use Rattle.checks.proofs.input.Steps.{input-room, input-head, input-body}
 use Rattle.checks.proofs.input.check_input.Statement.{statement}
 use Rattle.checks.proofs.input.check_input.Tie as tie
 

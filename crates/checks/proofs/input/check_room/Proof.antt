@@ -1,4 +1,5 @@
-use Rattle.checks.proofs.input.Laws.{room-short, room-enough}
+use Rattle.checks.proofs.input.Laws.{room-enough}
+use Rattle.checks.proofs.input.Steps.{room-short}
 use Rattle.checks.proofs.input.check_room.Statement.{statement}
 use Rattle.checks.proofs.input.check_room.Tie as tie
 

@@ -1,6 +1,6 @@
-use Rattle.evaluation.proofs.evaluations.Laws.{evaluates, floored, claim-refused, offsets-refused, terms-room, all-summed}
 use Rattle.claims.proofs.claim_checks.Laws.{claim-long}
 use borrow.Author.Needs.{needs}
+use Rattle.evaluation.proofs.evaluations.Steps.{evaluates, floored, all-summed, claim-refused, terms-room, offsets-refused}
 use Rattle.evaluation.proofs.evaluations.evaluate.Statement.{statement}
 use Rattle.evaluation.proofs.evaluations.evaluate.Tie as tie
 

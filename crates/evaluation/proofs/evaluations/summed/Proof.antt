@@ -9,8 +9,8 @@ use Rattle.answers.specs.Searches.{first}
 use Rattle.answers.specs.declared.searches.Found.the-variants.{Nothing}
 use Rattle.answers.proofs.searches.Laws.{first-start}
 use Rattle.evaluation.specs.Evaluations.{tooLarge, sumTo}
-use Rattle.evaluation.proofs.evaluations.Laws.{sum-start, small-start, large-here, none-more, small-more, sum-fits, sum-next, summed-all}
 use Rattle.bounds.specs.Bounds.{greatestValue}
+use Rattle.evaluation.proofs.evaluations.Steps.{small-start, sum-next, sum-start, small-more, sum-fits, summed-all, large-here, none-more}
 use Rattle.evaluation.proofs.evaluations.summed.Statement.{statement}
 use Rattle.evaluation.proofs.evaluations.summed.Tie as tie
 

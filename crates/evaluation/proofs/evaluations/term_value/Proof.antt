@@ -1,6 +1,6 @@
 use mir.Facts.{toZ-ofZ}
-use Rattle.evaluation.proofs.evaluations.Laws.{term-read}
 use borrow.Author.Needs.{needs}
+use Rattle.evaluation.proofs.evaluations.Steps.{term-read}
 use Rattle.evaluation.proofs.evaluations.term_value.Statement.{statement}
 use Rattle.evaluation.proofs.evaluations.term_value.Tie as tie
 

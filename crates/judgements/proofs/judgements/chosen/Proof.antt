@@ -1,5 +1,5 @@
-use Rattle.judgements.proofs.judgements.Laws.{chosen-beyond, chosen-negative, chosen-indefinite, chosen-accepted}
 use borrow.Author.Needs.{needs}
+use Rattle.judgements.proofs.judgements.Steps.{chosen-negative, chosen-accepted, chosen-indefinite, chosen-beyond}
 use Rattle.judgements.proofs.judgements.chosen.Statement.{statement}
 use Rattle.judgements.proofs.judgements.chosen.Tie as tie
 

@@ -1,4 +1,4 @@
-use Rattle.judgements.proofs.judgements.Laws.{pq-fits, four-fits, rr-fits, indefinite-is}
+use Rattle.judgements.proofs.judgements.Steps.{pq-fits, rr-fits, four-fits, indefinite-is}
 use Rattle.judgements.proofs.judgements.is_indefinite.Statement.{statement}
 use Rattle.judgements.proofs.judgements.is_indefinite.Tie as tie
 

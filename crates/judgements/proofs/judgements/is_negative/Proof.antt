@@ -1,5 +1,5 @@
 use mir.Facts.{toZ-ofZ}
-use Rattle.judgements.proofs.judgements.Laws.{negative-is}
+use Rattle.judgements.proofs.judgements.Steps.{negative-is}
 use Rattle.judgements.proofs.judgements.is_negative.Statement.{statement}
 use Rattle.judgements.proofs.judgements.is_negative.Tie as tie
 

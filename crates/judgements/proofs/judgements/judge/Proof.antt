@@ -1,6 +1,6 @@
 use mir.Facts.{toZ-ofZ}
-use Rattle.judgements.proofs.judgements.Laws.{judged-lone, judged-pair}
 use borrow.Author.Needs.{needs}
+use Rattle.judgements.proofs.judgements.Steps.{judged-lone, judged-pair}
 use Rattle.judgements.proofs.judgements.judge.Statement.{statement}
 use Rattle.judgements.proofs.judgements.judge.Tie as tie
 

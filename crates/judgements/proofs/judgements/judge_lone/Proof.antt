@@ -1,6 +1,6 @@
 use mir.Facts.{toZ-ofZ}
-use Rattle.judgements.proofs.judgements.Laws.{lone-beyond, lone-negative, lone-holds}
 use borrow.Author.Needs.{needs}
+use Rattle.judgements.proofs.judgements.Steps.{lone-holds, lone-beyond, lone-negative}
 use Rattle.judgements.proofs.judgements.judge_lone.Statement.{statement}
 use Rattle.judgements.proofs.judgements.judge_lone.Tie as tie
 

@@ -1,5 +1,5 @@
-use Rattle.judgements.proofs.judgements.Laws.{keep-found, keep-none}
 use borrow.Author.Needs.{needs}
+use Rattle.judgements.proofs.judgements.Steps.{keep-found, keep-none}
 use Rattle.judgements.proofs.judgements.keep.Statement.{statement}
 use Rattle.judgements.proofs.judgements.keep.Tie as tie
 

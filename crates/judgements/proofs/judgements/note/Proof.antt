@@ -1,5 +1,5 @@
-use Rattle.judgements.proofs.judgements.Laws.{noted-holds, noted-beyond, noted-negative, noted-indefinite}
 use borrow.Author.Needs.{needs}
+use Rattle.judgements.proofs.judgements.Steps.{noted-holds, noted-negative, noted-beyond, noted-indefinite}
 use Rattle.judgements.proofs.judgements.note.Statement.{statement}
 use Rattle.judgements.proofs.judgements.note.Tie as tie
 

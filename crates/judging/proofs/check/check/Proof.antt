@@ -1,5 +1,5 @@
-use Rattle.judging.proofs.check.Laws.{check-decides, check-floors, refused-output, refused-keeps, accepted-claim, accepted-proof, writable, accepted-output, accepted-keeps}
 use borrow.Author.Needs.{needs}
+use Rattle.judging.proofs.check.Steps.{writable, accepted-keeps, refused-keeps, accepted-claim, check-floors, refused-output, accepted-proof, accepted-output, check-decides}
 use Rattle.judging.proofs.check.check.Statement.{statement}
 use Rattle.judging.proofs.check.check.Tie as tie
 

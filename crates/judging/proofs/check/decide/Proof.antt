@@ -1,5 +1,5 @@
 use borrow.Author.Needs.{needs}
-use Rattle.judging.proofs.check.Laws.{decided-claim, decided-proof, own-here, decided-input, input-accepted, decided-weighed}
+use Rattle.judging.proofs.check.Steps.{decided-input, decided-weighed, decided-proof, own-here, input-accepted, decided-claim}
 use Rattle.judging.proofs.check.decide.Statement.{statement}
 use Rattle.judging.proofs.check.decide.Tie as tie
 

@@ -1,5 +1,5 @@
-use Rattle.keys.proofs.keys.Laws.{eight-key}
 use borrow.Author.Needs.{needs}
+use Rattle.keys.proofs.keys.Steps.{eight-key}
 use Rattle.keys.proofs.keys.eight_at.Statement.{statement}
 use Rattle.keys.proofs.keys.eight_at.Tie as tie
 

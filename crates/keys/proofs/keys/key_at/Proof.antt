@@ -1,5 +1,5 @@
-use Rattle.keys.proofs.keys.Laws.{key-here}
 use borrow.Author.Needs.{needs}
+use Rattle.keys.proofs.keys.Steps.{key-here}
 use Rattle.keys.proofs.keys.key_at.Statement.{statement}
 use Rattle.keys.proofs.keys.key_at.Tie as tie
 

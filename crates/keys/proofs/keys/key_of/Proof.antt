@@ -2,7 +2,7 @@ use borrow.Author.Needs.{needs}
 use Prim.Native.Nat.{_≤_, _<_, _^_, _-_, _*_}
 use mathlib.Core.Path.{_≡_}
 use lib.ListN.{length}
-use Rattle.keys.proofs.keys.Laws.{keyFrom, from-none, from-on, from-first, from-low, from-lower, times-fits, plus-fits}
+use Rattle.keys.proofs.keys.Steps.{from-on, from-first, times-fits, from-low, plus-fits, keyFrom, from-lower, from-none}
 use Rattle.keys.proofs.keys.key_of.Statement.{statement}
 use Rattle.keys.proofs.keys.key_of.Tie as tie
 

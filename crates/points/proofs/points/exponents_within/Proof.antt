@@ -3,7 +3,8 @@ use Prim.Native.Nat.{_-_, _≤_}
 use lib.Dec.{leb}
 use borrow.Author.Tests.{le-leb, lt-leb}
 use Rattle.points.specs.Points.{exponentsWithin}
-use Rattle.points.proofs.points.Laws.{Passed, passed-none, passed-on, every-stops, every-ends, Places}
+use Rattle.points.proofs.points.Laws.{Places}
+use Rattle.points.proofs.points.Steps.{passed-none, passed-on, Passed, every-ends, every-stops}
 use Rattle.points.proofs.points.exponents_within.Statement.{statement}
 use Rattle.points.proofs.points.exponents_within.Tie as tie
 

@@ -1,7 +1,8 @@
 use borrow.Author.Needs.{needs}
 use Prim.Native.Nat.{_-_, _≤_}
 use Rattle.points.specs.Points.{evenSum, hasMidpoint}
-use Rattle.points.proofs.points.Laws.{Passed, passed-none, passed-test, pair-fewer, pair-test, pair-ends, Places}
+use Rattle.points.proofs.points.Laws.{Places}
+use Rattle.points.proofs.points.Steps.{passed-none, pair-test, pair-fewer, pair-ends, Passed, passed-test}
 use Rattle.points.proofs.points.has_midpoint.Statement.{statement}
 use Rattle.points.proofs.points.has_midpoint.Tie as tie
 

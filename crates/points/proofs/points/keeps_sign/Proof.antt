@@ -4,7 +4,8 @@ use Prim.Native.Nat.{_%_}
 use lib.Dec.{eqb}
 use borrow.Author.Tests.{eq-eqb, ne-eqb}
 use Rattle.points.specs.Points.{keepsSign}
-use Rattle.points.proofs.points.Laws.{Passed, passed-none, passed-on, every-stops, every-ends, Places}
+use Rattle.points.proofs.points.Laws.{Places}
+use Rattle.points.proofs.points.Steps.{passed-none, passed-on, Passed, every-ends, every-stops}
 use Rattle.points.proofs.points.keeps_sign.Statement.{statement}
 use Rattle.points.proofs.points.keeps_sign.Tie as tie
 

@@ -4,7 +4,8 @@ use mathlib.Core.Path.{_≡_}
 use lib.ListN.{getD}
 use Rattle.bounds.specs.Bounds.{mostVariables}
 use Rattle.points.specs.Lists.{table}
-use Rattle.points.proofs.points.Laws.{padded, filled-none, filled-on, midpoint-made, Places}
+use Rattle.points.proofs.points.Laws.{Places}
+use Rattle.points.proofs.points.Steps.{filled-on, midpoint-made, filled-none, padded}
 use Rattle.points.proofs.points.midpoint.Statement.{statement}
 use Rattle.points.proofs.points.midpoint.Tie as tie
 

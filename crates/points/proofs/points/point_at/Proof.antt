@@ -4,7 +4,7 @@ use mathlib.Core.Path.{_≡_}
 use lib.ListN.{getD}
 use Rattle.points.specs.Lists.{table}
 use Rattle.points.specs.Points.{bytesAt}
-use Rattle.points.proofs.points.Laws.{padded, filled-none, filled-on, filled-end}
+use Rattle.points.proofs.points.Steps.{filled-on, filled-end, filled-none, padded}
 use Rattle.points.proofs.points.point_at.Statement.{statement}
 use Rattle.points.proofs.points.point_at.Tie as tie
 

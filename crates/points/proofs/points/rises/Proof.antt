@@ -2,7 +2,8 @@ use borrow.Author.Needs.{needs}
 use Prim.Native.Nat.{_-_, _≤_}
 use lib.Dec.{eqb}
 use Rattle.bounds.specs.Bounds.{mostVariables}
-use Rattle.points.proofs.points.Laws.{Passed, passed-start, rises-more, rises-less, rises-on, rises-end, Places}
+use Rattle.points.proofs.points.Laws.{Places}
+use Rattle.points.proofs.points.Steps.{rises-end, rises-less, Passed, rises-on, rises-more, passed-start}
 use Rattle.points.proofs.points.rises.Statement.{statement}
 use Rattle.points.proofs.points.rises.Tie as tie
 

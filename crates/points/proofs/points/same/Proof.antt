@@ -3,7 +3,8 @@ use Prim.Native.Nat.{_-_, _≤_}
 use lib.Dec.{eqb}
 use borrow.Author.Tests.{eq-eqb, ne-eqb}
 use Rattle.points.specs.Points.{samePoint}
-use Rattle.points.proofs.points.Laws.{Passed, passed-none, passed-on, pair-fewer, pair-stops, pair-ends, Places}
+use Rattle.points.proofs.points.Laws.{Places}
+use Rattle.points.proofs.points.Steps.{passed-none, passed-on, pair-fewer, pair-stops, pair-ends, Passed}
 use Rattle.points.proofs.points.same.Statement.{statement}
 use Rattle.points.proofs.points.same.Tie as tie
 

@@ -1,6 +1,6 @@
 use mir.Facts.{toZ-ofZ}
-use Rattle.report.proofs.reports.Laws.{first-room, first-feed, first-written}
 use borrow.Author.Needs.{needs}
+use Rattle.report.proofs.reports.Steps.{first-feed, first-written, first-room}
 use Rattle.report.proofs.reports.first_text.Statement.{statement}
 use Rattle.report.proofs.reports.first_text.Tie as tie
 

@@ -1,5 +1,5 @@
-use Rattle.report.proofs.reports.Laws.{refused-report, carried, accepted-report, empty-report, accepted-room, refused-room}
 use borrow.Author.Needs.{needs}
+use Rattle.report.proofs.reports.Steps.{carried, accepted-room, empty-report, accepted-report, refused-report, refused-room}
 use Rattle.report.proofs.reports.report_text.Statement.{statement}
 use Rattle.report.proofs.reports.report_text.Tie as tie
 

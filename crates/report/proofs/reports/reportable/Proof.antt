@@ -1,5 +1,5 @@
-use Rattle.report.proofs.reports.Laws.{no-claim, no-proof, many-variables, many-rows, rows-reportable}
 use borrow.Author.Needs.{needs}
+use Rattle.report.proofs.reports.Steps.{many-variables, no-claim, many-rows, no-proof, rows-reportable}
 use Rattle.report.proofs.reports.reportable.Statement.{statement}
 use Rattle.report.proofs.reports.reportable.Tie as tie
 

@@ -1,5 +1,5 @@
-use Rattle.report.proofs.reports.Laws.{row-room, row-feed, row-written}
 use borrow.Author.Needs.{needs}
+use Rattle.report.proofs.reports.Steps.{row-written, row-room, row-feed}
 use Rattle.report.proofs.reports.row_text.Statement.{statement}
 use Rattle.report.proofs.reports.row_text.Tie as tie
 

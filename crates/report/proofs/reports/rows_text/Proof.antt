@@ -2,7 +2,7 @@ use borrow.Author.Needs.{needs}
 use Prim.Native.Nat.{_-_, _≤_}
 use Rattle.text.specs.Text.{Written}
 use Rattle.report.specs.Reports.{rowsText}
-use Rattle.report.proofs.reports.Laws.{rows-none, next-room, rows-more, rows-all}
+use Rattle.report.proofs.reports.Steps.{next-room, rows-all, rows-none, rows-more}
 use Rattle.report.proofs.reports.rows_text.Statement.{statement}
 use Rattle.report.proofs.reports.rows_text.Tie as tie
 

@@ -1,6 +1,6 @@
 use mir.Facts.{toZ-ofZ}
-use Rattle.sharing.proofs.shifts.Laws.{error-fits, moved-fits, moved-is}
 use borrow.Author.Needs.{needs}
+use Rattle.sharing.proofs.shifts.Steps.{error-fits, moved-is, moved-fits}
 use Rattle.sharing.proofs.shifts.moved.Statement.{statement}
 use Rattle.sharing.proofs.shifts.moved.Tie as tie
 

@@ -1,5 +1,5 @@
-use Rattle.sharing.proofs.shifts.Laws.{room-here, row-here, is-row, row-shifted}
 use borrow.Author.Needs.{needs}
+use Rattle.sharing.proofs.shifts.Steps.{row-here, is-row, row-shifted, room-here}
 use Rattle.sharing.proofs.shifts.shifted_row.Statement.{statement}
 use Rattle.sharing.proofs.shifts.shifted_row.Tie as tie
 

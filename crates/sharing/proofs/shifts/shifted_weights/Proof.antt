@@ -1,6 +1,6 @@
 use mir.Facts.{toZ-ofZ}
-use Rattle.sharing.proofs.shifts.Laws.{at-v-carried, at-w-carried, at-u-carried, lone-within, lone-held, lone-shifted, p-within, q-within, r-within, p-held, q-held, r-held, pair-shifted}
 use borrow.Author.Needs.{needs}
+use Rattle.sharing.proofs.shifts.Steps.{at-v-carried, lone-shifted, pair-shifted, q-held, r-held, at-w-carried, r-within, q-within, lone-held, lone-within, p-within, p-held, at-u-carried}
 use Rattle.sharing.proofs.shifts.shifted_weights.Statement.{statement}
 use Rattle.sharing.proofs.shifts.shifted_weights.Tie as tie
 

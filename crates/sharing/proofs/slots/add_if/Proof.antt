@@ -1,5 +1,5 @@
-use Rattle.sharing.proofs.slots.Laws.{sum-fits, added-hit, added-miss}
 use borrow.Author.Needs.{needs}
+use Rattle.sharing.proofs.slots.Steps.{added-hit, added-miss, sum-fits}
 use Rattle.sharing.proofs.slots.add_if.Statement.{statement}
 use Rattle.sharing.proofs.slots.add_if.Tie as tie
 

@@ -1,5 +1,5 @@
-use Rattle.sharing.proofs.slots.Laws.{p-inside, q-inside, r-inside, p-within, q-within, r-within, small-first, small-second, small-third, ends-fit, lone-added, pair-added}
 use borrow.Author.Needs.{needs}
+use Rattle.sharing.proofs.slots.Steps.{small-third, lone-added, q-inside, pair-added, small-first, small-second, ends-fit, q-within, p-within, r-inside, p-inside, r-within}
 use Rattle.sharing.proofs.slots.add_row.Statement.{statement}
 use Rattle.sharing.proofs.slots.add_row.Tie as tie
 

@@ -1,6 +1,6 @@
 use mir.Facts.{toZ-ofZ}
-use Rattle.sharing.proofs.slots.Laws.{tally-none, rank-fits, held-is}
 use borrow.Author.Needs.{needs}
+use Rattle.sharing.proofs.slots.Steps.{rank-fits, held-is, tally-none}
 use Rattle.sharing.proofs.slots.held.Statement.{statement}
 use Rattle.sharing.proofs.slots.held.Tie as tie
 

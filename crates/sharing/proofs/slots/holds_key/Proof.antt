@@ -1,5 +1,5 @@
-use Rattle.sharing.proofs.slots.Laws.{key-first, key-second, key-middle, ends-fit}
 use borrow.Author.Needs.{needs}
+use Rattle.sharing.proofs.slots.Steps.{ends-fit, key-second, key-first, key-middle}
 use Rattle.sharing.proofs.slots.holds_key.Statement.{statement}
 use Rattle.sharing.proofs.slots.holds_key.Tie as tie
 

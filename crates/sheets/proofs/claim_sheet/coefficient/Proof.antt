@@ -1,6 +1,6 @@
 use mir.Facts.{toZ-ofZ}
-use Rattle.sheets.proofs.claim_sheet.Laws.{points-low, coefficient-inside, coefficient-read}
 use borrow.Author.Needs.{needs}
+use Rattle.sheets.proofs.claim_sheet.Steps.{coefficient-read, points-low, coefficient-inside}
 use Rattle.sheets.proofs.claim_sheet.coefficient.Statement.{statement}
 use Rattle.sheets.proofs.claim_sheet.coefficient.Tie as tie
 

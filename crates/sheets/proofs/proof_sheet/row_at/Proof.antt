@@ -1,5 +1,5 @@
-use Rattle.sheets.proofs.proof_sheet.Laws.{row-read}
 use borrow.Author.Needs.{needs}
+use Rattle.sheets.proofs.proof_sheet.Steps.{row-read}
 use Rattle.sheets.proofs.proof_sheet.row_at.Statement.{statement}
 use Rattle.sheets.proofs.proof_sheet.row_at.Tie as tie
 

@@ -1,5 +1,5 @@
-use Rattle.sheets.proofs.proof_sheet.Laws.{row-low}
 use borrow.Author.Needs.{needs}
+use Rattle.sheets.proofs.proof_sheet.Steps.{row-low}
 use Rattle.sheets.proofs.proof_sheet.row_place.Statement.{statement}
 use Rattle.sheets.proofs.proof_sheet.row_place.Tie as tie
 

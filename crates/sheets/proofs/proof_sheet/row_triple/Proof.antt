@@ -1,6 +1,6 @@
 use mir.Facts.{toZ-ofZ}
-use Rattle.sheets.proofs.proof_sheet.Laws.{triple-read}
 use borrow.Author.Needs.{needs}
+use Rattle.sheets.proofs.proof_sheet.Steps.{triple-read}
 use Rattle.sheets.proofs.proof_sheet.row_triple.Statement.{statement}
 use Rattle.sheets.proofs.proof_sheet.row_triple.Tie as tie
 

@@ -1,6 +1,6 @@
 use Rattle.sheets.specs.ProofSheet.{wOf}
-use Rattle.sheets.proofs.proof_sheet.Laws.{w-inside}
 use borrow.Author.Needs.{needs}
+use Rattle.sheets.proofs.proof_sheet.Steps.{w-inside}
 use Rattle.sheets.proofs.proof_sheet.row_w.Statement.{statement}
 use Rattle.sheets.proofs.proof_sheet.row_w.Tie as tie
 

@@ -1,5 +1,5 @@
-use Rattle.sheets.proofs.proof_sheet.Laws.{shape-read}
 use borrow.Author.Needs.{needs}
+use Rattle.sheets.proofs.proof_sheet.Steps.{shape-read}
 use Rattle.sheets.proofs.proof_sheet.shape_of.Statement.{statement}
 use Rattle.sheets.proofs.proof_sheet.shape_of.Tie as tie
 

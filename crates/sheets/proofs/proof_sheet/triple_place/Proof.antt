@@ -1,5 +1,5 @@
-use Rattle.sheets.proofs.proof_sheet.Laws.{rows-low, triple-low, triple-here}
 use borrow.Author.Needs.{needs}
+use Rattle.sheets.proofs.proof_sheet.Steps.{triple-low, rows-low, triple-here}
 use Rattle.sheets.proofs.proof_sheet.triple_place.Statement.{statement}
 use Rattle.sheets.proofs.proof_sheet.triple_place.Tie as tie
 

@@ -1,5 +1,5 @@
 use mir.Facts.{toZ-ofZ}
-use Rattle.sheets.proofs.proof_sheet.Laws.{weights-lone, weights-pair}
+use Rattle.sheets.proofs.proof_sheet.Steps.{weights-lone, weights-pair}
 use Rattle.sheets.proofs.proof_sheet.weights_of.Statement.{statement}
 use Rattle.sheets.proofs.proof_sheet.weights_of.Tie as tie
 

@@ -1,6 +1,6 @@
 use mir.Facts.{toZ-ofZ}
-use Rattle.targets.proofs.targets.Laws.{aim-is}
 use borrow.Author.Needs.{needs}
+use Rattle.targets.proofs.targets.Steps.{aim-is}
 use Rattle.targets.proofs.targets.aim_of.Statement.{statement}
 use Rattle.targets.proofs.targets.aim_of.Tie as tie
 

@@ -1,6 +1,6 @@
 use mir.Facts.{toZ-ofZ}
-use Rattle.targets.proofs.targets.Laws.{none-with, found-inside, found-with, term-small}
 use borrow.Author.Needs.{needs}
+use Rattle.targets.proofs.targets.Steps.{found-inside, term-small, found-with, none-with}
 use Rattle.targets.proofs.targets.coefficient_at.Statement.{statement}
 use Rattle.targets.proofs.targets.coefficient_at.Tie as tie
 

@@ -1,5 +1,5 @@
-use Rattle.targets.proofs.targets.Laws.{key-tested}
 use borrow.Author.Needs.{needs}
+use Rattle.targets.proofs.targets.Steps.{key-tested}
 use Rattle.targets.proofs.targets.has_key.Statement.{statement}
 use Rattle.targets.proofs.targets.has_key.Tie as tie
 

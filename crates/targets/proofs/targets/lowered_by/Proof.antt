@@ -1,5 +1,5 @@
 use mir.Facts.{toZ-ofZ}
-use Rattle.targets.proofs.targets.Laws.{lowered-fits, lowered-here, constant-small, lowered-elsewhere, other-small}
+use Rattle.targets.proofs.targets.Steps.{lowered-elsewhere, constant-small, lowered-fits, lowered-here, other-small}
 use Rattle.targets.proofs.targets.lowered_by.Statement.{statement}
 use Rattle.targets.proofs.targets.lowered_by.Tie as tie
 

@@ -1,6 +1,6 @@
 use mir.Facts.{toZ-ofZ}
-use Rattle.targets.proofs.targets.Laws.{product-fits, product-is, scaled-small}
 use borrow.Author.Needs.{needs}
+use Rattle.targets.proofs.targets.Steps.{scaled-small, product-is, product-fits}
 use Rattle.targets.proofs.targets.scaled.Statement.{statement}
 use Rattle.targets.proofs.targets.scaled.Tie as tie
 

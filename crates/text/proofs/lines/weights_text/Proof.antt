@@ -1,8 +1,8 @@
 use mir.Facts.{toZ-ofZ}
 use Rattle.text.specs.Lines.{weightsText}
 use Rattle.text.proofs.text.Laws.{room-first}
-use Rattle.text.proofs.lines.Laws.{later-room, later-then}
 use borrow.Author.Needs.{needs}
+use Rattle.text.proofs.lines.Steps.{later-then, later-room}
 use Rattle.text.proofs.lines.weights_text.Statement.{statement}
 use Rattle.text.proofs.lines.weights_text.Tie as tie
 

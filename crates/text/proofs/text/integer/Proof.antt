@@ -1,6 +1,6 @@
 use mir.Facts.{toZ-ofZ}
-use Rattle.text.proofs.text.Laws.{unsigned-room, unsigned-written, minus-room, minus-after, minus-written}
 use borrow.Author.Needs.{needs}
+use Rattle.text.proofs.text.Steps.{minus-written, minus-after, unsigned-room, unsigned-written, minus-room}
 use Rattle.text.proofs.text.integer.Statement.{statement}
 use Rattle.text.proofs.text.integer.Tie as tie
 

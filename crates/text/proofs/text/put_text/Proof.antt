@@ -3,7 +3,7 @@ use Prim.Native.Nat.{_-_, _≤_}
 use mathlib.Core.Path.{_≡_}
 use lib.ListN.{length, take}
 use lib.Seq.{sets}
-use Rattle.text.proofs.text.Laws.{copied-more, copied-all}
+use Rattle.text.proofs.text.Steps.{copied-all, copied-more}
 use Rattle.text.proofs.text.put_text.Statement.{statement}
 use Rattle.text.proofs.text.put_text.Tie as tie
 

@@ -1,5 +1,5 @@
-use Rattle.weighing.proofs.exact.Laws.{copied-room, exact-written}
 use borrow.Author.Needs.{needs}
+use Rattle.weighing.proofs.exact.Steps.{exact-written, copied-room}
 use Rattle.weighing.proofs.exact.write_exact.Statement.{statement}
 use Rattle.weighing.proofs.exact.write_exact.Tie as tie
 

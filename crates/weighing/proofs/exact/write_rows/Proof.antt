@@ -4,7 +4,7 @@ use mathlib.Core.Path.{_≡_}
 use Rattle.writing.specs.Writing.{withRows}
 use Rattle.targets.specs.Targets.{targetOf}
 use Rattle.weighing.specs.Exact.{weightsFor}
-use Rattle.weighing.proofs.exact.Laws.{row-inside, room-kept, length-kept, weights-narrow, row-written, rows-written, rows-none}
+use Rattle.weighing.proofs.exact.Steps.{rows-written, row-written, rows-none, weights-narrow, room-kept, row-inside, length-kept}
 use Rattle.weighing.proofs.exact.write_rows.Statement.{statement}
 use Rattle.weighing.proofs.exact.write_rows.Tie as tie
 

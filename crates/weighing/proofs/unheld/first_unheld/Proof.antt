@@ -13,7 +13,7 @@ use Rattle.answers.proofs.searches.Laws.{first-start, first-next}
 use Rattle.targets.specs.Targets.{targetOf}
 use Rattle.sharing.specs.Slots.{holdsPoint}
 use Rattle.weighing.specs.Unheld.{pointFor, unheld}
-use Rattle.weighing.proofs.unheld.Laws.{claim-here, proof-here, targeted-here, point-looked, target-none, target-some, key-here, key-low, row-answered, row-found, none-found, all-met}
+use Rattle.weighing.proofs.unheld.Steps.{key-low, row-found, all-met, targeted-here, row-answered, target-some, none-found, claim-here, point-looked, proof-here, key-here, target-none}
 use Rattle.weighing.proofs.unheld.first_unheld.Statement.{statement}
 use Rattle.weighing.proofs.unheld.first_unheld.Tie as tie
 

@@ -1,6 +1,6 @@
 use mir.Facts.{toZ-ofZ}
-use Rattle.weighing.proofs.unheld.Laws.{no-target, term-inside, point-of-term}
 use borrow.Author.Needs.{needs}
+use Rattle.weighing.proofs.unheld.Steps.{term-inside, point-of-term, no-target}
 use Rattle.weighing.proofs.unheld.no_target.Statement.{statement}
 use Rattle.weighing.proofs.unheld.no_target.Tie as tie
 

@@ -1,5 +1,5 @@
-use Rattle.weighing.proofs.unheld.Laws.{point-term, point-constant}
 use borrow.Author.Needs.{needs}
+use Rattle.weighing.proofs.unheld.Steps.{point-term, point-constant}
 use Rattle.weighing.proofs.unheld.point_for.Statement.{statement}
 use Rattle.weighing.proofs.unheld.point_for.Tie as tie
 

@@ -1,5 +1,5 @@
 use borrow.Author.Needs.{needs}
-use Rattle.weighing.proofs.weighed.Laws.{weighed-unheld, weighed-judged}
+use Rattle.weighing.proofs.weighed.Steps.{weighed-judged, weighed-unheld}
 use Rattle.weighing.proofs.weighed.weigh.Statement.{statement}
 use Rattle.weighing.proofs.weighed.weigh.Tie as tie
 

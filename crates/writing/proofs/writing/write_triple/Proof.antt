@@ -1,6 +1,6 @@
 use mir.Facts.{toZ-ofZ}
-use Rattle.writing.proofs.writing.Laws.{triple-written}
 use borrow.Author.Needs.{needs}
+use Rattle.writing.proofs.writing.Steps.{triple-written}
 use Rattle.writing.proofs.writing.write_triple.Statement.{statement}
 use Rattle.writing.proofs.writing.write_triple.Tie as tie
 

@@ -1,7 +1,7 @@
 use Rattle.writing.specs.Writing.{withWeights}
 use Rattle.sheets.proofs.proof_sheet.Laws.{triple-inside}
-use Rattle.writing.proofs.writing.Laws.{narrow-here}
 use borrow.Author.Needs.{needs}
+use Rattle.writing.proofs.writing.Steps.{narrow-here}
 use Rattle.writing.proofs.writing.write_weights.Statement.{statement}
 use Rattle.writing.proofs.writing.write_weights.Tie as tie
 

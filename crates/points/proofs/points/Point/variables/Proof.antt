@@ -1,5 +1,5 @@
 use borrow.Author.Needs.{needs}
-use Rattle.points.proofs.points.Laws.{variables-fewer, variables-all}
+use Rattle.points.proofs.points.Steps.{variables-fewer, variables-all}
 use Rattle.points.proofs.points.Point.variables.Statement.{statement}
 use Rattle.points.proofs.points.Point.variables.Tie as tie
 
