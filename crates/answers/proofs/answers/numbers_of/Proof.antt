@@ -3,45 +3,6 @@ use borrow.Author.Needs.{needs}
 use Rattle.answers.proofs.answers.numbers_of.Statement.{statement}
 use Rattle.answers.proofs.answers.numbers_of.Tie as tie
 
-enum-known-verdict : tie.Need-enum-known-verdict
-enum-known-verdict c = search needs
-
-enum-known-verdict-2 : tie.Need-enum-known-verdict-2
-enum-known-verdict-2 c = search needs
-
-enum-known-sheet : tie.Need-enum-known-sheet
-enum-known-sheet c = search needs
-
-enum-known-sheet-2 : tie.Need-enum-known-sheet-2
-enum-known-sheet-2 c = search needs
-
-enum-known-sheet-3 : tie.Need-enum-known-sheet-3
-enum-known-sheet-3 c = search needs
-
-enum-known-sheet-4 : tie.Need-enum-known-sheet-4
-enum-known-sheet-4 c = search needs
-
-enum-known-sheet-5 : tie.Need-enum-known-sheet-5
-enum-known-sheet-5 c = search needs
-
-enum-known-sheet-6 : tie.Need-enum-known-sheet-6
-enum-known-sheet-6 c = search needs
-
-enum-known-sheet-7 : tie.Need-enum-known-sheet-7
-enum-known-sheet-7 c = search needs
-
-enum-known-sheet-8 : tie.Need-enum-known-sheet-8
-enum-known-sheet-8 c = search needs
-
-enum-known-sheet-9 : tie.Need-enum-known-sheet-9
-enum-known-sheet-9 c = search needs
-
-enum-known-sheet-10 : tie.Need-enum-known-sheet-10
-enum-known-sheet-10 c = search needs
-
-enum-known-sheet-11 : tie.Need-enum-known-sheet-11
-enum-known-sheet-11 c = search needs
-
 returns : tie.Need-returns
 unfolding says accepted
 returns c = search needs
@@ -94,19 +55,19 @@ pub numbers-of-spec : {M : Type 1} → statement M
 numbers-of-spec =
     tie.close
     (tie.spec
-    enum-known-verdict
-    enum-known-verdict-2
-    enum-known-sheet
-    enum-known-sheet-2
-    enum-known-sheet-3
-    enum-known-sheet-4
-    enum-known-sheet-5
-    enum-known-sheet-6
-    enum-known-sheet-7
-    enum-known-sheet-8
-    enum-known-sheet-9
-    enum-known-sheet-10
-    enum-known-sheet-11
+    (λ c. search needs)
+    (λ c. search needs)
+    (λ c. search needs)
+    (λ c. search needs)
+    (λ c. search needs)
+    (λ c. search needs)
+    (λ c. search needs)
+    (λ c. search needs)
+    (λ c. search needs)
+    (λ c. search needs)
+    (λ c. search needs)
+    (λ c. search needs)
+    (λ c. search needs)
     returns
     returns-2
     returns-3

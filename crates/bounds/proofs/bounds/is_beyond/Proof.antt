@@ -4,11 +4,8 @@ use Rattle.bounds.proofs.bounds.Steps.{beyond-is}
 use Rattle.bounds.proofs.bounds.is_beyond.Statement.{statement}
 use Rattle.bounds.proofs.bounds.is_beyond.Tie as tie
 
-magnitude-requires : tie.Need-magnitude-requires
-magnitude-requires c κs = search needs
-
 returns : tie.Need-returns
 returns c = search (beyond-is, toZ-ofZ)
 
 pub is-beyond-spec : {M : Type 1} → statement M
-is-beyond-spec = tie.close (tie.spec magnitude-requires returns)
+is-beyond-spec = tie.close (tie.spec (λ c κs. search needs) returns)

@@ -5,17 +5,8 @@ use Rattle.burmelox.proofs.exports.Steps.{given-value, refused-code, gi
 use Rattle.burmelox.proofs.exports.burmelox_evaluate.Statement.{statement}
 use Rattle.burmelox.proofs.exports.burmelox_evaluate.Tie as tie
 
-evaluate-requires : tie.Need-evaluate-requires
-evaluate-requires c κs = search needs
-
-enum-known-sheet : tie.Need-enum-known-sheet
-enum-known-sheet c = search needs
-
 code-requires : tie.Need-code-requires
 code-requires c κs = search refused-short
-
-enum-known-v : tie.Need-enum-known-v
-enum-known-v c = search needs
 
 returns : tie.Need-returns
 returns c = (search refused-code, search refused-value)
@@ -26,4 +17,4 @@ returns-2 c = (search given-code, search (given-value, toZ-ofZ))
 pub burmelox-evaluate-spec : {M : Type 1} → statement M
 burmelox-evaluate-spec =
     tie.close
-    (tie.spec evaluate-requires enum-known-sheet code-requires enum-known-v returns returns-2)
+    (tie.spec (λ c κs. search needs) (λ c. search needs) code-requires (λ c. search needs) returns returns-2)

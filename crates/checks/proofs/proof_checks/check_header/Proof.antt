@@ -10,20 +10,11 @@ returns : tie.Need-returns
 unfolding headerAnswer
 returns c = refused-if _ _ 8 _ (search lt-ltb) (search refused-says)
 
-header-wrong-requires : tie.Need-header-wrong-requires
-header-wrong-requires c κs = search needs
-
 returns-2 : tie.Need-returns-2
 unfolding headerAnswer
 returns-2 c =
     passed-if _ _ 8 _ (search le-ltb)
     (refused-if _ _ 9 _ (search tested) (search refused-says))
-
-shape-of-requires : tie.Need-shape-of-requires
-shape-of-requires c κs = search needs
-
-proof-length-requires : tie.Need-proof-length-requires
-proof-length-requires c κs = search needs
 
 returns-3 : tie.Need-returns-3
 unfolding headerAnswer
@@ -44,9 +35,9 @@ check-header-spec =
     tie.close
     (tie.spec
     returns
-    header-wrong-requires
+    (λ c κs. search needs)
     returns-2
-    shape-of-requires
-    proof-length-requires
+    (λ c κs. search needs)
+    (λ c κs. search needs)
     returns-3
     returns-4)

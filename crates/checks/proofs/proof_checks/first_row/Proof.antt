@@ -17,17 +17,8 @@ abbrev μ-loop : tie.MeasureT-loop
 loop-holds : tie.Need-loop-holds Inv-loop μ-loop
 loop-holds c = search (needs, first-start)
 
-row-wrong-requires : tie.Need-row-wrong-requires Inv-loop μ-loop
-row-wrong-requires c κs = search needs
-
 returns : tie.Need-returns Inv-loop μ-loop
 returns c = search first-at
-
-add-i : tie.Need-add-i Inv-loop μ-loop
-add-i c = search needs
-
-loop-less : tie.Need-loop-less Inv-loop μ-loop
-loop-less c = search needs
 
 loop-again : tie.Need-loop-again Inv-loop μ-loop
 loop-again c = search (needs, first-next)
@@ -42,9 +33,9 @@ first-row-spec =
     Inv-loop
     μ-loop
     loop-holds
-    row-wrong-requires
+    (λ c κs. search needs)
     returns
-    add-i
-    loop-less
+    (λ c. search needs)
+    (λ c. search needs)
     loop-again
     returns-2)

@@ -4,17 +4,11 @@ use borrow.Author.Needs.{needs}
 use Rattle.checks.proofs.proof_checks.q_or_r.Statement.{statement}
 use Rattle.checks.proofs.proof_checks.q_or_r.Tie as tie
 
-magnitude-requires : tie.Need-magnitude-requires
-magnitude-requires c κs = search needs
-
 returns : tie.Need-returns
 returns c = search (q-not-zero, toZ-ofZ)
-
-magnitude-requires-2 : tie.Need-magnitude-requires-2
-magnitude-requires-2 c κs = search needs
 
 returns-2 : tie.Need-returns-2
 returns-2 c = search (r-not-zero, toZ-ofZ)
 
 pub q-or-r-spec : {M : Type 1} → statement M
-q-or-r-spec = tie.close (tie.spec magnitude-requires returns magnitude-requires-2 returns-2)
+q-or-r-spec = tie.close (tie.spec (λ c κs. search needs) returns (λ c κs. search needs) returns-2)

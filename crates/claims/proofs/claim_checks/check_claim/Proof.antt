@@ -12,26 +12,11 @@ returns : tie.Need-returns
 unfolding claimAnswer
 returns c = refused-if _ _ 1 _ (search lt-ltb) (search refused-says)
 
-header-wrong-requires : tie.Need-header-wrong-requires
-header-wrong-requires c κs = search needs
-
 returns-2 : tie.Need-returns-2
 unfolding claimAnswer
 returns-2 c =
     passed-if _ _ 1 _ (search le-ltb)
     (refused-if _ _ 2 _ (search tested) (search refused-says))
-
-variables-requires : tie.Need-variables-requires
-variables-requires c κs = search needs
-
-term-count-requires : tie.Need-term-count-requires
-term-count-requires c κs = search needs
-
-add-place-of : tie.Need-add-place-of
-add-place-of c = search needs
-
-place-of-requires : tie.Need-place-of-requires
-place-of-requires c κs = search needs
 
 returns-3 : tie.Need-returns-3
 unfolding claimAnswer
@@ -39,12 +24,6 @@ returns-3 c =
     passed-if _ _ 1 _ (search le-ltb)
     (passed-if _ _ 2 _ (search tested)
     (refused-if _ _ 3 _ (length-other _ _ _ (c .if3 .taken) (search claim-asked)) (search refused-says)))
-
-floor-requires : tie.Need-floor-requires
-floor-requires c κs = search needs
-
-is-beyond-requires : tie.Need-is-beyond-requires
-is-beyond-requires c κs = search needs
 
 returns-4 : tie.Need-returns-4
 unfolding claimAnswer
@@ -70,15 +49,15 @@ check-claim-spec =
     tie.close
     (tie.spec
     returns
-    header-wrong-requires
+    (λ c κs. search needs)
     returns-2
-    variables-requires
-    term-count-requires
-    add-place-of
-    place-of-requires
+    (λ c κs. search needs)
+    (λ c κs. search needs)
+    (λ c. search needs)
+    (λ c κs. search needs)
     returns-3
-    floor-requires
-    is-beyond-requires
+    (λ c κs. search needs)
+    (λ c κs. search needs)
     returns-4
     check-terms-requires
     returns-5)

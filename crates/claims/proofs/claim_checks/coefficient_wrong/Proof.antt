@@ -4,17 +4,8 @@ use borrow.Author.Needs.{needs}
 use Rattle.claims.proofs.claim_checks.coefficient_wrong.Statement.{statement}
 use Rattle.claims.proofs.claim_checks.coefficient_wrong.Tie as tie
 
-coefficient-requires : tie.Need-coefficient-requires
-coefficient-requires c κs = search needs
-
-magnitude-requires : tie.Need-magnitude-requires
-magnitude-requires c κs = search needs
-
 returns : tie.Need-returns
 returns c = search (coefficient-zero, toZ-ofZ)
-
-is-beyond-requires : tie.Need-is-beyond-requires
-is-beyond-requires c κs = search needs
 
 returns-2 : tie.Need-returns-2
 returns-2 c = search (coefficient-else, toZ-ofZ)
@@ -22,4 +13,4 @@ returns-2 c = search (coefficient-else, toZ-ofZ)
 pub coefficient-wrong-spec : {M : Type 1} → statement M
 coefficient-wrong-spec =
     tie.close
-    (tie.spec coefficient-requires magnitude-requires returns is-beyond-requires returns-2)
+    (tie.spec (λ c κs. search needs) (λ c κs. search needs) returns (λ c κs. search needs) returns-2)

@@ -3,21 +3,15 @@ use borrow.Author.Needs.{needs}
 use Rattle.claims.proofs.claim_checks.counts_wrong.Statement.{statement}
 use Rattle.claims.proofs.claim_checks.counts_wrong.Tie as tie
 
-variables-requires : tie.Need-variables-requires
-variables-requires c κs = search needs
-
 returns : tie.Need-returns
 returns c = search counts-none
 
 returns-2 : tie.Need-returns-2
 returns-2 c = search counts-many
 
-term-count-requires : tie.Need-term-count-requires
-term-count-requires c κs = search needs
-
 returns-3 : tie.Need-returns-3
 returns-3 c = search counts-terms
 
 pub counts-wrong-spec : {M : Type 1} → statement M
 counts-wrong-spec =
-    tie.close (tie.spec variables-requires returns returns-2 term-count-requires returns-3)
+    tie.close (tie.spec (λ c κs. search needs) returns returns-2 (λ c κs. search needs) returns-3)

@@ -4,17 +4,8 @@ use Rattle.evaluation.proofs.evaluations.Steps.{evaluates, floored, all
 use Rattle.evaluation.proofs.evaluations.evaluate.Statement.{statement}
 use Rattle.evaluation.proofs.evaluations.evaluate.Tie as tie
 
-check-claim-requires : tie.Need-check-claim-requires
-check-claim-requires c κs = search needs
-
-enum-known-sheet : tie.Need-enum-known-sheet
-enum-known-sheet c = search needs
-
 returns : tie.Need-returns
 returns c = search (claim-refused, evaluates, floored)
-
-enum-told : tie.Need-enum-told
-enum-told c = search needs
 
 variables-requires : tie.Need-variables-requires
 variables-requires c κs = search claim-long
@@ -35,10 +26,10 @@ pub evaluate-spec : {M : Type 1} → statement M
 evaluate-spec =
     tie.close
     (tie.spec
-    check-claim-requires
-    enum-known-sheet
+    (λ c κs. search needs)
+    (λ c. search needs)
     returns
-    enum-told
+    (λ c. search needs)
     variables-requires
     returns-2
     term-count-requires

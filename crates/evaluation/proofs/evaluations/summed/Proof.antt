@@ -25,26 +25,11 @@ abbrev μ-loop : tie.MeasureT-loop
 loop-holds : tie.Need-loop-holds Inv-loop μ-loop
 loop-holds c = (search needs, search first-start, search small-start, search sum-start)
 
-term-value-requires : tie.Need-term-value-requires Inv-loop μ-loop
-term-value-requires c κs = search needs
-
-enum-known-v : tie.Need-enum-known-v Inv-loop μ-loop
-enum-known-v c = search needs
-
-enum-told : tie.Need-enum-told Inv-loop μ-loop
-enum-told c = search needs
-
 returns : tie.Need-returns Inv-loop μ-loop
 returns c = search large-here
 
 add-sum : tie.Need-add-sum Inv-loop μ-loop
 add-sum c = search (sum-fits, toZ-ofZ)
-
-add-i : tie.Need-add-i Inv-loop μ-loop
-add-i c = search needs
-
-loop-less : tie.Need-loop-less Inv-loop μ-loop
-loop-less c = search needs
 
 loop-again : tie.Need-loop-again Inv-loop μ-loop
 loop-again c = (search needs, search none-more, search small-more, search (sum-next, toZ-ofZ))
@@ -59,12 +44,12 @@ summed-spec =
     Inv-loop
     μ-loop
     loop-holds
-    term-value-requires
-    enum-known-v
-    enum-told
+    (λ c κs. search needs)
+    (λ c. search needs)
+    (λ c. search needs)
     returns
     add-sum
-    add-i
-    loop-less
+    (λ c. search needs)
+    (λ c. search needs)
     loop-again
     returns-2)

@@ -3,9 +3,6 @@ use borrow.Author.Needs.{needs}
 use Rattle.integers.proofs.division.floor_div.Statement.{statement}
 use Rattle.integers.proofs.division.floor_div.Tie as tie
 
-cast-c : tie.Need-cast-c
-cast-c c = search needs
-
 div-q : tie.Need-div-q
 div-q c = search (needs, quot-fits)
 
@@ -22,4 +19,4 @@ returns-2 : tie.Need-returns-2
 returns-2 c = search div-more
 
 pub floor-div-spec : {M : Type 1} → statement M
-floor-div-spec = tie.close (tie.spec cast-c div-q rem-if1 sub-result returns returns-2)
+floor-div-spec = tie.close (tie.spec (λ c. search needs) div-q rem-if1 sub-result returns returns-2)

@@ -4,9 +4,6 @@ use borrow.Author.Needs.{needs}
 use Rattle.integers.proofs.division.floor_mod.Statement.{statement}
 use Rattle.integers.proofs.division.floor_mod.Tie as tie
 
-cast-c : tie.Need-cast-c
-cast-c c = search needs
-
 rem-m : tie.Need-rem-m
 rem-m c = search (needs, quot-fits)
 
@@ -27,4 +24,4 @@ returns-2 c = search (casts, mod-more)
 
 pub floor-mod-spec : {M : Type 1} → statement M
 floor-mod-spec =
-    tie.close (tie.spec cast-c rem-m add-result cast-result cast-result-2 returns returns-2)
+    tie.close (tie.spec (λ c. search needs) rem-m add-result cast-result cast-result-2 returns returns-2)

@@ -4,12 +4,6 @@ use borrow.Author.Needs.{needs}
 use Rattle.integers.proofs.division.share.Statement.{statement}
 use Rattle.integers.proofs.division.share.Tie as tie
 
-floor-div-requires : tie.Need-floor-div-requires
-floor-div-requires c κs = search needs
-
-floor-mod-requires : tie.Need-floor-mod-requires
-floor-mod-requires c κs = search needs
-
 add-result : tie.Need-add-result
 add-result c = search (more-fits, toZ-ofZ)
 
@@ -21,4 +15,4 @@ returns-2 c = search (share-least, toZ-ofZ)
 
 pub share-spec : {M : Type 1} → statement M
 share-spec =
-    tie.close (tie.spec floor-div-requires floor-mod-requires add-result returns returns-2)
+    tie.close (tie.spec (λ c κs. search needs) (λ c κs. search needs) add-result returns returns-2)

@@ -4,14 +4,8 @@ use borrow.Author.Needs.{needs}
 use Rattle.integers.proofs.words.read_i32.Statement.{statement}
 use Rattle.integers.proofs.words.read_i32.Tie as tie
 
-read-u32-requires : tie.Need-read-u32-requires
-read-u32-requires c κs = search needs
-
-signed-requires : tie.Need-signed-requires
-signed-requires c κs = search needs
-
 returns : tie.Need-returns
 returns c = (search (word-read, toZ-ofZ), search (word-range, toZ-ofZ))
 
 pub read-i32-spec : {M : Type 1} → statement M
-read-i32-spec = tie.close (tie.spec read-u32-requires signed-requires returns)
+read-i32-spec = tie.close (tie.spec (λ c κs. search needs) (λ c κs. search needs) returns)

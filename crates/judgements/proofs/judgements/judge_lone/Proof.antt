@@ -4,14 +4,8 @@ use Rattle.judgements.proofs.judgements.Steps.{lone-holds, lone-beyond,
 use Rattle.judgements.proofs.judgements.judge_lone.Statement.{statement}
 use Rattle.judgements.proofs.judgements.judge_lone.Tie as tie
 
-is-beyond-requires : tie.Need-is-beyond-requires
-is-beyond-requires c κs = search needs
-
 returns : tie.Need-returns
 returns c = search (lone-beyond, toZ-ofZ)
-
-is-negative-requires : tie.Need-is-negative-requires
-is-negative-requires c κs = search needs
 
 returns-2 : tie.Need-returns-2
 returns-2 c = search (lone-negative, toZ-ofZ)
@@ -21,4 +15,4 @@ returns-3 c = search (lone-holds, toZ-ofZ)
 
 pub judge-lone-spec : {M : Type 1} → statement M
 judge-lone-spec =
-    tie.close (tie.spec is-beyond-requires returns is-negative-requires returns-2 returns-3)
+    tie.close (tie.spec (λ c κs. search needs) returns (λ c κs. search needs) returns-2 returns-3)

@@ -4,20 +4,11 @@ use Rattle.judgements.proofs.judgements.Steps.{pair-indefinite, pair-ho
 use Rattle.judgements.proofs.judgements.judge_pair.Statement.{statement}
 use Rattle.judgements.proofs.judgements.judge_pair.Tie as tie
 
-any-beyond-requires : tie.Need-any-beyond-requires
-any-beyond-requires c κs = search needs
-
 returns : tie.Need-returns
 returns c = search pair-beyond
 
-is-negative-requires : tie.Need-is-negative-requires
-is-negative-requires c κs = search needs
-
 returns-2 : tie.Need-returns-2
 returns-2 c = search (pair-negative-p, toZ-ofZ)
-
-is-negative-requires-2 : tie.Need-is-negative-requires-2
-is-negative-requires-2 c κs = search needs
 
 returns-3 : tie.Need-returns-3
 returns-3 c = search (pair-negative-q, toZ-ofZ)
@@ -35,11 +26,11 @@ pub judge-pair-spec : {M : Type 1} → statement M
 judge-pair-spec =
     tie.close
     (tie.spec
-    any-beyond-requires
+    (λ c κs. search needs)
     returns
-    is-negative-requires
+    (λ c κs. search needs)
     returns-2
-    is-negative-requires-2
+    (λ c κs. search needs)
     returns-3
     is-indefinite-requires
     returns-4

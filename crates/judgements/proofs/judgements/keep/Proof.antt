@@ -3,12 +3,6 @@ use Rattle.judgements.proofs.judgements.Steps.{keep-found, keep-none}
 use Rattle.judgements.proofs.judgements.keep.Statement.{statement}
 use Rattle.judgements.proofs.judgements.keep.Tie as tie
 
-enum-told : tie.Need-enum-told
-enum-told c = search needs
-
-enum-told-2 : tie.Need-enum-told-2
-enum-told-2 c = search needs
-
 returns : tie.Need-returns
 returns c = search keep-found
 
@@ -16,4 +10,4 @@ returns-2 : tie.Need-returns-2
 returns-2 c = search keep-none
 
 pub keep-spec : {M : Type 1} → statement M
-keep-spec = tie.close (tie.spec enum-told enum-told-2 returns returns-2)
+keep-spec = tie.close (tie.spec (λ c. search needs) (λ c. search needs) returns returns-2)

@@ -3,15 +3,6 @@ use Rattle.judging.proofs.check.Steps.{writable, accepted-keeps, refuse
 use Rattle.judging.proofs.check.check.Statement.{statement}
 use Rattle.judging.proofs.check.check.Tie as tie
 
-decide-requires : tie.Need-decide-requires
-decide-requires c κs = search needs
-
-enum-told : tie.Need-enum-told
-enum-told c = search needs
-
-enum-told-2 : tie.Need-enum-told-2
-enum-told-2 c = search needs
-
 returns : tie.Need-returns
 returns c = (search needs, (search refused-output, (search check-decides, (search check-floors, search refused-keeps))))
 
@@ -21,9 +12,6 @@ aim-of-requires c κs = search (accepted-claim, accepted-proof)
 write-exact-requires : tie.Need-write-exact-requires
 write-exact-requires c κs = search writable
 
-same-length : tie.Need-same-length
-same-length c = search needs
-
 returns-2 : tie.Need-returns-2
 returns-2 c =
     (search needs, (search accepted-output, (search check-decides, (search check-floors, search accepted-keeps))))
@@ -32,11 +20,11 @@ pub check-spec : {M : Type 1} → statement M
 check-spec =
     tie.close
     (tie.spec
-    decide-requires
-    enum-told
-    enum-told-2
+    (λ c κs. search needs)
+    (λ c. search needs)
+    (λ c. search needs)
     returns
     aim-of-requires
     write-exact-requires
-    same-length
+    (λ c. search needs)
     returns-2)

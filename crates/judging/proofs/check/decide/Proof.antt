@@ -3,15 +3,6 @@ use Rattle.judging.proofs.check.Steps.{decided-input, decided-weighed, 
 use Rattle.judging.proofs.check.decide.Statement.{statement}
 use Rattle.judging.proofs.check.decide.Tie as tie
 
-check-input-requires : tie.Need-check-input-requires
-check-input-requires c κs = search needs
-
-enum-told : tie.Need-enum-told
-enum-told c = search needs
-
-enum-told-2 : tie.Need-enum-told-2
-enum-told-2 c = search needs
-
 returns : tie.Need-returns
 returns c = search decided-input
 
@@ -27,4 +18,4 @@ returns-2 c = search decided-weighed
 pub decide-spec : {M : Type 1} → statement M
 decide-spec =
     tie.close
-    (tie.spec check-input-requires enum-told enum-told-2 returns aim-of-requires weigh-requires returns-2)
+    (tie.spec (λ c κs. search needs) (λ c. search needs) (λ c. search needs) returns aim-of-requires weigh-requires returns-2)

@@ -12,29 +12,14 @@ Inv-loop x i₀ key₀ i key = (i ≤ i₀) × (i₀ ≤ 8) × (length x ≡ 8) 
 abbrev μ-loop : tie.MeasureT-loop
 μ-loop x i₀ key₀ i key = i
 
-variables-requires : tie.Need-variables-requires Inv-loop μ-loop
-variables-requires c κs = search needs
-
 loop-holds : tie.Need-loop-holds Inv-loop μ-loop
 loop-holds c = search (needs, from-none, from-low)
-
-sub-i : tie.Need-sub-i Inv-loop μ-loop
-sub-i c = search needs
 
 mul-key : tie.Need-mul-key Inv-loop μ-loop
 mul-key c = search times-fits
 
-array-read-wide : tie.Need-array-read-wide Inv-loop μ-loop
-array-read-wide c = search needs
-
-wide-requires : tie.Need-wide-requires Inv-loop μ-loop
-wide-requires c κs = search needs
-
 add-key : tie.Need-add-key Inv-loop μ-loop
 add-key c = search plus-fits
-
-loop-less : tie.Need-loop-less Inv-loop μ-loop
-loop-less c = search needs
 
 loop-again : tie.Need-loop-again Inv-loop μ-loop
 loop-again c = search (needs, from-on, from-lower)
@@ -48,13 +33,13 @@ key-of-spec =
     (tie.spec
     Inv-loop
     μ-loop
-    variables-requires
+    (λ c κs. search needs)
     loop-holds
-    sub-i
+    (λ c. search needs)
     mul-key
-    array-read-wide
-    wide-requires
+    (λ c. search needs)
+    (λ c κs. search needs)
     add-key
-    loop-less
+    (λ c. search needs)
     loop-again
     returns)

@@ -16,32 +16,8 @@ Inv-loop offsets e n i₀ value₀ i value = (i ≤ n) × (n ≤ mostVariables) 
 abbrev μ-loop : tie.MeasureT-loop
 μ-loop offsets e n i₀ value₀ i value = i
 
-variables-requires : tie.Need-variables-requires Inv-loop μ-loop
-variables-requires c κs = search needs
-
-fewer-requires : tie.Need-fewer-requires Inv-loop μ-loop
-fewer-requires c κs = search needs
-
 loop-holds : tie.Need-loop-holds Inv-loop μ-loop
 loop-holds c = search (needs, from-end)
-
-sub-i : tie.Need-sub-i Inv-loop μ-loop
-sub-i c = search needs
-
-offset-at-requires : tie.Need-offset-at-requires Inv-loop μ-loop
-offset-at-requires c κs = search needs
-
-array-read-power : tie.Need-array-read-power Inv-loop μ-loop
-array-read-power c = search needs
-
-power-requires : tie.Need-power-requires Inv-loop μ-loop
-power-requires c κs = search needs
-
-product-requires : tie.Need-product-requires Inv-loop μ-loop
-product-requires c κs = search needs
-
-loop-less : tie.Need-loop-less Inv-loop μ-loop
-loop-less c = search needs
 
 loop-again : tie.Need-loop-again Inv-loop μ-loop
 loop-again c = search (needs, from-more, toZ-ofZ)
@@ -55,14 +31,14 @@ monomial-spec =
     (tie.spec
     Inv-loop
     μ-loop
-    variables-requires
-    fewer-requires
+    (λ c κs. search needs)
+    (λ c κs. search needs)
     loop-holds
-    sub-i
-    offset-at-requires
-    array-read-power
-    power-requires
-    product-requires
-    loop-less
+    (λ c. search needs)
+    (λ c κs. search needs)
+    (λ c. search needs)
+    (λ c κs. search needs)
+    (λ c κs. search needs)
+    (λ c. search needs)
     loop-again
     returns)

@@ -8,12 +8,6 @@ use borrow.Author.Needs.{needs}
 use Rattle.monomials.proofs.powers.offset_at.Statement.{statement}
 use Rattle.monomials.proofs.powers.offset_at.Tie as tie
 
-mul-result : tie.Need-mul-result
-mul-result c = search needs
-
-shared-slice-copy-out-result : tie.Need-shared-slice-copy-out-result
-shared-slice-copy-out-result c = search needs
-
 cast-result : tie.Need-cast-result
 cast-result c =
     let f : SFits w32 (getD (c .before .args .offsets .now) (c .before .args .i) (pos 0)) = omega arith in
@@ -26,4 +20,4 @@ returns c =
     simp toZ-ofZ
 
 pub offset-at-spec : {M : Type 1} → statement M
-offset-at-spec = tie.close (tie.spec mul-result shared-slice-copy-out-result cast-result returns)
+offset-at-spec = tie.close (tie.spec (λ c. search needs) (λ c. search needs) cast-result returns)

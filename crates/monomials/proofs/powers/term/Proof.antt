@@ -4,14 +4,8 @@ use borrow.Author.Needs.{needs}
 use Rattle.monomials.proofs.powers.term.Statement.{statement}
 use Rattle.monomials.proofs.powers.term.Tie as tie
 
-monomial-requires : tie.Need-monomial-requires
-monomial-requires c κs = search needs
-
-product-requires : tie.Need-product-requires
-product-requires c κs = search needs
-
 returns : tie.Need-returns
 returns c = search (term-is, toZ-ofZ)
 
 pub term-spec : {M : Type 1} → statement M
-term-spec = tie.close (tie.spec monomial-requires product-requires returns)
+term-spec = tie.close (tie.spec (λ c κs. search needs) (λ c κs. search needs) returns)

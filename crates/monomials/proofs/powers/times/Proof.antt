@@ -4,17 +4,8 @@ use borrow.Author.Needs.{needs}
 use Rattle.monomials.proofs.powers.times.Statement.{statement}
 use Rattle.monomials.proofs.powers.times.Tie as tie
 
-magnitude-requires : tie.Need-magnitude-requires
-magnitude-requires c κs = search needs
-
-magnitude-requires-2 : tie.Need-magnitude-requires-2
-magnitude-requires-2 c κs = search needs
-
 returns : tie.Need-returns
 returns c = search (times-zero, toZ-ofZ)
-
-div-if2 : tie.Need-div-if2
-div-if2 c = search needs
 
 returns-2 : tie.Need-returns-2
 returns-2 c = search (times-large, toZ-ofZ)
@@ -28,4 +19,4 @@ returns-3 c = search (times-value, toZ-ofZ)
 pub times-spec : {M : Type 1} → statement M
 times-spec =
     tie.close
-    (tie.spec magnitude-requires magnitude-requires-2 returns div-if2 returns-2 mul-t7 returns-3)
+    (tie.spec (λ c κs. search needs) (λ c κs. search needs) returns (λ c. search needs) returns-2 mul-t7 returns-3)

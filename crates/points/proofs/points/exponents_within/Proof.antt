@@ -14,24 +14,12 @@ Inv-loop limit n x i₀ i = (i ≤ n) × Places x × Passed (λ a b. leb a limit
 abbrev μ-loop : tie.MeasureT-loop
 μ-loop limit n x i₀ i = n - i
 
-variables-requires : tie.Need-variables-requires Inv-loop μ-loop
-variables-requires c κs = search needs
-
 loop-holds : tie.Need-loop-holds Inv-loop μ-loop
 loop-holds c = search (needs, passed-none)
-
-array-read-if1 : tie.Need-array-read-if1 Inv-loop μ-loop
-array-read-if1 c = search needs
 
 returns : tie.Need-returns Inv-loop μ-loop
 unfolding exponentsWithin
 returns c = search (every-stops, lt-leb)
-
-add-i : tie.Need-add-i Inv-loop μ-loop
-add-i c = search needs
-
-loop-less : tie.Need-loop-less Inv-loop μ-loop
-loop-less c = search needs
 
 loop-again : tie.Need-loop-again Inv-loop μ-loop
 loop-again c = search (needs, passed-on, le-leb)
@@ -46,11 +34,11 @@ exponents-within-spec =
     (tie.spec
     Inv-loop
     μ-loop
-    variables-requires
+    (λ c κs. search needs)
     loop-holds
-    array-read-if1
+    (λ c. search needs)
     returns
-    add-i
-    loop-less
+    (λ c. search needs)
+    (λ c. search needs)
     loop-again
     returns-2)

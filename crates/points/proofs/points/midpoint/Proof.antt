@@ -15,35 +15,8 @@ Inv-loop n x y exps₀ i₀ exps i = (i ≤ n) × (n ≤ mostVariables) × Place
 abbrev μ-loop : tie.MeasureT-loop
 μ-loop n x y exps₀ i₀ exps i = n - i
 
-variables-requires : tie.Need-variables-requires Inv-loop μ-loop
-variables-requires c κs = search needs
-
-variables-requires-2 : tie.Need-variables-requires-2 Inv-loop μ-loop
-variables-requires-2 c κs = search needs
-
-fewer-requires : tie.Need-fewer-requires Inv-loop μ-loop
-fewer-requires c κs = search needs
-
 loop-holds : tie.Need-loop-holds Inv-loop μ-loop
 loop-holds c = search (needs, filled-none)
-
-array-read-half : tie.Need-array-read-half Inv-loop μ-loop
-array-read-half c = search needs
-
-array-read-half-2 : tie.Need-array-read-half-2 Inv-loop μ-loop
-array-read-half-2 c = search needs
-
-half-requires : tie.Need-half-requires Inv-loop μ-loop
-half-requires c κs = search needs
-
-array-write-exps : tie.Need-array-write-exps Inv-loop μ-loop
-array-write-exps c = search needs
-
-add-i : tie.Need-add-i Inv-loop μ-loop
-add-i c = search needs
-
-loop-less : tie.Need-loop-less Inv-loop μ-loop
-loop-less c = search needs
 
 loop-again : tie.Need-loop-again Inv-loop μ-loop
 loop-again c = search (needs, filled-on)
@@ -57,15 +30,15 @@ midpoint-spec =
     (tie.spec
     Inv-loop
     μ-loop
-    variables-requires
-    variables-requires-2
-    fewer-requires
+    (λ c κs. search needs)
+    (λ c κs. search needs)
+    (λ c κs. search needs)
     loop-holds
-    array-read-half
-    array-read-half-2
-    half-requires
-    array-write-exps
-    add-i
-    loop-less
+    (λ c. search needs)
+    (λ c. search needs)
+    (λ c κs. search needs)
+    (λ c. search needs)
+    (λ c. search needs)
+    (λ c. search needs)
     loop-again
     returns)

@@ -17,21 +17,6 @@ abbrev μ-loop : tie.MeasureT-loop
 loop-holds : tie.Need-loop-holds Inv-loop μ-loop
 loop-holds c = search (needs, filled-none)
 
-add-exps : tie.Need-add-exps Inv-loop μ-loop
-add-exps c = search needs
-
-shared-slice-read-exps : tie.Need-shared-slice-read-exps Inv-loop μ-loop
-shared-slice-read-exps c = search needs
-
-array-write-exps : tie.Need-array-write-exps Inv-loop μ-loop
-array-write-exps c = search needs
-
-add-i : tie.Need-add-i Inv-loop μ-loop
-add-i c = search needs
-
-loop-less : tie.Need-loop-less Inv-loop μ-loop
-loop-less c = search needs
-
 loop-again : tie.Need-loop-again Inv-loop μ-loop
 loop-again c = search (needs, filled-on)
 
@@ -46,10 +31,10 @@ point-at-spec =
     Inv-loop
     μ-loop
     loop-holds
-    add-exps
-    shared-slice-read-exps
-    array-write-exps
-    add-i
-    loop-less
+    (λ c. search needs)
+    (λ c. search needs)
+    (λ c. search needs)
+    (λ c. search needs)
+    (λ c. search needs)
     loop-again
     returns)

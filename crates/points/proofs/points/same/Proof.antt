@@ -14,12 +14,6 @@ Inv-loop n x y i₀ i = (i ≤ n) × Places x × Places y × Passed eqb x y i
 abbrev μ-loop : tie.MeasureT-loop
 μ-loop n x y i₀ i = n - i
 
-variables-requires : tie.Need-variables-requires Inv-loop μ-loop
-variables-requires c κs = search needs
-
-variables-requires-2 : tie.Need-variables-requires-2 Inv-loop μ-loop
-variables-requires-2 c κs = search needs
-
 returns : tie.Need-returns Inv-loop μ-loop
 unfolding samePoint
 returns c = search (needs, pair-fewer)
@@ -27,21 +21,9 @@ returns c = search (needs, pair-fewer)
 loop-holds : tie.Need-loop-holds Inv-loop μ-loop
 loop-holds c = search (needs, passed-none)
 
-array-read-if2 : tie.Need-array-read-if2 Inv-loop μ-loop
-array-read-if2 c = search needs
-
-array-read-if2-2 : tie.Need-array-read-if2-2 Inv-loop μ-loop
-array-read-if2-2 c = search needs
-
 returns-2 : tie.Need-returns-2 Inv-loop μ-loop
 unfolding samePoint
 returns-2 c = search (pair-stops, ne-eqb)
-
-add-i : tie.Need-add-i Inv-loop μ-loop
-add-i c = search needs
-
-loop-less : tie.Need-loop-less Inv-loop μ-loop
-loop-less c = search needs
 
 loop-again : tie.Need-loop-again Inv-loop μ-loop
 loop-again c = search (needs, passed-on, eq-eqb)
@@ -56,14 +38,14 @@ same-spec =
     (tie.spec
     Inv-loop
     μ-loop
-    variables-requires
-    variables-requires-2
+    (λ c κs. search needs)
+    (λ c κs. search needs)
     returns
     loop-holds
-    array-read-if2
-    array-read-if2-2
+    (λ c. search needs)
+    (λ c. search needs)
     returns-2
-    add-i
-    loop-less
+    (λ c. search needs)
+    (λ c. search needs)
     loop-again
     returns-3)

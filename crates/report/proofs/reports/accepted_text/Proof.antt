@@ -15,13 +15,10 @@ variables-requires c κs = search proof-reportable
 rows-text-requires : tie.Need-rows-text-requires
 rows-text-requires c κs = (search room-reportable, search rows-after)
 
-same-length : tie.Need-same-length
-same-length c = search needs
-
 returns : tie.Need-returns
 returns c = search accepted-written
 
 pub accepted-text-spec : {M : Type 1} → statement M
 accepted-text-spec =
     tie.close
-    (tie.spec first-text-requires variables-requires rows-text-requires same-length returns)
+    (tie.spec first-text-requires variables-requires rows-text-requires (λ c. search needs) returns)

@@ -4,20 +4,11 @@ use Rattle.report.proofs.reports.Steps.{first-feed, first-written, firs
 use Rattle.report.proofs.reports.first_text.Statement.{statement}
 use Rattle.report.proofs.reports.first_text.Tie as tie
 
-scale-requires : tie.Need-scale-requires
-scale-requires c κs = search needs
-
-floor-requires : tie.Need-floor-requires
-floor-requires c κs = search needs
-
 accepted-line-requires : tie.Need-accepted-line-requires
 accepted-line-requires c κs = search (first-room, toZ-ofZ)
 
 put-byte-requires : tie.Need-put-byte-requires
 put-byte-requires c κs = search (first-feed, toZ-ofZ)
-
-same-length : tie.Need-same-length
-same-length c = search needs
 
 returns : tie.Need-returns
 returns c = search (first-written, toZ-ofZ)
@@ -26,9 +17,9 @@ pub first-text-spec : {M : Type 1} → statement M
 first-text-spec =
     tie.close
     (tie.spec
-    scale-requires
-    floor-requires
+    (λ c κs. search needs)
+    (λ c κs. search needs)
     accepted-line-requires
     put-byte-requires
-    same-length
+    (λ c. search needs)
     returns)

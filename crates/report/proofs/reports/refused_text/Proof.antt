@@ -12,13 +12,10 @@ put-byte-requires : tie.Need-put-byte-requires
 unfolding refusedText ended
 put-byte-requires c κs = search room-then
 
-same-length : tie.Need-same-length
-same-length c = search needs
-
 returns : tie.Need-returns
 unfolding refusedText ended
 returns c = search written-then
 
 pub refused-text-spec : {M : Type 1} → statement M
 refused-text-spec =
-    tie.close (tie.spec refused-line-requires put-byte-requires same-length returns)
+    tie.close (tie.spec refused-line-requires put-byte-requires (λ c. search needs) returns)

@@ -9,17 +9,11 @@ returns c = search no-claim
 returns-2 : tie.Need-returns-2
 returns-2 c = search no-proof
 
-variables-requires : tie.Need-variables-requires
-variables-requires c κs = search needs
-
 returns-3 : tie.Need-returns-3
 returns-3 c = search many-variables
 
 returns-4 : tie.Need-returns-4
 returns-4 c = search many-rows
-
-proof-length-requires : tie.Need-proof-length-requires
-proof-length-requires c κs = search needs
 
 returns-5 : tie.Need-returns-5
 returns-5 c = search rows-reportable
@@ -30,8 +24,8 @@ reportable-spec =
     (tie.spec
     returns
     returns-2
-    variables-requires
+    (λ c κs. search needs)
     returns-3
     returns-4
-    proof-length-requires
+    (λ c κs. search needs)
     returns-5)

@@ -3,17 +3,11 @@ use Rattle.report.proofs.reports.Steps.{row-written, row-room, row-feed
 use Rattle.report.proofs.reports.row_text.Statement.{statement}
 use Rattle.report.proofs.reports.row_text.Tie as tie
 
-row-triple-requires : tie.Need-row-triple-requires
-row-triple-requires c κs = search needs
-
 row-line-requires : tie.Need-row-line-requires
 row-line-requires c κs = search row-room
 
 put-byte-requires : tie.Need-put-byte-requires
 put-byte-requires c κs = search row-feed
-
-same-length : tie.Need-same-length
-same-length c = search needs
 
 returns : tie.Need-returns
 returns c = search row-written
@@ -21,4 +15,4 @@ returns c = search row-written
 pub row-text-spec : {M : Type 1} → statement M
 row-text-spec =
     tie.close
-    (tie.spec row-triple-requires row-line-requires put-byte-requires same-length returns)
+    (tie.spec (λ c κs. search needs) row-line-requires put-byte-requires (λ c. search needs) returns)

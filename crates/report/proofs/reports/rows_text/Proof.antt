@@ -18,17 +18,8 @@ loop-holds c = search (needs, rows-none)
 row-text-requires : tie.Need-row-text-requires Inv-loop μ-loop
 row-text-requires c κs = search (needs, next-room)
 
-add-i : tie.Need-add-i Inv-loop μ-loop
-add-i c = search needs
-
-loop-less : tie.Need-loop-less Inv-loop μ-loop
-loop-less c = search needs
-
 loop-again : tie.Need-loop-again Inv-loop μ-loop
 loop-again c = search (needs, rows-more)
-
-same-length : tie.Need-same-length Inv-loop μ-loop
-same-length c = search needs
 
 returns : tie.Need-returns Inv-loop μ-loop
 returns c = search rows-all
@@ -41,8 +32,8 @@ rows-text-spec =
     μ-loop
     loop-holds
     row-text-requires
-    add-i
-    loop-less
+    (λ c. search needs)
+    (λ c. search needs)
     loop-again
-    same-length
+    (λ c. search needs)
     returns)

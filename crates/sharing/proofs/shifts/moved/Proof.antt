@@ -7,9 +7,6 @@ use Rattle.sharing.proofs.shifts.moved.Tie as tie
 sub-share : tie.Need-sub-share
 sub-share c = search (error-fits, toZ-ofZ)
 
-share-requires : tie.Need-share-requires
-share-requires c κs = search needs
-
 add-result : tie.Need-add-result
 add-result c = search (moved-fits, toZ-ofZ)
 
@@ -17,4 +14,4 @@ returns : tie.Need-returns
 returns c = search (moved-is, toZ-ofZ)
 
 pub moved-spec : {M : Type 1} → statement M
-moved-spec = tie.close (tie.spec sub-share share-requires add-result returns)
+moved-spec = tie.close (tie.spec sub-share (λ c κs. search needs) add-result returns)

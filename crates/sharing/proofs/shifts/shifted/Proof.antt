@@ -6,12 +6,6 @@ use Rattle.sharing.proofs.shifts.Steps.{row-here, held-small, held-some
 use Rattle.sharing.proofs.shifts.shifted.Statement.{statement}
 use Rattle.sharing.proofs.shifts.shifted.Tie as tie
 
-key-of-requires : tie.Need-key-of-requires
-key-of-requires c κs = search needs
-
-shape-of-requires : tie.Need-shape-of-requires
-shape-of-requires c κs = search needs
-
 held-requires : tie.Need-held-requires
 held-requires c κs = search (proof-checked, row-here, own-small, key-here)
 
@@ -28,8 +22,8 @@ pub shifted-spec : {M : Type 1} → statement M
 shifted-spec =
     tie.close
     (tie.spec
-    key-of-requires
-    shape-of-requires
+    (λ c κs. search needs)
+    (λ c κs. search needs)
     held-requires
     target-at-requires
     moved-requires

@@ -3,9 +3,6 @@ use Rattle.sharing.proofs.shifts.Steps.{row-here, is-row, row-shifted, 
 use Rattle.sharing.proofs.shifts.shifted_row.Statement.{statement}
 use Rattle.sharing.proofs.shifts.shifted_row.Tie as tie
 
-shape-of-requires : tie.Need-shape-of-requires
-shape-of-requires c κs = search needs
-
 row-at-requires : tie.Need-row-at-requires
 row-at-requires c κs = search (needs, room-here, row-here)
 
@@ -19,7 +16,7 @@ pub shifted-row-spec : {M : Type 1} → statement M
 shifted-row-spec =
     tie.close
     (tie.spec
-    shape-of-requires
+    (λ c κs. search needs)
     row-at-requires
     shifted-weights-requires
     returns)

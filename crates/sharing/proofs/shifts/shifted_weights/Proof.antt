@@ -4,23 +4,14 @@ use Rattle.sharing.proofs.shifts.Steps.{at-v-carried, lone-shifted, pai
 use Rattle.sharing.proofs.shifts.shifted_weights.Statement.{statement}
 use Rattle.sharing.proofs.shifts.shifted_weights.Tie as tie
 
-enum-known-weights : tie.Need-enum-known-weights
-enum-known-weights c = search needs
-
 shifted-requires : tie.Need-shifted-requires
 shifted-requires c κs = search (needs, at-v-carried, p-within, p-held, toZ-ofZ)
 
 shifted-requires-2 : tie.Need-shifted-requires-2
 shifted-requires-2 c κs = search (needs, at-w-carried, q-within, q-held, toZ-ofZ)
 
-midpoint-requires : tie.Need-midpoint-requires
-midpoint-requires c κs = search needs
-
 shifted-requires-3 : tie.Need-shifted-requires-3
 shifted-requires-3 c κs = search (needs, at-u-carried, r-within, r-held, toZ-ofZ)
-
-enum-known-weights-2 : tie.Need-enum-known-weights-2
-enum-known-weights-2 c = search needs
 
 shifted-requires-4 : tie.Need-shifted-requires-4
 shifted-requires-4 c κs = search (needs, at-v-carried, lone-within, lone-held, toZ-ofZ)
@@ -35,12 +26,12 @@ pub shifted-weights-spec : {M : Type 1} → statement M
 shifted-weights-spec =
     tie.close
     (tie.spec
-    enum-known-weights
+    (λ c. search needs)
     shifted-requires
     shifted-requires-2
-    midpoint-requires
+    (λ c κs. search needs)
     shifted-requires-3
-    enum-known-weights-2
+    (λ c. search needs)
     shifted-requires-4
     returns
     returns-2)

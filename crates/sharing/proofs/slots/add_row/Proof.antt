@@ -3,35 +3,17 @@ use Rattle.sharing.proofs.slots.Steps.{small-third, lone-added, q-insid
 use Rattle.sharing.proofs.slots.add_row.Statement.{statement}
 use Rattle.sharing.proofs.slots.add_row.Tie as tie
 
-v-key-requires : tie.Need-v-key-requires
-v-key-requires c κs = search needs
-
-w-key-requires : tie.Need-w-key-requires
-w-key-requires c κs = search needs
-
-triple-place-requires : tie.Need-triple-place-requires
-triple-place-requires c κs = search needs
-
 add-if-requires : tie.Need-add-if-requires
 add-if-requires c κs = search (needs, p-inside, p-within, small-first)
 
 returns : tie.Need-returns
 returns c = search lone-added
 
-add-add-if : tie.Need-add-add-if
-add-add-if c = search needs
-
 add-if-requires-2 : tie.Need-add-if-requires-2
 add-if-requires-2 c κs = search (needs, q-inside, q-within, small-second)
 
 add-add-if-2 : tie.Need-add-add-if-2
 add-add-if-2 c = search ends-fit
-
-mul-add-if : tie.Need-mul-add-if
-mul-add-if c = search needs
-
-add-add-if-3 : tie.Need-add-add-if-3
-add-add-if-3 c = search needs
 
 add-if-requires-3 : tie.Need-add-if-requires-3
 add-if-requires-3 c κs = search (needs, r-inside, r-within, small-third)
@@ -43,15 +25,15 @@ pub add-row-spec : {M : Type 1} → statement M
 add-row-spec =
     tie.close
     (tie.spec
-    v-key-requires
-    w-key-requires
-    triple-place-requires
+    (λ c κs. search needs)
+    (λ c κs. search needs)
+    (λ c κs. search needs)
     add-if-requires
     returns
-    add-add-if
+    (λ c. search needs)
     add-if-requires-2
     add-add-if-2
-    mul-add-if
-    add-add-if-3
+    (λ c. search needs)
+    (λ c. search needs)
     add-if-requires-3
     returns-2)

@@ -7,9 +7,6 @@ use Rattle.sharing.proofs.slots.held.Tie as tie
 scan-requires : tie.Need-scan-requires
 scan-requires c κs = search (needs, tally-none)
 
-scan-requires-2 : tie.Need-scan-requires-2
-scan-requires-2 c κs = search needs
-
 add-t9 : tie.Need-add-t9
 add-t9 c = search rank-fits
 
@@ -17,4 +14,4 @@ returns : tie.Need-returns
 returns c = search (held-is, toZ-ofZ)
 
 pub held-spec : {M : Type 1} → statement M
-held-spec = tie.close (tie.spec scan-requires scan-requires-2 add-t9 returns)
+held-spec = tie.close (tie.spec scan-requires (λ c κs. search needs) add-t9 returns)

@@ -3,12 +3,6 @@ use Rattle.sharing.proofs.slots.Steps.{ends-fit, key-second, key-first,
 use Rattle.sharing.proofs.slots.holds_key.Statement.{statement}
 use Rattle.sharing.proofs.slots.holds_key.Tie as tie
 
-v-key-requires : tie.Need-v-key-requires
-v-key-requires c κs = search needs
-
-w-key-requires : tie.Need-w-key-requires
-w-key-requires c κs = search needs
-
 returns : tie.Need-returns
 returns c = search key-first
 
@@ -18,13 +12,10 @@ returns-2 c = search key-second
 add-result : tie.Need-add-result
 add-result c = search ends-fit
 
-mul-result : tie.Need-mul-result
-mul-result c = search needs
-
 returns-3 : tie.Need-returns-3
 returns-3 c = search key-middle
 
 pub holds-key-spec : {M : Type 1} → statement M
 holds-key-spec =
     tie.close
-    (tie.spec v-key-requires w-key-requires returns returns-2 add-result mul-result returns-3)
+    (tie.spec (λ c κs. search needs) (λ c κs. search needs) returns returns-2 add-result (λ c. search needs) returns-3)

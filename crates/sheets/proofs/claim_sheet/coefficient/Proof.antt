@@ -4,9 +4,6 @@ use Rattle.sheets.proofs.claim_sheet.Steps.{coefficient-read, points-lo
 use Rattle.sheets.proofs.claim_sheet.coefficient.Statement.{statement}
 use Rattle.sheets.proofs.claim_sheet.coefficient.Tie as tie
 
-place-of-requires : tie.Need-place-of-requires
-place-of-requires c κs = search needs
-
 place-of-requires-2 : tie.Need-place-of-requires-2
 place-of-requires-2 c κs = search (needs, points-low)
 
@@ -18,4 +15,4 @@ returns c = search (coefficient-read, toZ-ofZ)
 
 pub coefficient-spec : {M : Type 1} → statement M
 coefficient-spec =
-    tie.close (tie.spec place-of-requires place-of-requires-2 read-i32-requires returns)
+    tie.close (tie.spec (λ c κs. search needs) place-of-requires-2 read-i32-requires returns)

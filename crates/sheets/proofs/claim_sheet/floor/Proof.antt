@@ -4,12 +4,9 @@ use borrow.Author.Needs.{needs}
 use Rattle.sheets.proofs.claim_sheet.floor.Statement.{statement}
 use Rattle.sheets.proofs.claim_sheet.floor.Tie as tie
 
-read-i32-requires : tie.Need-read-i32-requires
-read-i32-requires c κs = search needs
-
 returns : tie.Need-returns
 unfolding floorOf
 returns c = search (needs, toZ-ofZ)
 
 pub floor-spec : {M : Type 1} → statement M
-floor-spec = tie.close (tie.spec read-i32-requires returns)
+floor-spec = tie.close (tie.spec (λ c κs. search needs) returns)

@@ -4,9 +4,6 @@ use Rattle.sheets.proofs.claim_sheet.Steps.{point-inside, point-late}
 use Rattle.sheets.proofs.claim_sheet.term_key.Statement.{statement}
 use Rattle.sheets.proofs.claim_sheet.term_key.Tie as tie
 
-place-of-requires : tie.Need-place-of-requires
-place-of-requires c κs = search needs
-
 key-at-requires : tie.Need-key-at-requires
 key-at-requires c κs = search (needs, point-inside, point-late)
 
@@ -15,4 +12,4 @@ unfolding termPoint
 returns c = cc
 
 pub term-key-spec : {M : Type 1} → statement M
-term-key-spec = tie.close (tie.spec place-of-requires key-at-requires returns)
+term-key-spec = tie.close (tie.spec (λ c κs. search needs) key-at-requires returns)

@@ -4,9 +4,6 @@ use Rattle.sheets.proofs.claim_sheet.Steps.{point-inside}
 use Rattle.sheets.proofs.claim_sheet.term_point.Statement.{statement}
 use Rattle.sheets.proofs.claim_sheet.term_point.Tie as tie
 
-place-of-requires : tie.Need-place-of-requires
-place-of-requires c κs = search needs
-
 point-at-requires : tie.Need-point-at-requires
 point-at-requires c κs = search (needs, point-inside)
 
@@ -15,4 +12,4 @@ unfolding termPoint
 returns c = cc
 
 pub term-point-spec : {M : Type 1} → statement M
-term-point-spec = tie.close (tie.spec place-of-requires point-at-requires returns)
+term-point-spec = tie.close (tie.spec (λ c κs. search needs) point-at-requires returns)

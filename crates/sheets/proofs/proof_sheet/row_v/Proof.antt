@@ -4,9 +4,6 @@ use Rattle.sheets.proofs.proof_sheet.Steps.{v-inside}
 use Rattle.sheets.proofs.proof_sheet.row_v.Statement.{statement}
 use Rattle.sheets.proofs.proof_sheet.row_v.Tie as tie
 
-row-place-requires : tie.Need-row-place-requires
-row-place-requires c κs = search needs
-
 point-at-requires : tie.Need-point-at-requires
 point-at-requires c κs = search (needs, v-inside)
 
@@ -15,4 +12,4 @@ unfolding vOf
 returns c = cc
 
 pub row-v-spec : {M : Type 1} → statement M
-row-v-spec = tie.close (tie.spec row-place-requires point-at-requires returns)
+row-v-spec = tie.close (tie.spec (λ c κs. search needs) point-at-requires returns)

@@ -4,12 +4,6 @@ use Rattle.sheets.proofs.proof_sheet.Steps.{w-inside}
 use Rattle.sheets.proofs.proof_sheet.row_w.Statement.{statement}
 use Rattle.sheets.proofs.proof_sheet.row_w.Tie as tie
 
-row-place-requires : tie.Need-row-place-requires
-row-place-requires c κs = search needs
-
-add-point-at : tie.Need-add-point-at
-add-point-at c = search needs
-
 point-at-requires : tie.Need-point-at-requires
 point-at-requires c κs = search (needs, w-inside)
 
@@ -18,4 +12,4 @@ unfolding wOf
 returns c = cc
 
 pub row-w-spec : {M : Type 1} → statement M
-row-w-spec = tie.close (tie.spec row-place-requires add-point-at point-at-requires returns)
+row-w-spec = tie.close (tie.spec (λ c κs. search needs) (λ c. search needs) point-at-requires returns)

@@ -3,12 +3,9 @@ use borrow.Author.Needs.{needs}
 use Rattle.sheets.proofs.proof_sheet.scale.Statement.{statement}
 use Rattle.sheets.proofs.proof_sheet.scale.Tie as tie
 
-read-u32-requires : tie.Need-read-u32-requires
-read-u32-requires c κs = search needs
-
 returns : tie.Need-returns
 unfolding scaleOf
 returns c = search needs
 
 pub scale-spec : {M : Type 1} → statement M
-scale-spec = tie.close (tie.spec read-u32-requires returns)
+scale-spec = tie.close (tie.spec (λ c κs. search needs) returns)

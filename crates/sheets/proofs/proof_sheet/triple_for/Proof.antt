@@ -4,12 +4,6 @@ use borrow.Author.Needs.{needs}
 use Rattle.sheets.proofs.proof_sheet.triple_for.Statement.{statement}
 use Rattle.sheets.proofs.proof_sheet.triple_for.Tie as tie
 
-enum-known-weights : tie.Need-enum-known-weights
-enum-known-weights c = search needs
-
-enum-known-weights-2 : tie.Need-enum-known-weights-2
-enum-known-weights-2 c = search needs
-
 returns : tie.Need-returns
 returns c = search (for-pair, toZ-ofZ)
 
@@ -17,4 +11,4 @@ returns-2 : tie.Need-returns-2
 returns-2 c = search (for-lone, toZ-ofZ)
 
 pub triple-for-spec : {M : Type 1} → statement M
-triple-for-spec = tie.close (tie.spec enum-known-weights enum-known-weights-2 returns returns-2)
+triple-for-spec = tie.close (tie.spec (λ c. search needs) (λ c. search needs) returns returns-2)

@@ -3,12 +3,6 @@ use Rattle.sheets.proofs.proof_sheet.Steps.{triple-low, rows-low, tripl
 use Rattle.sheets.proofs.proof_sheet.triple_place.Statement.{statement}
 use Rattle.sheets.proofs.proof_sheet.triple_place.Tie as tie
 
-mul-place-of : tie.Need-mul-place-of
-mul-place-of c = search needs
-
-place-of-requires : tie.Need-place-of-requires
-place-of-requires c κs = search needs
-
 place-of-requires-2 : tie.Need-place-of-requires-2
 place-of-requires-2 c κs = search (needs, rows-low)
 
@@ -16,4 +10,4 @@ returns : tie.Need-returns
 returns c = (search triple-here, search triple-low)
 
 pub triple-place-spec : {M : Type 1} → statement M
-triple-place-spec = tie.close (tie.spec mul-place-of place-of-requires place-of-requires-2 returns)
+triple-place-spec = tie.close (tie.spec (λ c. search needs) (λ c κs. search needs) place-of-requires-2 returns)

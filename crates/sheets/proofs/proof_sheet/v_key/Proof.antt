@@ -4,9 +4,6 @@ use Rattle.sheets.proofs.proof_sheet.Steps.{v-inside, v-late}
 use Rattle.sheets.proofs.proof_sheet.v_key.Statement.{statement}
 use Rattle.sheets.proofs.proof_sheet.v_key.Tie as tie
 
-row-place-requires : tie.Need-row-place-requires
-row-place-requires c κs = search needs
-
 key-at-requires : tie.Need-key-at-requires
 key-at-requires c κs = search (needs, v-inside, v-late)
 
@@ -15,4 +12,4 @@ unfolding vOf
 returns c = cc
 
 pub v-key-spec : {M : Type 1} → statement M
-v-key-spec = tie.close (tie.spec row-place-requires key-at-requires returns)
+v-key-spec = tie.close (tie.spec (λ c κs. search needs) key-at-requires returns)

@@ -4,12 +4,6 @@ use Rattle.sheets.proofs.proof_sheet.Steps.{w-late, w-inside}
 use Rattle.sheets.proofs.proof_sheet.w_key.Statement.{statement}
 use Rattle.sheets.proofs.proof_sheet.w_key.Tie as tie
 
-row-place-requires : tie.Need-row-place-requires
-row-place-requires c κs = search needs
-
-add-key-at : tie.Need-add-key-at
-add-key-at c = search needs
-
 key-at-requires : tie.Need-key-at-requires
 key-at-requires c κs = search (needs, w-inside, w-late)
 
@@ -18,4 +12,4 @@ unfolding wOf
 returns c = cc
 
 pub w-key-spec : {M : Type 1} → statement M
-w-key-spec = tie.close (tie.spec row-place-requires add-key-at key-at-requires returns)
+w-key-spec = tie.close (tie.spec (λ c κs. search needs) (λ c. search needs) key-at-requires returns)

@@ -4,14 +4,8 @@ use Rattle.targets.proofs.targets.Steps.{aim-is}
 use Rattle.targets.proofs.targets.aim_of.Statement.{statement}
 use Rattle.targets.proofs.targets.aim_of.Tie as tie
 
-floor-requires : tie.Need-floor-requires
-floor-requires c κs = search needs
-
-scale-requires : tie.Need-scale-requires
-scale-requires c κs = search needs
-
 returns : tie.Need-returns
 returns c = search (aim-is, toZ-ofZ)
 
 pub aim-of-spec : {M : Type 1} → statement M
-aim-of-spec = tie.close (tie.spec floor-requires scale-requires returns)
+aim-of-spec = tie.close (tie.spec (λ c κs. search needs) (λ c κs. search needs) returns)

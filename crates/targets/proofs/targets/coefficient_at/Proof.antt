@@ -4,15 +4,6 @@ use Rattle.targets.proofs.targets.Steps.{found-inside, term-small, foun
 use Rattle.targets.proofs.targets.coefficient_at.Statement.{statement}
 use Rattle.targets.proofs.targets.coefficient_at.Tie as tie
 
-find-term-requires : tie.Need-find-term-requires
-find-term-requires c κs = search needs
-
-enum-known-i : tie.Need-enum-known-i
-enum-known-i c = search needs
-
-enum-told : tie.Need-enum-told
-enum-told c = search needs
-
 returns : tie.Need-returns
 returns c = search (needs, none-with)
 
@@ -25,4 +16,4 @@ returns-2 c = search (found-with, term-small, found-inside, toZ-ofZ)
 pub coefficient-at-spec : {M : Type 1} → statement M
 coefficient-at-spec =
     tie.close
-    (tie.spec find-term-requires enum-known-i enum-told returns coefficient-requires returns-2)
+    (tie.spec (λ c κs. search needs) (λ c. search needs) (λ c. search needs) returns coefficient-requires returns-2)

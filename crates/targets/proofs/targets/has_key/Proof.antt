@@ -3,11 +3,8 @@ use Rattle.targets.proofs.targets.Steps.{key-tested}
 use Rattle.targets.proofs.targets.has_key.Statement.{statement}
 use Rattle.targets.proofs.targets.has_key.Tie as tie
 
-term-key-requires : tie.Need-term-key-requires
-term-key-requires c κs = search needs
-
 returns : tie.Need-returns
 returns c = search key-tested
 
 pub has-key-spec : {M : Type 1} → statement M
-has-key-spec = tie.close (tie.spec term-key-requires returns)
+has-key-spec = tie.close (tie.spec (λ c κs. search needs) returns)

@@ -4,9 +4,6 @@ use Rattle.targets.proofs.targets.Steps.{scaled-small, product-is, prod
 use Rattle.targets.proofs.targets.scaled.Statement.{statement}
 use Rattle.targets.proofs.targets.scaled.Tie as tie
 
-cast-result : tie.Need-cast-result
-cast-result c = search needs
-
 mul-result : tie.Need-mul-result
 mul-result c = search (product-fits, toZ-ofZ)
 
@@ -14,4 +11,4 @@ returns : tie.Need-returns
 returns c = search (product-is, scaled-small, toZ-ofZ)
 
 pub scaled-spec : {M : Type 1} → statement M
-scaled-spec = tie.close (tie.spec cast-result mul-result returns)
+scaled-spec = tie.close (tie.spec (λ c. search needs) mul-result returns)

@@ -5,12 +5,6 @@ use Rattle.targets.proofs.targets.Steps.{facts-here, target-made}
 use Rattle.targets.proofs.targets.target_at.Statement.{statement}
 use Rattle.targets.proofs.targets.target_at.Tie as tie
 
-variables-requires : tie.Need-variables-requires
-variables-requires c κs = search needs
-
-term-count-requires : tie.Need-term-count-requires
-term-count-requires c κs = search needs
-
 coefficient-at-requires : tie.Need-coefficient-at-requires
 coefficient-at-requires c κs = search (needs, facts-here)
 
@@ -24,8 +18,8 @@ pub target-at-spec : {M : Type 1} → statement M
 target-at-spec =
     tie.close
     (tie.spec
-    variables-requires
-    term-count-requires
+    (λ c κs. search needs)
+    (λ c κs. search needs)
     coefficient-at-requires
     target-with-requires
     returns)

@@ -5,12 +5,6 @@ use Rattle.targets.proofs.targets.Steps.{term-small, facts-here, room-h
 use Rattle.targets.proofs.targets.term_target.Statement.{statement}
 use Rattle.targets.proofs.targets.term_target.Tie as tie
 
-variables-requires : tie.Need-variables-requires
-variables-requires c κs = search needs
-
-term-count-requires : tie.Need-term-count-requires
-term-count-requires c κs = search needs
-
 coefficient-requires : tie.Need-coefficient-requires
 coefficient-requires c κs = search (room-here, term-inside)
 
@@ -24,8 +18,8 @@ pub term-target-spec : {M : Type 1} → statement M
 term-target-spec =
     tie.close
     (tie.spec
-    variables-requires
-    term-count-requires
+    (λ c κs. search needs)
+    (λ c κs. search needs)
     coefficient-requires
     target-with-requires
     returns)

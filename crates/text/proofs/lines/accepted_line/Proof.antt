@@ -6,9 +6,6 @@ use Rattle.text.proofs.lines.Steps.{scale-then}
 use Rattle.text.proofs.lines.accepted_line.Statement.{statement}
 use Rattle.text.proofs.lines.accepted_line.Tie as tie
 
-slice-aggregate-counted : tie.Need-slice-aggregate-counted
-slice-aggregate-counted c = search needs
-
 counted-requires : tie.Need-counted-requires
 unfolding acceptedLine
 counted-requires c κs = search room-first
@@ -17,9 +14,6 @@ scale-text-requires : tie.Need-scale-text-requires
 unfolding acceptedLine
 scale-text-requires c κs = search (room-then, toZ-ofZ)
 
-same-length : tie.Need-same-length
-same-length c = search needs
-
 returns : tie.Need-returns
 unfolding acceptedLine
 returns c = search (scale-then, toZ-ofZ)
@@ -27,4 +21,4 @@ returns c = search (scale-then, toZ-ofZ)
 pub accepted-line-spec : {M : Type 1} → statement M
 accepted-line-spec =
     tie.close
-    (tie.spec slice-aggregate-counted counted-requires scale-text-requires same-length returns)
+    (tie.spec (λ c. search needs) counted-requires scale-text-requires (λ c. search needs) returns)

@@ -5,22 +5,13 @@ use borrow.Author.Needs.{needs}
 use Rattle.text.proofs.lines.later_text.Statement.{statement}
 use Rattle.text.proofs.lines.later_text.Tie as tie
 
-slice-aggregate-numbered : tie.Need-slice-aggregate-numbered
-slice-aggregate-numbered c = search needs
-
 numbered-requires : tie.Need-numbered-requires
 unfolding laterText
 numbered-requires c κs = search (room-first, toZ-ofZ)
 
-slice-aggregate-numbered-2 : tie.Need-slice-aggregate-numbered-2
-slice-aggregate-numbered-2 c = search needs
-
 numbered-requires-2 : tie.Need-numbered-requires-2
 unfolding laterText
 numbered-requires-2 c κs = search (numbered-room, toZ-ofZ)
-
-same-length : tie.Need-same-length
-same-length c = search needs
 
 returns : tie.Need-returns
 unfolding laterText
@@ -30,9 +21,9 @@ pub later-text-spec : {M : Type 1} → statement M
 later-text-spec =
     tie.close
     (tie.spec
-    slice-aggregate-numbered
+    (λ c. search needs)
     numbered-requires
-    slice-aggregate-numbered-2
+    (λ c. search needs)
     numbered-requires-2
-    same-length
+    (λ c. search needs)
     returns)

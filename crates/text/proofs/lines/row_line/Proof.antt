@@ -4,9 +4,6 @@ use borrow.Author.Needs.{needs}
 use Rattle.text.proofs.lines.row_line.Statement.{statement}
 use Rattle.text.proofs.lines.row_line.Tie as tie
 
-slice-aggregate-counted : tie.Need-slice-aggregate-counted
-slice-aggregate-counted c = search needs
-
 counted-requires : tie.Need-counted-requires
 unfolding rowLine
 counted-requires c κs = search room-first
@@ -15,9 +12,6 @@ weights-text-requires : tie.Need-weights-text-requires
 unfolding rowLine
 weights-text-requires c κs = search room-then
 
-same-length : tie.Need-same-length
-same-length c = search needs
-
 returns : tie.Need-returns
 unfolding rowLine
 returns c = search written-then
@@ -25,4 +19,4 @@ returns c = search written-then
 pub row-line-spec : {M : Type 1} → statement M
 row-line-spec =
     tie.close
-    (tie.spec slice-aggregate-counted counted-requires weights-text-requires same-length returns)
+    (tie.spec (λ c. search needs) counted-requires weights-text-requires (λ c. search needs) returns)

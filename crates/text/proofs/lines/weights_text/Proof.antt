@@ -6,9 +6,6 @@ use Rattle.text.proofs.lines.Steps.{later-then, later-room}
 use Rattle.text.proofs.lines.weights_text.Statement.{statement}
 use Rattle.text.proofs.lines.weights_text.Tie as tie
 
-slice-aggregate-numbered : tie.Need-slice-aggregate-numbered
-slice-aggregate-numbered c = search needs
-
 numbered-requires : tie.Need-numbered-requires
 unfolding weightsText
 numbered-requires c κs = search (room-first, toZ-ofZ)
@@ -17,9 +14,6 @@ later-text-requires : tie.Need-later-text-requires
 unfolding weightsText
 later-text-requires c κs = search (later-room, toZ-ofZ)
 
-same-length : tie.Need-same-length
-same-length c = search needs
-
 returns : tie.Need-returns
 unfolding weightsText
 returns c = search (later-then, toZ-ofZ)
@@ -27,4 +21,4 @@ returns c = search (later-then, toZ-ofZ)
 pub weights-text-spec : {M : Type 1} → statement M
 weights-text-spec =
     tie.close
-    (tie.spec slice-aggregate-numbered numbered-requires later-text-requires same-length returns)
+    (tie.spec (λ c. search needs) numbered-requires later-text-requires (λ c. search needs) returns)

@@ -12,12 +12,9 @@ natural-requires : tie.Need-natural-requires
 unfolding counted
 natural-requires c κs = search room-then
 
-same-length : tie.Need-same-length
-same-length c = search needs
-
 returns : tie.Need-returns
 unfolding counted
 returns c = search written-then
 
 pub counted-spec : {M : Type 1} → statement M
-counted-spec = tie.close (tie.spec put-text-requires natural-requires same-length returns)
+counted-spec = tie.close (tie.spec put-text-requires natural-requires (λ c. search needs) returns)

@@ -14,11 +14,8 @@ integer-requires : tie.Need-integer-requires
 unfolding numbered
 integer-requires c κs = search (room-then, toZ-ofZ)
 
-same-length : tie.Need-same-length
-same-length c = search needs
-
 returns : tie.Need-returns
 returns c = search (numbered-written, toZ-ofZ)
 
 pub numbered-spec : {M : Type 1} → statement M
-numbered-spec = tie.close (tie.spec put-text-requires integer-requires same-length returns)
+numbered-spec = tie.close (tie.spec put-text-requires integer-requires (λ c. search needs) returns)

@@ -15,9 +15,6 @@ Inv-loop claim proof aim out₀ shape i₀ out i =
 abbrev μ-loop : tie.MeasureT-loop
 μ-loop claim proof aim out₀ shape i₀ out i = shape .k - i
 
-shape-of-requires : tie.Need-shape-of-requires Inv-loop μ-loop
-shape-of-requires c κs = search needs
-
 loop-holds : tie.Need-loop-holds Inv-loop μ-loop
 loop-holds c = (search needs, search rows-none)
 
@@ -26,12 +23,6 @@ shifted-row-requires c κs = search (needs, row-inside)
 
 write-weights-requires : tie.Need-write-weights-requires Inv-loop μ-loop
 write-weights-requires c κs = (search room-kept, search needs, search weights-narrow)
-
-add-i : tie.Need-add-i Inv-loop μ-loop
-add-i c = search needs
-
-loop-less : tie.Need-loop-less Inv-loop μ-loop
-loop-less c = search needs
 
 loop-again : tie.Need-loop-again Inv-loop μ-loop
 loop-again c = (search needs, search row-written)
@@ -48,12 +39,12 @@ write-rows-spec =
     (tie.spec
     Inv-loop
     μ-loop
-    shape-of-requires
+    (λ c κs. search needs)
     loop-holds
     shifted-row-requires
     write-weights-requires
-    add-i
-    loop-less
+    (λ c. search needs)
+    (λ c. search needs)
     loop-again
     same-length
     returns)

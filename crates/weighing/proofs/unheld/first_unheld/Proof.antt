@@ -34,32 +34,14 @@ Inv-terms claim proof aim n t shape i₀ i =
 abbrev μ-terms : tie.MeasureT-terms
 μ-terms claim proof aim n t shape i₀ i = suc t - i
 
-variables-requires : tie.Need-variables-requires Inv-loop μ-loop Inv-terms μ-terms
-variables-requires c κs = search needs
-
-term-count-requires : tie.Need-term-count-requires Inv-loop μ-loop Inv-terms μ-terms
-term-count-requires c κs = search needs
-
-shape-of-requires : tie.Need-shape-of-requires Inv-loop μ-loop Inv-terms μ-terms
-shape-of-requires c κs = search needs
-
 terms-holds : tie.Need-terms-holds Inv-loop μ-loop Inv-terms μ-terms
 terms-holds c = search (needs, first-start)
 
 point-for-requires : tie.Need-point-for-requires Inv-loop μ-loop Inv-terms μ-terms
 point-for-requires c κs = search (needs, claim-here)
 
-key-of-requires : tie.Need-key-of-requires Inv-loop μ-loop Inv-terms μ-terms
-key-of-requires c κs = search needs
-
 no-target-requires : tie.Need-no-target-requires Inv-loop μ-loop Inv-terms μ-terms
 no-target-requires c κs = (search targeted-here, search point-looked)
-
-add-i : tie.Need-add-i Inv-loop μ-loop Inv-terms μ-terms
-add-i c = search needs
-
-terms-less : tie.Need-terms-less Inv-loop μ-loop Inv-terms μ-terms
-terms-less c = search needs
 
 terms-again : tie.Need-terms-again Inv-loop μ-loop Inv-terms μ-terms
 terms-again c = (search needs, search target-none)
@@ -71,20 +53,8 @@ loop-holds c =
 holds-key-requires : tie.Need-holds-key-requires Inv-loop μ-loop Inv-terms μ-terms
 holds-key-requires c κs = (search proof-here, search needs, search key-low)
 
-add-i-2 : tie.Need-add-i-2 Inv-loop μ-loop Inv-terms μ-terms
-add-i-2 c = search needs
-
-terms-less-2 : tie.Need-terms-less-2 Inv-loop μ-loop Inv-terms μ-terms
-terms-less-2 c = search needs
-
 terms-again-2 : tie.Need-terms-again-2 Inv-loop μ-loop Inv-terms μ-terms
 terms-again-2 c = (search needs, search row-found)
-
-add-j : tie.Need-add-j Inv-loop μ-loop Inv-terms μ-terms
-add-j c = search needs
-
-loop-less : tie.Need-loop-less Inv-loop μ-loop Inv-terms μ-terms
-loop-less c = search needs
 
 loop-again : tie.Need-loop-again Inv-loop μ-loop Inv-terms μ-terms
 loop-again c = (search needs, search needs, search needs, search needs, search needs, search (first-next, row-answered), search needs)
@@ -103,23 +73,23 @@ first-unheld-spec =
     μ-loop
     Inv-terms
     μ-terms
-    variables-requires
-    term-count-requires
-    shape-of-requires
+    (λ c κs. search needs)
+    (λ c κs. search needs)
+    (λ c κs. search needs)
     terms-holds
     point-for-requires
-    key-of-requires
+    (λ c κs. search needs)
     no-target-requires
-    add-i
-    terms-less
+    (λ c. search needs)
+    (λ c. search needs)
     terms-again
     loop-holds
     holds-key-requires
-    add-i-2
-    terms-less-2
+    (λ c. search needs)
+    (λ c. search needs)
     terms-again-2
-    add-j
-    loop-less
+    (λ c. search needs)
+    (λ c. search needs)
     loop-again
     returns
     returns-2)

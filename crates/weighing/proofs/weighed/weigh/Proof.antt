@@ -3,20 +3,8 @@ use Rattle.weighing.proofs.weighed.Steps.{weighed-judged, weighed-unhel
 use Rattle.weighing.proofs.weighed.weigh.Statement.{statement}
 use Rattle.weighing.proofs.weighed.weigh.Tie as tie
 
-first-unheld-requires : tie.Need-first-unheld-requires
-first-unheld-requires c κs = search needs
-
-enum-known-i : tie.Need-enum-known-i
-enum-known-i c = search needs
-
 returns : tie.Need-returns
 returns c = search weighed-unheld
-
-enum-told : tie.Need-enum-told
-enum-told c = search needs
-
-check-judged-requires : tie.Need-check-judged-requires
-check-judged-requires c κs = search needs
 
 returns-2 : tie.Need-returns-2
 returns-2 c = search weighed-judged
@@ -24,4 +12,4 @@ returns-2 c = search weighed-judged
 pub weigh-spec : {M : Type 1} → statement M
 weigh-spec =
     tie.close
-    (tie.spec first-unheld-requires enum-known-i returns enum-told check-judged-requires returns-2)
+    (tie.spec (λ c κs. search needs) (λ c. search needs) returns (λ c. search needs) (λ c κs. search needs) returns-2)
