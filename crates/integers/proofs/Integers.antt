@@ -406,6 +406,10 @@ module _ {y : ℤ} {n : ℕ} (e : y ≡ pos n) where
 
 pub ruleset casts = (cast-value, cast-sign, cast-fits)
 
+-- a bound, of what the machine reads back
+pub back-small : (r r′ : ℤ) (m : ℕ) → natAbs r ≤ m → r′ ≡ r → natAbs r′ ≤ m
+back-small r r′ m h e = rw e h
+
 -- ---- large identities
 
 -- Where `omega` would meet more products than it takes (64), multiply out over ℤ first and take each as one unknown:

@@ -30,7 +30,8 @@ indefinite x = ltZ (x .p *ℤ x .q *ℤ pos 4) (x .r *ℤ x .r)
 -- "Each shifted weight is within" the limit, "p and q are at least 0, and r × r is at most 4 × p × q"
 unfoldable pub judgePair : ℕ → Triple → Judgement
 judgePair limit x =
-    cond (anyBeyond limit x) Beyond (cond (negative (x .p) || negative (x .q)) Negative (cond (indefinite x) Indefinite Holds))
+    cond (anyBeyond limit x) Beyond
+    (cond (negative (x .p) || negative (x .q)) Negative (cond (indefinite x) Indefinite Holds))
 
 -- the same of a lone row's one weight
 unfoldable pub judgeLone : ℕ → ℤ → Judgement

@@ -54,7 +54,8 @@ module _ {A : Type 0} (f : ℕ → A) where
   pub table-split : (m n : ℕ) → table f (m + n) ≡ table f m ++ table (λ i. f (m + i)) n
   unfolding table
   table-split m zero = rw (add-zero, append-nil)
-  table-split m (suc n) = rw (add-suc, table-split m n) (append-assoc (table f m) (table (λ i. f (m + i)) n) (f (m + n) ∷ []))
+  table-split m (suc n) = rw (add-suc, table-split m n)
+      (append-assoc (table f m) (table (λ i. f (m + i)) n) (f (m + n) ∷ []))
 
   -- what holds at every index holds of every element
   pub all-table : (P : A → Type 0) (n : ℕ) → ((i : ℕ) → i < n → P (f i)) → All P (table f n)

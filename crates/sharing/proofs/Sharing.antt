@@ -1,5 +1,5 @@
--- Laws of sharing, on a list of slots alone: where a point has a slot the shifted weights add up to its target, where it
--- has none to 0, and weights that add up stay as they are; and of slots gathered from rows, whatever a row is.
+-- Laws of sharing, on a list of slots alone: at a point with slots the shifted weights add up to its target, at any
+-- other to 0, and weights that add up stay; and of slots gathered from rows, whatever a row is.
 use mathlib.Core.Path.{_≡_, refl, _∙_}
 use mathlib.Core.Bool.{Bool, true, false, cond}
 use mathlib.Core.List.{[], _∷_, _++_, append-nil, append-assoc}

@@ -29,8 +29,8 @@ holdsPoint s shape α i = ltb 0 (count α (slotsOf (rowOf s shape i)))
 pub record HoldsKey (s : List ℕ) (shape : Shape) (key i : ℕ) (answer : Bool) : Type 0 where
   pub tells : (α : Exponents) → Carried (shape .n) α → key ≡ keyOf α → answer ≡ holdsPoint s shape α i
 
--- ---- by keys, as the code counts: `held-at` of proofs/slots/Laws.antt shows that it is the sum, the count and the rank
--- at the point with the key
+-- ---- by keys, as the code counts: `held-at` of proofs/slots/Laws.antt shows that it is the same as at the point with
+-- the key
 
 -- a tally that leaves room for more
 pub record Small (a : Tally) : Type 0 where

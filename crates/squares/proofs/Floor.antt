@@ -52,7 +52,8 @@ everywhere n S b f M sf sm e α = go (ℕ-discrete (length α) n)
     go : Dec (length α ≡ n) → coefficient α M ≡ target S (lowered n b f) α
     go (yes k) = e α k
     go (no d) =
-        let none : coefficient α (lowered n b f) ≡ pos 0 = coefficient-none (λ β. length β ≡ n) α _ (length-replicate n 0, sf) d in
+        let none : coefficient α (lowered n b f) ≡ pos 0 =
+        coefficient-none (λ β. length β ≡ n) α _ (length-replicate n 0, sf) d in
         coefficient-none (λ β. length β ≡ n) α M sm d ∙ sym (target-zero S (lowered n b f) α none)
 
 slots-sized : (n : ℕ) (v w : Exponents) (s : Weights) → length v ≡ n → length w ≡ n → Sized n (slotsAt v w s)

@@ -1,4 +1,4 @@
--- Laws of formal sums, and `dominate`: weights compared at every point compare the values. No order of terms, no sorting, no
+-- Laws of formal sums, and `dominate`: weights compared at every point compare the values. No order of terms and no
 -- distinct points are asked: the induction takes one point out of both sums.
 use mathlib.Core.Path.{_≡_, refl, sym, subst, _∙_, ap}
 use mathlib.Core.Bool.{Bool, true, false, cond}
@@ -33,7 +33,8 @@ coefficient-append α [] M = sym (+ℤ-idl (coefficient α M))
 coefficient-append α (t ∷ L) M = go (samePoint α (t .0)) (coefficient-append α L M)
   where
     go : (b : Bool) → coefficient α (L ++ M) ≡ coefficient α L +ℤ coefficient α M
-        → cond b (t .1 +ℤ coefficient α (L ++ M)) (coefficient α (L ++ M)) ≡ cond b (t .1 +ℤ coefficient α L) (coefficient α L) +ℤ coefficient α M
+        → cond b (t .1 +ℤ coefficient α (L ++ M)) (coefficient α (L ++ M))
+        ≡ cond b (t .1 +ℤ coefficient α L) (coefficient α L) +ℤ coefficient α M
     go true e = rw e (sym (+ℤ-assoc (t .1) (coefficient α L) (coefficient α M)))
     go false e = e
 
@@ -61,7 +62,8 @@ coefficient-scaled S α [] = sym (*ℤ-zero S)
 coefficient-scaled S α (t ∷ L) = go (samePoint α (t .0)) (coefficient-scaled S α L)
   where
     go : (b : Bool) → coefficient α (scaled S L) ≡ S *ℤ coefficient α L
-        → cond b (S *ℤ t .1 +ℤ coefficient α (scaled S L)) (coefficient α (scaled S L)) ≡ S *ℤ cond b (t .1 +ℤ coefficient α L) (coefficient α L)
+        → cond b (S *ℤ t .1 +ℤ coefficient α (scaled S L)) (coefficient α (scaled S L))
+        ≡ S *ℤ cond b (t .1 +ℤ coefficient α L) (coefficient α L)
     go true e = rw e (sym (*ℤ-+ℤ S (t .1) (coefficient α L)))
     go false e = e
 
@@ -82,7 +84,8 @@ value-off φ a [] = by-eq (simp ring (omega ints))
 value-off φ a (t ∷ L) = go (samePoint a (t .0)) (same-eq a (t .0)) (value-off φ a L)
   where
     go : (b : Bool) → (b ≡ true → a ≡ t .0) → value φ L ≡ coefficient a L *ℤ φ a +ℤ value φ (off a L)
-        → t .1 *ℤ φ (t .0) +ℤ value φ L ≡ cond b (t .1 +ℤ coefficient a L) (coefficient a L) *ℤ φ a +ℤ value φ (cond b (off a L) (t ∷ off a L))
+        → t .1 *ℤ φ (t .0) +ℤ value φ L
+        ≡ cond b (t .1 +ℤ coefficient a L) (coefficient a L) *ℤ φ a +ℤ value φ (cond b (off a L) (t ∷ off a L))
     go true f e = rw (e, ← (f refl)) (by-eq (simp ring (omega ints)))
     go false f e = rw e (by-eq (simp ring (omega ints)))
 
@@ -103,7 +106,8 @@ off-other α a [] h = refl
 off-other α a (t ∷ L) h = go (samePoint a (t .0)) (same-eq a (t .0)) (off-other α a L h)
   where
     go : (b : Bool) → (b ≡ true → a ≡ t .0) → coefficient α (off a L) ≡ coefficient α L
-        → coefficient α (cond b (off a L) (t ∷ off a L)) ≡ cond (samePoint α (t .0)) (t .1 +ℤ coefficient α L) (coefficient α L)
+        → coefficient α (cond b (off a L) (t ∷ off a L))
+        ≡ cond (samePoint α (t .0)) (t .1 +ℤ coefficient α L) (coefficient α L)
     go true f e = rw (← (f refl), h) e
     go false f e = rw e
 
@@ -149,10 +153,12 @@ module _ (φ ψ : Exponents → ℤ) (τ : Exponents → ℤ → ℤ) (τ-zero :
   go (suc n) [] [] h e = ≤ℤ-refl (pos 0)
   go (suc n) [] (t ∷ M) h e =
       step (t .0) [] (t ∷ M) e
-      (go n (off (t .0) []) (off (t .0) (t ∷ M)) (omega (arith, off-length (t .0) [], off-first t M)) (without (t .0) [] (t ∷ M) e))
+      (go n (off (t .0) []) (off (t .0) (t ∷ M)) (omega (arith, off-length (t .0) [], off-first t M))
+      (without (t .0) [] (t ∷ M) e))
   go (suc n) (t ∷ L) M h e =
       step (t .0) (t ∷ L) M e
-      (go n (off (t .0) (t ∷ L)) (off (t .0) M) (omega (arith, off-first t L, off-length (t .0) M)) (without (t .0) (t ∷ L) M e))
+      (go n (off (t .0) (t ∷ L)) (off (t .0) M) (omega (arith, off-first t L, off-length (t .0) M))
+      (without (t .0) (t ∷ L) M e))
 
   pub dominate : (L M : Sum) → ((α : Exponents) → coefficient α M ≡ τ α (coefficient α L)) → value ψ M ≤ℤ value φ L
   unfolding Weighs

@@ -31,11 +31,11 @@ use Rattle.worked.specs.Checks.{Case, claims, proves, full, manyPoints, 
 
 small-worked : map (λ (c : Case). formedAnswer (c .claim) (c .proof)) small ≡ map (λ (c : Case). c .answer) small
 unfolding
-    u32At i32At table bytesAt every everyPair samePoint risesTo evenSum hasMidpoint exponentsWithin
-    accepted refused refuseIf refuseAt blameless andThen first beyond floorOf termPoint coefficientOf
-    C.countsRight C.headerRight C.breaks C.termsAnswer C.claimAnswer scaleOf vOf wOf wordsAt tripleOf
-    P.headerRight P.headerAnswer P.qOrR P.anyBeyond P.breaks P.rowsAnswer headAnswer formedAnswer
-    joined word words claimOf proofOf squareWith square squareProof claims proves twoTerms oneRow full manyPoints manyRows small
+    u32At i32At table bytesAt every everyPair samePoint risesTo evenSum hasMidpoint exponentsWithin accepted
+    refused refuseIf refuseAt blameless andThen first beyond floorOf termPoint coefficientOf C.countsRight
+    C.headerRight C.breaks C.termsAnswer C.claimAnswer scaleOf vOf wOf wordsAt tripleOf P.headerRight
+    P.headerAnswer P.qOrR P.anyBeyond P.breaks P.rowsAnswer headAnswer formedAnswer joined word words claimOf
+    proofOf squareWith square squareProof claims proves twoTerms oneRow full manyPoints manyRows small
 small-worked = refl
 
 -- ---- 256 rows
@@ -98,8 +98,9 @@ rows-right =
 
 claim-right : says (Accepted 0) ≡ C.claimAnswer square
 unfolding
-    says accepted refuseIf refuseAt first C.claimAnswer C.termsAnswer C.countsRight C.headerRight C.breaks floorOf termPoint coefficientOf
-    i32At u32At bytesAt table beyond exponentsWithin every risesTo squareWith square claimOf joined word words
+    says accepted refuseIf refuseAt first C.claimAnswer C.termsAnswer C.countsRight C.headerRight C.breaks
+    floorOf termPoint coefficientOf i32At u32At bytesAt table beyond exponentsWithin every risesTo squareWith
+    square claimOf joined word words
 claim-right = refl
 
 header-right : says (Accepted 0) ≡ P.headerAnswer 1 many

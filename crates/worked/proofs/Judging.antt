@@ -30,14 +30,15 @@ use Rattle.worked.specs.Judging.{spare, accepts, refuses, motzkinExact, 
 
 pub all-worked : Worked
 unfolding
-    u32At i32At withBits withI32 floorDiv floorMod share table bytesAt every everyPair samePoint risesTo midpointOf
-    evenSum hasMidpoint exponentsWithin keepsSign gathered coefficient slotsAt lowered worst target floorOf
-    termPoint coefficientOf termOf termsOf scaleOf vOf wOf wordsAt tripleOf weightsOf rowOf rowsOf tripleFor
-    withTriple withWeights withRows accepted refused refuseIf refuseAt blameless andThen first beyond C.countsRight C.headerRight
-    C.breaks C.termsAnswer C.claimAnswer P.headerRight P.headerAnswer P.qOrR P.anyBeyond P.breaks P.rowsAnswer
-    joined word words claimOf proofOf squareWith square squareProof oneRow count errorAt shiftedWeight aimOf
-    targetOf slotsTo rankOf shiftedWeights shiftRow slotsBefore shiftedRow shiftedRows headAnswer roomAnswer
-    bodyAnswer inputAnswer pointFor unheldAt unheld unheldAnswer negative indefinite judgePair judgeLone judgementOf
-    numberOf judgedAs firstsTo judgedAnswer weightsFor exactProof weighedAnswer targetsOf checkAnswer
-    outputOf bare noRows motzkin motzkinProof oneTerm spare accepts refuses motzkinExact marked tabled worked
+    u32At i32At withBits withI32 floorDiv floorMod share table bytesAt every everyPair samePoint risesTo
+    midpointOf evenSum hasMidpoint exponentsWithin keepsSign gathered coefficient slotsAt lowered worst target
+    floorOf termPoint coefficientOf termOf termsOf scaleOf vOf wOf wordsAt tripleOf weightsOf rowOf rowsOf
+    tripleFor withTriple withWeights withRows accepted refused refuseIf refuseAt blameless andThen first
+    beyond C.countsRight C.headerRight C.breaks C.termsAnswer C.claimAnswer P.headerRight P.headerAnswer
+    P.qOrR P.anyBeyond P.breaks P.rowsAnswer joined word words claimOf proofOf squareWith square squareProof
+    oneRow count errorAt shiftedWeight aimOf targetOf slotsTo rankOf shiftedWeights shiftRow slotsBefore
+    shiftedRow shiftedRows headAnswer roomAnswer bodyAnswer inputAnswer pointFor unheldAt unheld unheldAnswer
+    negative indefinite judgePair judgeLone judgementOf numberOf judgedAs firstsTo judgedAnswer weightsFor
+    exactProof weighedAnswer targetsOf checkAnswer outputOf bare noRows motzkin motzkinProof oneTerm spare
+    accepts refuses motzkinExact marked tabled worked
 all-worked = refl

@@ -33,7 +33,12 @@ cases =
       text =
           "accepted rows 2 scale 1048576 floor -1073741824\nrow 0 p 10 q 0 r 0\nrow 1 p 1073741824 q 99 r -1073741824\n";
     }
-    ∷ record { claim = claimOf 1 (pos 0) [] []; proof = proofOf 1 (pos 1) 0 [] []; answer = accepted 0; text = "accepted rows 0 scale 1 floor 0\n" }
+    ∷ record {
+      claim = claimOf 1 (pos 0) [] [];
+      proof = proofOf 1 (pos 1) 0 [] [];
+      answer = accepted 0;
+      text = "accepted rows 0 scale 1 floor 0\n";
+    }
     ∷ record { claim = square; proof = squareProof; answer = refused 19 0; text = "refused 19 at 0\n" }
     ∷ record { claim = []; proof = []; answer = refused 1 0; text = "refused 1 at 0\n" }
     -- no sheets of one accepted row

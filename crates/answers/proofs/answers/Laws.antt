@@ -1,4 +1,5 @@
--- Laws of answers: what it says of each check that all are passed, and the ways through checks one after another.
+-- Laws of answers: what it says of each check that all are passed, the ways through checks one after another, and that
+-- answers are short.
 use mathlib.Core.Path.{_≡_, refl, sym, _∙_}
 use mathlib.Core.Bool.{Bool, true, false, cond, false≢true}
 use Prim.Native.Nat.{ℕ, _<_, _≤_}

@@ -1,4 +1,4 @@
--- Laws of bounds.
+-- Laws of bounds: a number within ± a limit, or beyond.
 use mathlib.Core.Path.{_≡_, refl}
 use mathlib.Core.Bool.{Bool, true, false, not}
 use Prim.Native.Nat.{ℕ, _<_, _≤_}

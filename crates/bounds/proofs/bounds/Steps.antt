@@ -1,4 +1,4 @@
--- STEPS of bounds
+-- The step of is_beyond.
 use mathlib.Core.Path.{_≡_}
 use Prim.Native.Nat.{ℕ}
 use lib.Dec.{ltb}

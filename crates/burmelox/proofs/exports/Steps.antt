@@ -1,4 +1,4 @@
--- Laws of the exported functions: the ways through them.
+-- The steps of the exported functions.
 use mathlib.Core.Path.{_≡_, refl, _∙_}
 use mathlib.Core.Bool.{Bool, true, false, cond}
 use mathlib.Core.List.{List}

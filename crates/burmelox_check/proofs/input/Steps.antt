@@ -1,4 +1,4 @@
--- Laws of the input's two sheets: the ways through the code that splits it.
+-- The steps of the function that splits the input into its two sheets.
 use mathlib.Core.Path.{_≡_, sym, _∙_}
 use mathlib.Core.Bool.{Bool, true, false, not}
 use mathlib.Core.List.{List}

@@ -1,4 +1,4 @@
--- Laws of what the program prints: the ways through the code, and the lines for every input.
+-- Laws of printing: what a check of the two sheets prints.
 use mathlib.Core.Path.{_≡_, sym}
 use mathlib.Core.List.{List}
 use Prim.Native.Nat.{ℕ, _≤_}

@@ -1,4 +1,4 @@
--- STEPS of printing
+-- The steps of the functions that print.
 use mathlib.Core.Path.{_≡_, refl, sym, ap}
 use mathlib.Core.List.{List, _∷_}
 use Prim.Native.Nat.{ℕ, zero, suc, _-_, _<_, _≤_}

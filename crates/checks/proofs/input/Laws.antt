@@ -1,4 +1,4 @@
--- Laws of the checks 1 to 15: the ways through them, and what it says of two sheets that they are passed.
+-- Laws of the checks 1 to 15: what it says of two sheets that they are passed.
 use mathlib.Core.Path.{_≡_, refl}
 use mathlib.Core.List.{List}
 use Prim.Native.Nat.{ℕ, _≤_}
@@ -16,7 +16,7 @@ use Rattle.checks.specs.ProofChecks.{rowsAnswer, HeaderFacts, ProofFacts
 use Rattle.checks.specs.Input.{headAnswer, roomAnswer, bodyAnswer, inputAnswer, formedAnswer, WellFormed}
 use Rattle.checks.proofs.proof_checks.Laws.{header-facts, proof-facts, header-short, rows-short}
 
--- ---- check_head: v is the verdict on the claim
+-- ---- 1 to 10
 
 -- what it says that they are passed
 module _ (c s : List ℕ) (h : Passes (headAnswer c s)) where
@@ -32,7 +32,7 @@ module _ (c s : List ℕ) (h : Passes (headAnswer c s)) where
   head-facts =
       header-facts (variables c) s (head-claim-facts .some) (head-claim-facts .room .few) (passes-then _ _ h .1)
 
--- ---- check_room
+-- ---- 11
 
 module _ (asked room : ℕ) where
   pub room-enough : asked ≤ room → says (Accepted 0) ≡ roomAnswer asked room

@@ -1,4 +1,4 @@
--- STEPS of input
+-- The steps of the checks 1 to 15, one part after another.
 use mathlib.Core.Path.{_≡_, refl}
 use mathlib.Core.List.{List}
 use Prim.Native.Nat.{ℕ, _<_}

@@ -1,4 +1,4 @@
--- Proofs that pass: what it says of their numbers and points, and how short their answers are.
+-- Laws of the checks 8 to 10 and 12 to 15: what it says of a proof that it passes them, and how short its answers are.
 use mathlib.Core.Path.{_≡_, refl}
 use mathlib.Core.Bool.{true, false, and-eq-true-iff}
 use mathlib.Core.List.{List}
@@ -32,12 +32,20 @@ module _ (limit : ℕ) (x : Triple) where
   none-beyond h =
       let y = nor _ _ h in
       let z = nor _ _ (y .0) in
-      record { p-within = within-bound _ _ (z .0); q-within = within-bound _ _ (z .1); r-within = within-bound _ _ (y .1) }
+      record {
+        p-within = within-bound _ _ (z .0);
+        q-within = within-bound _ _ (z .1);
+        r-within = within-bound _ _ (y .1);
+      }
 
   pub within-none : Within limit x → anyBeyond limit x ≡ false
   unfolding anyBeyond
   within-none w =
-      rw (bound-within limit (x .p) (w .p-within), bound-within limit (x .q) (w .q-within), bound-within limit (x .r) (w .r-within))
+      rw (
+        bound-within limit (x .p) (w .p-within),
+        bound-within limit (x .q) (w .q-within),
+        bound-within limit (x .r) (w .r-within),
+      )
 
 module _ (s : List ℕ) (sh : Shape) (i : ℕ) where
   ends-facts : breaks (Exponent greatestExponent) s sh i ≡ false
@@ -83,7 +91,8 @@ header-facts n s some few h =
       },
     )
 
-pub proof-facts : (s : List ℕ) → HeaderFacts s (shapeOf s) → Passes (rowsAnswer s (shapeOf s)) → ProofFacts s (shapeOf s)
+pub proof-facts : (s : List ℕ) → HeaderFacts s (shapeOf s) → Passes (rowsAnswer s (shapeOf s))
+    → ProofFacts s (shapeOf s)
 unfolding rowsAnswer
 proof-facts s header h =
     let p₁₂ = passes-at _ 12 _ refl h in

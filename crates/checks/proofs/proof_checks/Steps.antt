@@ -1,4 +1,4 @@
--- Laws of the checks of the proof: the ways through the code, by the numbers of the refusals.
+-- The steps of the checks 8 to 10 and 12 to 15, by the numbers of the refusals.
 use mathlib.Core.Path.{_≡_, _∙_, ap}
 use mathlib.Core.Bool.{Bool, true, false, not, _&&_}
 use mathlib.Core.List.{List}

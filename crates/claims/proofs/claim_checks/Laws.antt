@@ -1,4 +1,4 @@
--- Claims that pass: what it says of their numbers and points, and how short their answers are.
+-- Laws of the checks 1 to 7: what it says of a claim that it passes them, and how short its answers are.
 use mathlib.Core.Path.{_≡_, refl, sym, _∙_}
 use mathlib.Core.Bool.{Bool, true, false, true≢false, and-eq-true-iff}
 use mathlib.Core.List.{List}
@@ -28,7 +28,8 @@ use Rattle.claims.specs.declared.claim_checks.TermRule.the-variants.{Coe
 -- ---- what each check says that is passed
 
 module _ (c : List ℕ) (n t i : ℕ) where
-  coefficient-fact : breaks (Coefficient greatestWeight) c n t i ≡ false → natAbs (coefficientOf c n t i) ≤ greatestWeight
+  coefficient-fact : breaks (Coefficient greatestWeight) c n t i ≡ false
+      → natAbs (coefficientOf c n t i) ≤ greatestWeight
   unfolding breaks
   coefficient-fact h = within-bound greatestWeight _ (nor (eqb (natAbs (coefficientOf c n t i)) 0) _ h .1)
 

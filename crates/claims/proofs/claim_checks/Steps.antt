@@ -1,4 +1,4 @@
--- Laws of the checks of the claim: the ways through the code, by the numbers of the refusals.
+-- The steps of the checks 1 to 7, by the numbers of the refusals.
 use mathlib.Core.Path.{_≡_, sym, _∙_, ap}
 use mathlib.Core.Bool.{Bool, true, false, not}
 use mathlib.Core.List.{List}

@@ -1,4 +1,4 @@
--- Laws of evaluation: what a value that is given is, when one is given, and the ways through the code.
+-- Laws of evaluations: what a value and a refusal tell.
 use mathlib.Core.Path.{_≡_}
 use mathlib.Core.Bool.{Bool, true, false, cond}
 use mathlib.Core.List.{List}

@@ -1,4 +1,4 @@
--- STEPS of evaluations
+-- The steps of an evaluation: the sum of the terms, 21 at the first that is too large, and the promises.
 use mathlib.Core.Path.{_≡_, refl, sym, _∙_, ap, subst}
 use mathlib.Core.Bool.{Bool, true, false, not, cond}
 use mathlib.Core.List.{List, [], _∷_}
@@ -37,7 +37,7 @@ use Rattle.answers.specs.declared.answers.Verdict.the-variants as Verdicts
 use Rattle.answers.specs.declared.searches.Found.the-variants.{At, Nothing}
 use Rattle.answers.proofs.answers.Laws.{passes-if, passes-at, passes-then, then-on, if-on, at-on, accepted-passes, failed, then-refused, passed, then-passed, refused-if, refused-at, refused-says}
 use Rattle.bounds.proofs.bounds.Laws.{over-bound, within-bound, bound-within}
-use Rattle.answers.proofs.searches.Laws.{first-at, first-next, none-wrong, all-right}
+use Rattle.answers.proofs.searches.Laws.{first-stop, first-next, none-wrong, all-right}
 use Rattle.claims.proofs.claim_checks.Laws.{claim-passed}
 use Rattle.judging.proofs.Promises.{floor-kept}
 use Rattle.evaluation.specs.Evaluations as Spec
@@ -84,10 +84,10 @@ evaluable c x h =
       small = λ i l. within-bound _ _ (none-wrong _ _ (r .0) i l);
     }
 
-large-passes : (c : List ℕ) (n t : ℕ) (x : List ℤ) → ((i : ℕ) → i < t → natAbs (termValue c n t x i) ≤ greatestValue)
+small-passes : (c : List ℕ) (n t : ℕ) (x : List ℤ) → ((i : ℕ) → i < t → natAbs (termValue c n t x i) ≤ greatestValue)
     → Passes (tooLargeAnswer c n t x)
 unfolding tooLargeAnswer tooLarge
-large-passes c n t x h =
+small-passes c n t x h =
     let f = all-right (tooLarge c n t x) t (λ i l. bound-within _ _ (h i l)) in
     rw (at-on _ 21 (accepted 0) (sym f)) (accepted-passes _ 0 refl)
 
@@ -96,8 +96,11 @@ unfolding evaluationAnswer
 passes c x e =
     let tooLarge = tooLargeAnswer c (variables c) (termCount c) x in
     let m : not (eqb (length x) (variables c)) ≡ false = rw (eq-eqb _ _ (e .counted)) in
-    rw (then-on (claimAnswer c) (refuseIf (not (eqb (length x) (variables c))) 20 tooLarge) (e .formed), if-on _ 20 tooLarge m)
-    (large-passes c (variables c) (termCount c) x (e .small))
+    rw (
+      then-on (claimAnswer c) (refuseIf (not (eqb (length x) (variables c))) 20 tooLarge) (e .formed),
+      if-on _ 20 tooLarge m,
+    )
+    (small-passes c (variables c) (termCount c) x (e .small))
 
 module _ (c : List ℕ) (x : List ℤ) (r : Evaluation) (h : tells r ≡ evaluationOf c x) where
   pub evaluates : Evaluates c x r
@@ -146,26 +149,28 @@ module _ (c : List ℕ) (n t : ℕ) (x : List ℤ) where
   small-start = rw (sum-none c n t x) (omega arith)
 
   module _ (i : ℕ) (r : Bounded) (er : r ≡ within (termValue c n t x i)) where
-    pub large-here : i < t → first (tooLarge c n t x) i ≡ Nothing → r ≡ TooLarge
+    pub summed-stop : i < t → first (tooLarge c n t x) i ≡ Nothing → r ≡ TooLarge
         → tells (Refused (Claim 21 i)) ≡ summed c n t x
     unfolding summed tooLargeAnswer tooLarge
-    large-here l none h =
-        let k : Represents TooLarge (termValue c n t x i) = subst (λ b. Represents b (termValue c n t x i)) (sym er ∙ h) (within-represents _) in
-        let f = first-at (tooLarge c n t x) t i true l none (sym (over-bound _ _ k)) refl in
+    summed-stop l none h =
+        let k : Represents TooLarge (termValue c n t x i) =
+        subst (λ b. Represents b (termValue c n t x i)) (sym er ∙ h) (within-represents _) in
+        let f = first-stop (tooLarge c n t x) t i true l none (sym (over-bound _ _ k)) refl in
         told-refused (Claim 21 i) _ _
-        (refused-at (Verdicts.Refused (Claim 21 i)) (At i) (first (tooLarge c n t x) t) 21 (accepted 0) f i refl (refused-says _ 21 i refl))
+        (refused-at (Verdicts.Refused (Claim 21 i)) (At i) (first (tooLarge c n t x) t) 21 (accepted 0) f i refl
+        (refused-says _ 21 i refl))
 
     module _ (v : ℤ) (h : r ≡ Exact v) where
       here : Represents (Exact v) (termValue c n t x i)
       here = subst (λ b. Represents b (termValue c n t x i)) (sym er ∙ h) (within-represents _)
 
-      pub none-more : first (tooLarge c n t x) i ≡ Nothing → first (tooLarge c n t x) (i + 1) ≡ Nothing
+      pub none-next : first (tooLarge c n t x) i ≡ Nothing → first (tooLarge c n t x) (i + 1) ≡ Nothing
       unfolding tooLarge
-      none-more none = first-next (tooLarge c n t x) i false none (sym (bound-within _ _ (here .1))) refl
+      none-next none = first-next (tooLarge c n t x) i false none (sym (bound-within _ _ (here .1))) refl
 
       module _ (small : natAbs (sumTo c n t x i) ≤ i * greatestValue) where
-        pub small-more : natAbs (sumTo c n t x (i + 1)) ≤ (i + 1) * greatestValue
-        small-more =
+        pub small-next : natAbs (sumTo c n t x (i + 1)) ≤ (i + 1) * greatestValue
+        small-next =
             rw (add-one, sum-more c n t x i)
             (omega (arith, here .1, abs-add (sumTo c n t x i) (termValue c n t x i)))
 
@@ -173,25 +178,27 @@ module _ (c : List ℕ) (n t : ℕ) (x : List ℤ) where
             (back : v′ ≡ v) where
           added : toZ w64 sum +ℤ v′ ≡ sumTo c n t x (i + 1)
           added =
-              let f : SFits w64 (sumTo c n t x i) = fits-within _ (i * greatestValue) small (omega (arith, room .terms)) in
+              let f : SFits w64 (sumTo c n t x i) =
+              fits-within _ (i * greatestValue) small (omega (arith, room .terms)) in
               rw (es, toZ-ofZ f, back, here .0, add-one, sum-more c n t x i)
 
           pub sum-fits : SFits w64 (toZ w64 sum +ℤ v′)
-          sum-fits = rw added (fits-within _ ((i + 1) * greatestValue) small-more (omega (arith, room .terms)))
+          sum-fits = rw added (fits-within _ ((i + 1) * greatestValue) small-next (omega (arith, room .terms)))
 
           pub sum-next : ofZ w64 (toZ w64 sum +ℤ v′) ≡ ofZ w64 (sumTo c n t x (i + 1))
           sum-next = ap (ofZ w64) added
 
-  pub summed-all : (i sum : ℕ) → t ≤ i → i ≤ t → ClaimRoom c n t → first (tooLarge c n t x) i ≡ Nothing
+  pub summed-end : (i sum : ℕ) → t ≤ i → i ≤ t → ClaimRoom c n t → first (tooLarge c n t x) i ≡ Nothing
       → natAbs (sumTo c n t x i) ≤ i * greatestValue → sum ≡ ofZ w64 (sumTo c n t x i)
       → tells (Value (toZ w64 sum)) ≡ summed c n t x
   unfolding summed tooLargeAnswer
-  summed-all i sum l m room none small es =
+  summed-end i sum l m room none small es =
       let q : i ≡ t = omega arith in
       let f : SFits w64 (sumTo c n t x i) = fits-within _ (i * greatestValue) small (omega (arith, room .terms)) in
       let e : toZ w64 sum ≡ sumTo c n t x t = rw (es, toZ-ofZ f, q) in
       rw e
-      (told-value _ _ (rw (at-on (first (tooLarge c n t x) t) 21 (accepted 0) (rw q at none)) (accepted-passes _ 0 refl)))
+      (told-value _ _ (rw (at-on (first (tooLarge c n t x) t) 21 (accepted 0) (rw q at none))
+      (accepted-passes _ 0 refl)))
 
 -- evaluate: v is the verdict on the claim
 module _ (c : List ℕ) (x : List ℤ) (v : Verdict) (e : says v ≡ claimAnswer c) where

@@ -1,4 +1,4 @@
--- Laws of judgements: the ways through them; rows pass 17 to 19 exactly where they are within the limit and hold.
+-- Laws of judgements: rows pass 17 to 19 exactly where they are within the limit and hold; the loop over all rows.
 use mathlib.Core.Path.{_≡_, refl, sym, _∙_}
 use mathlib.Core.Bool.{Bool, true, false, cond, _||_}
 use Prim.Native.Nat.{ℕ, _+_, _≤_, _<_}
@@ -38,9 +38,9 @@ use Rattle.integers.proofs.Tests.{never}
 -- ---- judge_all
 
 module _ (limit : ℕ) (row : ℕ → Row) where
-  pub firsts-none : record { beyond = Nothing; negative = Nothing; indefinite = Nothing } ≡ firstsTo limit row 0
+  pub firsts-start : record { beyond = Nothing; negative = Nothing; indefinite = Nothing } ≡ firstsTo limit row 0
   unfolding firstsTo
-  firsts-none = rw (first-start, first-start, first-start)
+  firsts-start = rw (first-start, first-start, first-start)
 
   kept-next : (number i : ℕ) → kept (first (judgedAs number limit row) i) (judgedAs number limit row i) i
       ≡ first (judgedAs number limit row) (i + 1)
@@ -53,10 +53,10 @@ module _ (limit : ℕ) (row : ℕ → Row) where
       go Nothing true h k = rw add-one (sym (first-here _ i h k))
       go Nothing false h k = sym (first-next _ i false h (sym k) refl)
 
-  pub firsts-on : (i : ℕ) (f g : Firsts) (j : Judgement) → f ≡ firstsTo limit row i
+  pub firsts-next : (i : ℕ) (f g : Firsts) (j : Judgement) → f ≡ firstsTo limit row i
       → j ≡ judgementOf limit (row i .weights) → g ≡ noted f j i → g ≡ firstsTo limit row (i + 1)
   unfolding firstsTo noted judgedAs
-  firsts-on i f g j ef ej eg = eg ∙ rw (ef, ej, kept-next 17 i, kept-next 18 i, kept-next 19 i)
+  firsts-next i f g j ef ej eg = eg ∙ rw (ef, ej, kept-next 17 i, kept-next 18 i, kept-next 19 i)
 
 -- ---- judge_row: row i of the shifted proof
 
@@ -108,8 +108,10 @@ lone-judged limit p h = go (beyond limit p) (ltZ p (pos 0)) refl refl h
         → Within limit (record { p = p; q = pos 0; r = pos 0 }) × (pos 0 ≤ℤ p)
     go true b ea eb k = never (cc)
     go false true ea eb k = never (cc)
-    go false false ea eb k =
-        (record { p-within = within-bound limit p ea; q-within = omega arith; r-within = omega arith }, ltZ-false _ _ eb)
+    go false false ea eb k = (
+      record { p-within = within-bound limit p ea; q-within = omega arith; r-within = omega arith },
+      ltZ-false _ _ eb,
+    )
 
 judged-holds : (limit : ℕ) (a : Weights) → judgementOf limit a ≡ Holds → Within limit (tripleFor a) × Formal.Holds a
 unfolding judgementOf
@@ -119,7 +121,8 @@ judged-holds limit (Lone p) h = rw (← for-lone (Lone p) p p refl refl) (lone-j
 holds-judged : (limit : ℕ) (a : Weights) → Within limit (tripleFor a) → Formal.Holds a → judgementOf limit a ≡ Holds
 unfolding judgementOf judgePair judgeLone indefinite
 holds-judged limit (Pair p q r) w h =
-    let v : Within limit (record { p = p; q = q; r = r }) = rw (for-pair (Pair p q r) p p q q r r refl refl refl refl) w in
+    let v : Within limit (record { p = p; q = q; r = r }) =
+    rw (for-pair (Pair p q r) p p q q r r refl refl refl refl) w in
     rw (within-none limit _ v, not-negative p (h .0), not-negative q (h .1), le-ltZ (h .2))
 holds-judged limit (Lone p) w h =
     let v : Within limit (record { p = p; q = pos 0; r = pos 0 }) = rw (for-lone (Lone p) p p refl refl) w in
@@ -163,7 +166,8 @@ module _ (limit : ℕ) (row : ℕ → Row) (k : ℕ) where
     where
       none : (number : ℕ) → eqb 0 number ≡ false → Nothing ≡ first (judgedAs number limit row) k
       none number z =
-          all-right _ k (λ i l. let w = h i l in not-judged number i z (holds-judged limit (row i .weights) (w .0) (w .1)))
+          all-right _ k (λ i l. let w = h i l in not-judged number i z
+          (holds-judged limit (row i .weights) (w .0) (w .1)))
 
 pub judged-short : (limit : ℕ) (row : ℕ → Row) (k : ℕ) → k < 65536 → Short (judgedAnswer (firstsTo limit row k) k)
 unfolding judgedAnswer firstsTo

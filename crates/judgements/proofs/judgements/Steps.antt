@@ -1,4 +1,4 @@
--- STEPS of judgements
+-- The steps of the functions that judge a row. A prime marks a number as the machine reads it back.
 use mathlib.Core.Path.{_≡_, refl, sym, _∙_, ap}
 use mathlib.Core.Bool.{Bool, true, false}
 use Prim.Native.Nat.{ℕ, _^_, _≤_}
@@ -65,7 +65,8 @@ module _ (x : Triple) (w : Within greatestWeight x) where
   pub rr-fits : SFits w64 (back (x .r) *ℤ back (x .r))
   rr-fits = product-fits (x .r) (x .r) (w .r-within) (w .r-within)
 
-  pub indefinite-is : ltZ (back (back (back (x .p) *ℤ back (x .q)) *ℤ pos 4)) (back (back (x .r) *ℤ back (x .r))) ≡ indefinite x
+  pub indefinite-is : ltZ (back (back (back (x .p) *ℤ back (x .q)) *ℤ pos 4)) (back (back (x .r) *ℤ back (x .r)))
+      ≡ indefinite x
   unfolding indefinite
   indefinite-is = rw (toZ-ofZ four-fits, pq-is, toZ-ofZ rr-fits, weight-back (x .r) (w .r-within))
 

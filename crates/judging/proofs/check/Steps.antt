@@ -1,4 +1,4 @@
--- Laws of the whole check: the ways through it.
+-- The steps of the whole check.
 use mathlib.Core.Path.{_≡_, sym, _∙_}
 use mathlib.Core.Bool.{true≢false}
 use mathlib.Core.List.{List, _++_}

@@ -1,4 +1,4 @@
--- STEPS of keys
+-- The steps of key_at and key_of.
 use mathlib.Core.Path.{_≡_, refl, _∙_, ap}
 use mathlib.Core.List.{List, [], _∷_, _++_}
 use Prim.Native.Nat.{ℕ, suc, _+_, _*_, _-_, _/_, _^_, _<_, _≤_}
@@ -71,36 +71,36 @@ key-here s at n eight b h l e =
 unfoldable pub keyFrom : List ℕ → ℕ → ℕ → ℕ
 keyFrom x n i = keyOf (drop i (take n x))
 
-pub from-none : (x : List ℕ) (n : ℕ) → 0 ≡ keyFrom x n n
+pub from-start : (x : List ℕ) (n : ℕ) → 0 ≡ keyFrom x n n
 unfolding keyFrom keyOf
-from-none x n = rw (drop-of-length-le (take n x) {i = n} (omega (arith, length-take n x)))
+from-start x n = rw (drop-of-length-le (take n x) {i = n} (omega (arith, length-take n x)))
 
-pub from-on : (x : List ℕ) (n i key a : ℕ) → key ≡ keyFrom x n i → 0 < i → i ≤ n → n ≤ 8 → length x ≡ 8
+pub from-next : (x : List ℕ) (n i key a : ℕ) → key ≡ keyFrom x n i → 0 < i → i ≤ n → n ≤ 8 → length x ≡ 8
     → a ≡ getD x (i - 1) 0 → key * 256 + a ≡ keyFrom x n (i - 1)
 unfolding keyFrom
-from-on x n i key a e l h m le ea =
+from-next x n i key a e l h m le ea =
     let j : suc (i - 1) ≡ i = omega arith in
     let d = drop-cons (take n x) (i - 1) 0 (omega (arith, length-take n x)) in
     rw (d, key-cons, j, getD-take n x (i - 1) 0 (omega arith)) (omega (arith, e, ea))
 
-pub from-first : (p : Point) (n i key : ℕ) → key ≡ keyFrom (p .exps) n i → i ≤ 0 → n ≡ length (exponents p)
+pub from-end : (p : Point) (n i key : ℕ) → key ≡ keyFrom (p .exps) n i → i ≤ 0 → n ≡ length (exponents p)
     → key ≡ keyOf (exponents p)
 unfolding keyFrom
-from-first p n i key e h en = let z : i ≡ 0 = omega arith in e ∙ rw z (ap keyOf (exponents-counted p n en))
+from-end p n i key e h en = let z : i ≡ 0 = omega arith in e ∙ rw z (ap keyOf (exponents-counted p n en))
 
 -- it leaves a byte for each exponent still to come
-pub from-low : (n : ℕ) → 0 < 2 ^ (8 * (8 - n))
-from-low n = pow-pos (8 * (8 - n))
+pub low-start : (n : ℕ) → 0 < 2 ^ (8 * (8 - n))
+low-start n = pow-pos (8 * (8 - n))
 
 module _ (n i key : ℕ) (k : key < 2 ^ (8 * (8 - i))) (l : 0 < i) (h : i ≤ n) (m : n ≤ 8) where
-  pub from-lower : (a : ℕ) → a < 256 → key * 256 + a < 2 ^ (8 * (8 - (i - 1)))
-  from-lower a b = let e : 8 - (i - 1) ≡ suc (8 - i) = omega arith in rw (e, byte-more (8 - i)) (omega arith)
+  pub low-next : (a : ℕ) → a < 256 → key * 256 + a < 2 ^ (8 * (8 - (i - 1)))
+  low-next a b = let e : 8 - (i - 1) ≡ suc (8 - i) = omega arith in rw (e, byte-more (8 - i)) (omega arith)
 
   least : 2 ^ (8 * (8 - (i - 1))) ≤ 2 ^ 64
   least = let e : 8 * (8 - (i - 1)) ≤ 64 = omega arith in pow-mono e
 
   pub plus-fits : (a : ℕ) → a < 256 → Fits w64 (key * 256 + a)
-  plus-fits a b = omega (arith, from-lower a b, least)
+  plus-fits a b = omega (arith, low-next a b, least)
 
   pub times-fits : Fits w64 (key * 256)
-  times-fits = omega (arith, from-lower 0 (omega arith), least)
+  times-fits = omega (arith, low-next 0 (omega arith), least)

@@ -1,4 +1,4 @@
--- Laws of bounded products: `within` respects the products of ℤ, and zero takes in what is too large. The ways through the code.
+-- The steps of bounded products: `within` respects the products of ℤ, and zero takes in what is too large.
 use mathlib.Core.Path.{_≡_, refl, _∙_, ap}
 use mathlib.Core.Bool.{Bool, true, false, cond}
 use mathlib.Core.List.{List, [], _∷_}
@@ -25,7 +25,8 @@ use Rattle.monomials.specs.declared.powers.Bounded.the-variants.{Value, 
 -- ---- what an answer says
 
 -- the absolute value is either within the limit or over it
-by-size : (z : ℤ) (P : Bounded → Type 0) → (natAbs z ≤ greatestValue → P (Value z)) → (greatestValue < natAbs z → P TooLarge)
+by-size : (z : ℤ) (P : Bounded → Type 0) → (natAbs z ≤ greatestValue → P (Value z))
+    → (greatestValue < natAbs z → P TooLarge)
     → P (within z)
 unfolding within
 by-size z P f g = go (leb (natAbs z) greatestValue) refl
@@ -53,7 +54,8 @@ unfolding largeTimes
 large-factor x y h = go (eqb (natAbs x) 0) refl
   where
     go : (b : Bool) → eqb (natAbs x) 0 ≡ b → cond b (Value (pos 0)) TooLarge ≡ within (x *ℤ y)
-    go true e = represents-within (Value (pos 0)) (x *ℤ y) (rw (abs-zero x (eqb-true _ _ e), zero-*ℤ y) (refl, omega arith))
+    go true e = represents-within (Value (pos 0)) (x *ℤ y)
+        (rw (abs-zero x (eqb-true _ _ e), zero-*ℤ y) (refl, omega arith))
     go false e = represents-within TooLarge (x *ℤ y) (omega (arith, abs-more x y (eqb-false _ _ e)))
 
 -- a number of whatever size, times one that may be too large
@@ -157,7 +159,8 @@ monomial-past (y ∷ x) (e ∷ α) zero h = absurd (omega arith)
 monomial-past (y ∷ x) (e ∷ α) (suc i) h = monomial-past x α i (omega arith)
 
 monomial-cons : (x : List ℤ) (α : Exponents) (i : ℕ) → i < length x → i < length α
-    → monomialOf (drop i x) (drop i α) ≡ powerOf (getD x i (pos 0)) (getD α i 0) *ℤ monomialOf (drop (suc i) x) (drop (suc i) α)
+    → monomialOf (drop i x) (drop i α)
+    ≡ powerOf (getD x i (pos 0)) (getD α i 0) *ℤ monomialOf (drop (suc i) x) (drop (suc i) α)
 unfolding monomialOf
 monomial-cons x α i h k = rw (drop-cons x i (pos 0) h, drop-cons α i 0 k)
 
@@ -165,28 +168,32 @@ monomial-cons x α i h k = rw (drop-cons x i (pos 0) h, drop-cons α i 0 k)
 unfoldable pub From : List ℤ → List ℕ → ℕ → ℕ → ℤ
 From x e n i = monomialOf (drop i x) (drop i (take n e))
 
-pub from-end : (x : List ℤ) (e : List ℕ) (n i : ℕ) → i ≡ min n (length x) → Value (pos 1) ≡ within (From x e n i)
+pub from-start : (x : List ℤ) (e : List ℕ) (n i : ℕ) → i ≡ min n (length x) → Value (pos 1) ≡ within (From x e n i)
 unfolding From
-from-end x e n i h =
+from-start x e n i h =
     represents-within (Value (pos 1)) (From x e n i)
     (rw (monomial-past x (take n e) i (omega (arith, length-take n e))) (refl, omega arith))
 
-pub from-more : (x : List ℤ) (e : List ℕ) (n i : ℕ) (b b′ : ℤ) (r v q : Bounded) → v ≡ within (From x e n i) → 0 < i
+pub from-next : (x : List ℤ) (e : List ℕ) (n i : ℕ) (b b′ : ℤ) (r v q : Bounded) → v ≡ within (From x e n i) → 0 < i
     → i ≤ length x → i ≤ n → n ≤ mostVariables → Places e
     → b ≡ getD x (i - 1) (pos 0) → b′ ≡ b → r ≡ within (powerOf b′ (getD e (i - 1) 0)) → q ≡ productOf r v
     → q ≡ within (From x e n (i - 1))
 unfolding From
-from-more x e n i b b′ r v q ev l h k m le eb s er eq =
+from-next x e n i b b′ r v q ev l h k m le eb s er eq =
     let j : suc (i - 1) ≡ i = omega arith in
-    rw (monomial-cons x (take n e) (i - 1) (omega arith) (omega (arith, length-take n e)), j, getD-take n e (i - 1) 0 (omega arith))
+    rw (
+      monomial-cons x (take n e) (i - 1) (omega arith) (omega (arith, length-take n e)),
+      j,
+      getD-take n e (i - 1) 0 (omega arith),
+    )
     (eq ∙ rw (er, ev, s, eb)
     (product-within (powerOf (getD x (i - 1) (pos 0)) (getD e (i - 1) 0)) (monomialOf (drop i x) (drop i (take n e)))))
 
-pub from-all : (x : List ℤ) (p : Point) (n i : ℕ) (v : Bounded) → v ≡ within (From x (p .exps) n i) → i ≤ 0
+pub from-end : (x : List ℤ) (p : Point) (n i : ℕ) (v : Bounded) → v ≡ within (From x (p .exps) n i) → i ≤ 0
     → Places (p .exps) → n ≡ length (exponents p)
     → v ≡ within (monomialOf x (exponents p))
 unfolding From
-from-all x p n i v ev h l en =
+from-end x p n i v ev h l en =
     let z : i ≡ 0 = omega arith in
     ev ∙ rw z (ap (λ (α : Exponents). within (monomialOf x α)) (exponents-counted p n en))
 

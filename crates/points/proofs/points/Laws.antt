@@ -1,4 +1,4 @@
--- Laws of points: what a test over exponents says of each, points by value, and the ways through their loops.
+-- Laws of points: the same point, the order, midpoints, points by value, bytes as exponents, and one variable more.
 use mathlib.Core.Path.{_≡_, refl, sym, _∙_, ap, ap₂}
 use mathlib.Core.Logic.{_⊎_, inl, inr}
 use mathlib.Core.Bool.{Bool, true, false, cond, and-eq-true-iff, false≢true}
@@ -116,7 +116,8 @@ pub bytes-split : (s : List ℕ) (at m n : ℕ) → bytesAt s at (m + n) ≡ byt
 unfolding bytesAt
 bytes-split s at m n =
     table-split (λ i. getD s (at + i) 0) m n
-    ∙ ap (_++_ (table (λ i. getD s (at + i) 0) m)) (table-same _ (λ i. getD s (at + m + i) 0) n (λ i l. rw (add-assoc at m i)))
+    ∙ ap (_++_ (table (λ i. getD s (at + i) 0) m))
+    (table-same _ (λ i. getD s (at + m + i) 0) n (λ i l. rw (add-assoc at m i)))
 
 pub bytes-eight : (s : List ℕ) (at : ℕ) → bytesAt s at 8
     ≡ getD s (at + 0) 0 ∷ getD s (at + 1) 0 ∷ getD s (at + 2) 0 ∷ getD s (at + 3) 0
@@ -129,7 +130,8 @@ unfolding exponents pointOf
 exponents-of α = take-append-seam α (replicate (mostVariables - length α) 0)
 
 -- the constant's point
-pub zeros-point : (n : ℕ) → n ≤ mostVariables → record { exps = replicate mostVariables 0; n = n } ≡ pointOf (replicate n 0)
+pub zeros-point : (n : ℕ) → n ≤ mostVariables
+    → record { exps = replicate mostVariables 0; n = n } ≡ pointOf (replicate n 0)
 unfolding pointOf
 zeros-point n h =
     let e : n + (mostVariables - n) ≡ mostVariables = omega arith in

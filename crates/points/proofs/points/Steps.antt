@@ -1,4 +1,4 @@
--- STEPS of points
+-- The steps of the functions over points: the loops that test places, compare two points, and fill eight places.
 use mathlib.Core.Path.{_≡_, refl, sym, _∙_, ap}
 use mathlib.Core.Bool.{Bool, true, false, cond, and-false}
 use mathlib.Core.List.{List, [], _∷_, _++_, append-assoc}
@@ -41,22 +41,22 @@ unfoldable pub Passed : (ℕ → ℕ → Bool) → List ℕ → List ℕ → ℕ
 Passed p x y i = (k : ℕ) → k < i → p (getD x k 0) (getD y k 0) ≡ true
 
 module _ (p : ℕ → ℕ → Bool) (x y : List ℕ) where
-  pub passed-none : Passed p x y 0
+  pub passed-start : Passed p x y 0
   unfolding Passed
-  passed-none k h = absurd (omega arith)
+  passed-start k h = absurd (omega arith)
 
   -- before the first of n
-  pub passed-start : (n : ℕ) → Passed p x y (n - n)
-  passed-start n = let e : n - n ≡ 0 = omega arith in rw e passed-none
+  pub rises-start : (n : ℕ) → Passed p x y (n - n)
+  rises-start n = let e : n - n ≡ 0 = omega arith in rw e passed-start
 
-  pub passed-on : (i : ℕ) → Passed p x y i → p (getD x i 0) (getD y i 0) ≡ true → Passed p x y (i + 1)
+  pub passed-next : (i : ℕ) → Passed p x y i → p (getD x i 0) (getD y i 0) ≡ true → Passed p x y (i + 1)
   unfolding Passed
-  passed-on i h e = below-more _ _ h e
+  passed-next i h e = below-more _ _ h e
 
   -- the same where r is what a test's function answered
-  pub passed-test : (i : ℕ) (r : Bool) → Passed p x y i → r ≡ p (getD x i 0) (getD y i 0) → r ≡ true
+  pub tested-next : (i : ℕ) (r : Bool) → Passed p x y i → r ≡ p (getD x i 0) (getD y i 0) → r ≡ true
       → Passed p x y (i + 1)
-  passed-test i r h e t = passed-on i h (sym e ∙ t)
+  tested-next i r h e t = passed-next i h (sym e ∙ t)
 
 module _ (p : ℕ → ℕ → Bool) where
   pair-false : (v w : Exponents) (i : ℕ) → i < length v → i < length w → p (getD v i 0) (getD w i 0) ≡ false
@@ -96,19 +96,19 @@ module _ (p : ℕ → ℕ → Bool) (a b : Point) (n m : ℕ) (ea : Places (a .e
   pair-fewer h = sym (pair-unlike p (exponents a) (exponents b) (λ e. h (na ∙ e ∙ sym mb)))
 
   module _ (i : ℕ) (e : n ≡ m) where
-    pub pair-stops : i < n → p (getD (a .exps) i 0) (getD (b .exps) i 0) ≡ false
+    pub pair-stop : i < n → p (getD (a .exps) i 0) (getD (b .exps) i 0) ≡ false
         → false ≡ everyPair p (exponents a) (exponents b)
-    pair-stops h k =
+    pair-stop h k =
         sym (pair-false p (exponents a) (exponents b) i (omega arith) (omega arith)
         (rw (exponent-is a ea i (omega arith), exponent-is b eb i (omega arith)) k))
 
-    pub pair-test : (r : Bool) → i < n → r ≡ p (getD (a .exps) i 0) (getD (b .exps) i 0) → r ≡ false
+    pub tested-stop : (r : Bool) → i < n → r ≡ p (getD (a .exps) i 0) (getD (b .exps) i 0) → r ≡ false
         → false ≡ everyPair p (exponents a) (exponents b)
-    pair-test r h k t = pair-stops h (sym k ∙ t)
+    tested-stop r h k t = pair-stop h (sym k ∙ t)
 
-    pub pair-ends : n ≤ i → Passed p (a .exps) (b .exps) i → true ≡ everyPair p (exponents a) (exponents b)
+    pub pair-end : n ≤ i → Passed p (a .exps) (b .exps) i → true ≡ everyPair p (exponents a) (exponents b)
     unfolding Passed
-    pair-ends h k =
+    pair-end h k =
         sym (pair-true p (exponents a) (exponents b) (omega arith)
         (passed-exponents p a b (length (exponents a)) ea eb (omega arith) (omega arith) (λ j l. k j (omega arith))))
 
@@ -120,11 +120,11 @@ every-pair p [] = refl
 every-pair p (a ∷ v) = rw (every-pair p v)
 
 module _ (p : ℕ → Bool) (a : Point) (n i : ℕ) (ea : Places (a .exps)) (na : n ≡ length (exponents a)) where
-  pub every-stops : i < n → p (getD (a .exps) i 0) ≡ false → false ≡ every p (exponents a)
-  every-stops h k = pair-stops (λ a b. p a) a a n n ea ea na na i refl h k ∙ sym (every-pair p (exponents a))
+  pub every-stop : i < n → p (getD (a .exps) i 0) ≡ false → false ≡ every p (exponents a)
+  every-stop h k = pair-stop (λ a b. p a) a a n n ea ea na na i refl h k ∙ sym (every-pair p (exponents a))
 
-  pub every-ends : n ≤ i → Passed (λ a b. p a) (a .exps) (a .exps) i → true ≡ every p (exponents a)
-  every-ends h k = pair-ends (λ a b. p a) a a n n ea ea na na i refl h k ∙ sym (every-pair p (exponents a))
+  pub every-end : n ≤ i → Passed (λ a b. p a) (a .exps) (a .exps) i → true ≡ every p (exponents a)
+  every-end h k = pair-end (λ a b. p a) a a n n ea ea na na i refl h k ∙ sym (every-pair p (exponents a))
 
 -- ---- the order
 
@@ -153,17 +153,18 @@ rises-past (a ∷ v) (b ∷ w) zero h = absurd (omega arith)
 rises-past (a ∷ v) (b ∷ w) (suc i) h = rises-past v w i (omega arith)
 
 -- the ways through the loop: `left` of the n variables are still to be compared
-pub rises-on : (x y : List ℕ) (n left : ℕ) → Passed eqb x y (n - left) → 0 < left → left ≤ n
+pub rises-next : (x y : List ℕ) (n left : ℕ) → Passed eqb x y (n - left) → 0 < left → left ≤ n
     → getD x (n - left) 0 ≤ getD y (n - left) 0 → getD y (n - left) 0 ≤ getD x (n - left) 0
     → Passed eqb x y (n - (left - 1))
-rises-on x y n left so h l p q =
+rises-next x y n left so h l p q =
     let e : n - (left - 1) ≡ n - left + 1 = omega arith in
-    rw e (passed-on eqb x y (n - left) so (eq-eqb (getD x (n - left) 0) (getD y (n - left) 0) (omega arith)))
+    rw e (passed-next eqb x y (n - left) so (eq-eqb (getD x (n - left) 0) (getD y (n - left) 0) (omega arith)))
 
 module _ (a b : Point) (n k m left : ℕ) (ea : Places (a .exps)) (eb : Places (b .exps))
     (na : k ≡ length (exponents a)) (mb : m ≡ length (exponents b)) (e : n ≡ min k m)
     (so : Passed eqb (a .exps) (b .exps) (n - left)) where
-  from-place : risesTo (exponents a) (exponents b) ≡ risesTo (drop (n - left) (exponents a)) (drop (n - left) (exponents b))
+  from-place : risesTo (exponents a) (exponents b)
+      ≡ risesTo (drop (n - left) (exponents a)) (drop (n - left) (exponents b))
   from-place =
       rises-drop (exponents a) (exponents b) (n - left) (omega arith) (omega arith)
       (passed-exponents eqb a b (n - left) ea eb (omega arith) (omega arith) so)
@@ -178,7 +179,8 @@ module _ (a b : Point) (n k m left : ℕ) (ea : Places (a .exps)) (eb : Places (
     later : Bool
     later = risesTo (drop (suc (n - left)) (exponents a)) (drop (suc (n - left)) (exponents b))
 
-    at-place : risesTo (exponents a) (exponents b) ≡ cond (ltb here-a here-b) true (cond (ltb here-b here-a) false later)
+    at-place : risesTo (exponents a) (exponents b)
+        ≡ cond (ltb here-a here-b) true (cond (ltb here-b here-a) false later)
     unfolding risesTo here-a here-b later
     at-place =
         let la : n - left < length (exponents a) = omega arith in
@@ -215,14 +217,14 @@ padded-set L v h =
 
 module _ (f : ℕ → ℕ) where
   -- the loop `while i < n { e[i] = f(i); i += 1; }` over eight zeros
-  pub filled-none : replicate mostVariables 0 ≡ padded (table f 0)
+  pub filled-start : replicate mostVariables 0 ≡ padded (table f 0)
   unfolding padded table
-  filled-none = refl
+  filled-start = refl
 
-  pub filled-on : (n i : ℕ) (e : List ℕ) (v : ℕ) → e ≡ padded (table f i) → i < n → n ≤ mostVariables → v ≡ f i
+  pub filled-next : (n i : ℕ) (e : List ℕ) (v : ℕ) → e ≡ padded (table f i) → i < n → n ≤ mostVariables → v ≡ f i
       → set e i v ≡ padded (table f (i + 1))
   unfolding table
-  filled-on n i e v h l m q =
+  filled-next n i e v h l m q =
       rw (h, q, add-one)
       (ap (λ (j : ℕ). set (padded (table f i)) j (f i)) (sym (table-length f i))
       ∙ padded-set (table f i) (f i) (rw table-length (omega arith)))
@@ -243,13 +245,14 @@ midpoint-get (a ∷ v) (b ∷ w) zero h k = refl
 midpoint-get (a ∷ v) (b ∷ w) (suc i) h k = midpoint-get v w i (omega arith) (omega arith)
 
 -- the way out of the loop
-pub midpoint-made : (a b : Point) (n k m i : ℕ) (e : List ℕ) → Places (a .exps) → Places (b .exps)
+pub midpoint-end : (a b : Point) (n k m i : ℕ) (e : List ℕ) → Places (a .exps) → Places (b .exps)
     → k ≡ length (exponents a) → m ≡ length (exponents b) → n ≡ min k m
     → e ≡ padded (table (λ j. (getD (a .exps) j 0 + getD (b .exps) j 0) / 2) i) → n ≤ i → i ≤ n
     → record { exps = e; n = n } ≡ pointOf (midpointOf (exponents a) (exponents b))
-midpoint-made a b n k m i e ea eb ka mb en h l u =
+midpoint-end a b n k m i e ea eb ka mb en h l u =
     filled-end f n i e h l u
-    ∙ ap pointOf (ext-getD 0 (table f n) mid (table-length f n ∙ omega (arith, midpoint-length (exponents a) (exponents b)))
+    ∙ ap pointOf (ext-getD 0 (table f n) mid
+    (table-length f n ∙ omega (arith, midpoint-length (exponents a) (exponents b)))
     (λ j t. let q : j < n = rw table-length at t in
     table-get f 0 n j q ∙ sym (midpoint-get (exponents a) (exponents b) j (omega arith) (omega arith)
     ∙ rw (exponent-is a ea j (omega arith), exponent-is b eb j (omega arith)))))

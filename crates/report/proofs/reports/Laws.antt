@@ -1,4 +1,4 @@
--- Laws of reports: how long they are, what they are for a verdict, and the ways through the code.
+-- Laws of reports: when the sheets have what an acceptance prints, and which lines those are.
 use mathlib.Core.Path.{_≡_, refl, ap}
 use mathlib.Core.Bool.{true, false}
 use mathlib.Core.List.{List, _++_}
@@ -15,13 +15,19 @@ use Rattle.answers.proofs.answers.Laws.{accepted-value, accepted-says, accepted
 use Rattle.text.specs.Lines.{acceptedLine}
 use Rattle.report.specs.Reports.{ended, linesOf, rowsText, shapeWith, firstText, acceptedText, refusedText, reportable, reportText}
 
--- ---- sheets that carry an acceptance
+-- ---- sheets that have what an acceptance prints
 
 -- and that is enough
 reportable-enough : (c s : List ℕ) (k : ℕ) → 8 ≤ length c → ProofRoom s (shapeWith s k) → reportable c s k ≡ true
 unfolding reportable
 reportable-enough c s k h r =
-    rw (le-leb 8 (length c) h, le-leb 8 (length s) (omega (arith, r .long)), le-leb _ _ (r .few), le-leb _ _ (r .rows), le-leb _ _ (r .long))
+    rw (
+      le-leb 8 (length c) h,
+      le-leb 8 (length s) (omega (arith, r .long)),
+      le-leb _ _ (r .few),
+      le-leb _ _ (r .rows),
+      le-leb _ _ (r .long),
+    )
 
 -- ---- what a report says, whatever sheet the weights stand in
 

@@ -1,4 +1,4 @@
--- STEPS of reports
+-- The steps of the functions that put a report.
 use mathlib.Core.Path.{_≡_, refl, sym, _∙_}
 use mathlib.Core.Bool.{Bool, true, false, _&&_, and-eq-true-iff}
 use mathlib.Core.List.{List, [], _∷_, _++_}
@@ -48,18 +48,18 @@ row-short s sh i b h =
     simp length-append (omega (arith, line-short i x (omega arith) (f .p-fits) (f .q-fits) (f .r-fits)))
 
 -- the first rows, one after another
-rows-zero : (s : List ℕ) (sh : Shape) → rowsText s sh 0 ≡ []
+text-none : (s : List ℕ) (sh : Shape) → rowsText s sh 0 ≡ []
 unfolding rowsText linesOf
-rows-zero s sh = refl
+text-none s sh = refl
 
-rows-next : (s : List ℕ) (sh : Shape) (i : ℕ) → rowsText s sh (suc i) ≡ rowsText s sh i ++ rowText s sh i
+text-more : (s : List ℕ) (sh : Shape) (i : ℕ) → rowsText s sh (suc i) ≡ rowsText s sh i ++ rowText s sh i
 unfolding rowsText linesOf rowText
-rows-next s sh i = refl
+text-more s sh i = refl
 
 rows-short : (s : List ℕ) (sh : Shape) (i : ℕ) → Bytes s → i ≤ mostRows → length (rowsText s sh i) ≤ i * 50
-rows-short s sh zero b h = rw (rows-zero s sh) (omega arith)
+rows-short s sh zero b h = rw (text-none s sh) (omega arith)
 rows-short s sh (suc i) b h =
-    rw (rows-next s sh i, length-append (rowsText s sh i) (rowText s sh i))
+    rw (text-more s sh i, length-append (rowsText s sh i) (rowText s sh i))
     (omega (arith, rows-short s sh i b (omega arith), row-short s sh i b h))
 
 refused-short : (number index : ℕ) → number < 10 ^ 10 → index < 10 ^ 20 → length (refusedText number index) ≤ 43
@@ -85,14 +85,14 @@ module _ (s l : List ℕ) (sh : Shape) (i at : ℕ) (x : Triple) (e : x ≡ trip
 -- ---- the lines of all rows: mid is where those of the first i end
 
 module _ (s l : List ℕ) (sh : Shape) (at : ℕ) where
-  pub rows-none : Room l at (rowsText s sh (sh .k)) → Written l at (rowsText s sh 0) l at
-  rows-none r =
-      rw (rows-zero s sh) (record { bytes = refl; ends = omega arith; kept = refl; inside = omega (arith, r .room) })
+  pub rows-start : Room l at (rowsText s sh (sh .k)) → Written l at (rowsText s sh 0) l at
+  rows-start r =
+      rw (text-none s sh) (record { bytes = refl; ends = omega arith; kept = refl; inside = omega (arith, r .room) })
 
   rows-grow : (i k : ℕ) → i < k → length (rowsText s sh i ++ rowText s sh i) ≤ length (rowsText s sh k)
   rows-grow i =
-      le-ind (λ m. length (rowsText s sh i ++ rowText s sh i) ≤ length (rowsText s sh m)) (rw rows-next (omega arith))
-      (λ m _ g. rw (rows-next s sh m, length-append (rowsText s sh m)) (omega arith))
+      le-ind (λ m. length (rowsText s sh i ++ rowText s sh i) ≤ length (rowsText s sh m)) (rw text-more (omega arith))
+      (λ m _ g. rw (text-more s sh m, length-append (rowsText s sh m)) (omega arith))
 
   module _ (i mid : ℕ) (m : List ℕ) (w : Written l at (rowsText s sh i) m mid) where
     pub next-room : Room l at (rowsText s sh (sh .k)) → i < sh .k → Room m mid (rowText s sh i)
@@ -100,12 +100,12 @@ module _ (s l : List ℕ) (sh : Shape) (at : ℕ) where
         room-then (rowsText s sh i) (rowText s sh i)
         (record { room = omega (arith, r .room, rows-grow i (sh .k) h) }) w
 
-    pub rows-more : (o : List ℕ) (end : ℕ) → Written m mid (rowText s sh i) o end
+    pub rows-next : (o : List ℕ) (end : ℕ) → Written m mid (rowText s sh i) o end
         → Written l at (rowsText s sh (i + 1)) o end
-    rows-more o end u = rw (add-one, rows-next s sh i) (written-then (rowsText s sh i) (rowText s sh i) w u)
+    rows-next o end u = rw (add-one, text-more s sh i) (written-then (rowsText s sh i) (rowText s sh i) w u)
 
-    pub rows-all : sh .k ≤ i → i ≤ sh .k → Written l at (rowsText s sh (sh .k)) m mid
-    rows-all h g = let e : i ≡ sh .k = omega arith in rw e at w
+    pub rows-end : sh .k ≤ i → i ≤ sh .k → Written l at (rowsText s sh (sh .k)) m mid
+    rows-end h g = let e : i ≡ sh .k = omega arith in rw e at w
 
 -- ---- an acceptance: a prime marks a number as the machine reads it back
 
@@ -124,7 +124,7 @@ module _ (c s l : List ℕ) (k at scale : ℕ) (floor floor′ : ℤ) (es : scal
     unfolding firstText ended
     first-written o end u = written-then _ _ (rw (back, ef, es) at w) u
 
--- ---- sheets that carry an acceptance
+-- ---- sheets that have what an acceptance prints
 
 module _ (c s : List ℕ) (k : ℕ) where
   pub no-claim : length c < 8 → false ≡ reportable c s k

@@ -1,5 +1,5 @@
--- Laws of shifted rows: a row holds its own points, once each; and the ways through the code. A prime marks a number as
--- the machine reads it back.
+-- Laws of shifted rows: their weights add up to the target at every held point and to 0 at any other; rows keep their
+-- points; and a proof whose weights add up stays as it is.
 use mathlib.Core.Path.{_≡_, refl, sym, _∙_, ap₂}
 use mathlib.Core.List.{List, _++_, append-nil, append-assoc}
 use Prim.Native.Nat.{ℕ, _<_}
@@ -47,7 +47,7 @@ sheets-checked c s f =
       aim = aim-within c s (claim .floor-within) (proof .header .scale-within);
     }
 
--- ---- shifted: sh is what the proof sheet says
+-- ---- what they give the functions: sh is the shape that was read
 
 module _ (c s : List ℕ) (a : Aim) (given : CheckedSheets c s a) (sh : Shape) (e : sh ≡ shapeOf s) where
   pub proof-checked : ProofFacts s sh

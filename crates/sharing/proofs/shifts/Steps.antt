@@ -1,4 +1,5 @@
--- STEPS of shifts
+-- The steps of the functions that shift weights: a row holds its own points, once each. A prime marks a number as the
+-- machine reads it back.
 use mathlib.Core.Path.{_≡_, refl, sym, _∙_, ap}
 use mathlib.Core.Bool.{Bool, true, false, true≢false}
 use borrow.Author.Tests.{eq-eqb}
@@ -95,7 +96,8 @@ module _ (c s : List ℕ) (a : Aim) (given : CheckedSheets c s a) (sh : Shape) (
             }
         unfolding slotsBefore
         holding =
-            held-at s sh (proof-checked c s a given sh e) key α (carried-here α carried) ek i own (omega (arith, row-here i l))
+            held-at s sh (proof-checked c s a given sh e) key α (carried-here α carried) ek i own
+            (omega (arith, row-here i l))
             ∙ rw (all-slots s sh e, e)
 
         pub own-small : own < 65536
@@ -107,7 +109,10 @@ module _ (c s : List ℕ) (a : Aim) (given : CheckedSheets c s a) (sh : Shape) (
         module _ (h : Holding) (eh : h ≡ holdingOf key (slotsTo s sh (sh .k)) (slotsTo s sh i) own) where
           pub held-small : natAbs (h .sum) ≤ 2 ^ 42
           unfolding holdingOf
-          held-small = rw eh (omega (arith, tally-small s sh (proof-checked c s a given sh e) key (sh .k) (omega arith) .0))
+          held-small = rw eh (omega (
+            arith,
+            tally-small s sh (proof-checked c s a given sh e) key (sh .k) (omega arith) .0,
+          ))
 
           pub held-some : 0 < h .count
           held-some = rw (eh, holding) (omega (arith, ranked))

@@ -1,5 +1,4 @@
--- Laws of slots: those of one row more, how much they can weigh, the slots with a point's key are those at the point;
--- and the ways through the code.
+-- Laws of slots: those of one row more, how much they can weigh, and that the slots with a point's key are those there.
 use mathlib.Core.Path.{_≡_, refl, _∙_, ap}
 use mathlib.Core.Bool.{Bool, true, false, cond}
 use mathlib.Core.List.{List, [], _∷_, _++_}
@@ -201,9 +200,8 @@ module _ (n : ℕ) (α : Exponents) (carried : Carried n α) where
   unfolding tallyOf
   tally-count L h = from-count _ L h ∙ omega arith
 
--- ---- the keys of a row's ends, v and w
+-- ---- a point that a row holds has a slot, and one that no row holds has none
 
--- a point that a row holds has a slot, and one that no row holds has none
 module _ (s : List ℕ) (sh : Shape) (α : Exponents) where
   pub point-held : (i : ℕ) → i < sh .k → holdsPoint s sh α i ≡ true → 0 < count α (slotsTo s sh (sh .k))
   unfolding holdsPoint
@@ -219,25 +217,24 @@ module _ (s : List ℕ) (sh : Shape) (α : Exponents) where
           let z = ltb-false 0 (count α (slotsOf (rowOf s sh i))) (none-wrong _ (sh .k) h i l) in
           rw (gathered-more slotsOf (rowOf s sh) i, count-append) (omega (arith, z, go i (omega arith)))
 
--- ---- scan and held
+-- ---- what the slots with a point's key weigh, how many they are, and a slot's rank
 
-module _ (s : List ℕ) (sh : Shape) (f : ProofFacts s sh) (key : ℕ) where
-  -- the slots with a point's key are those at the point
-  module _ (α : Exponents) (carried : Carried (sh .n) α) (e : key ≡ keyOf α) where
-    pub key-bound : key < 2 ^ 63
-    key-bound = omega (arith, e, carried-low (sh .n) α (f .header .room .few) carried)
+module _ (s : List ℕ) (sh : Shape) (f : ProofFacts s sh) (key : ℕ) (α : Exponents) (carried : Carried (sh .n) α)
+    (e : key ≡ keyOf α) where
+  pub key-bound : key < 2 ^ 63
+  key-bound = omega (arith, e, carried-low (sh .n) α (f .header .room .few) carried)
 
-    tallied : (i : ℕ) → i ≤ sh .k → tallyOf key (slotsTo s sh i) .count ≡ count α (slotsTo s sh i)
-    tallied i l = rw e (tally-count (sh .n) α carried (slotsTo s sh i) (slots-are s sh f i l .each))
+  tallied : (i : ℕ) → i ≤ sh .k → tallyOf key (slotsTo s sh i) .count ≡ count α (slotsTo s sh i)
+  tallied i l = rw e (tally-count (sh .n) α carried (slotsTo s sh i) (slots-are s sh f i l .each))
 
-    pub held-at : (i own : ℕ) → i ≤ sh .k → holdingOf key (slotsTo s sh (sh .k)) (slotsTo s sh i) own
-        ≡ record {
-          sum = coefficient α (slotsTo s sh (sh .k));
-          count = count α (slotsTo s sh (sh .k));
-          rank = count α (slotsTo s sh i) + own;
-        }
-    unfolding holdingOf
-    held-at i own l =
-        let every = slots-are s sh f (sh .k) (omega arith) .each in
-        let sum = tally-sum (sh .n) α carried (slotsTo s sh (sh .k)) every in
-        rw (tallied i l, tallied (sh .k) (omega arith), e, sum)
+  pub held-at : (i own : ℕ) → i ≤ sh .k → holdingOf key (slotsTo s sh (sh .k)) (slotsTo s sh i) own
+      ≡ record {
+        sum = coefficient α (slotsTo s sh (sh .k));
+        count = count α (slotsTo s sh (sh .k));
+        rank = count α (slotsTo s sh i) + own;
+      }
+  unfolding holdingOf
+  held-at i own l =
+      let every = slots-are s sh f (sh .k) (omega arith) .each in
+      let sum = tally-sum (sh .n) α carried (slotsTo s sh (sh .k)) every in
+      rw (tallied i l, tallied (sh .k) (omega arith), e, sum)

@@ -1,4 +1,4 @@
--- STEPS of slots
+-- The steps of the functions that go over the rows and count slots.
 use mathlib.Core.Path.{_≡_, refl, sym, _∙_}
 use mathlib.Core.Bool.{Bool, true, false, cond, _||_}
 use mathlib.Core.List.{List, [], _∷_, _++_}
@@ -101,7 +101,8 @@ module _ (s : List ℕ) (sh : Shape) (i : ℕ) (f : ProofFacts s sh) (l : i < sh
     some m = sym (lt-ltb 0 (suc m) (omega arith))
 
     any-held : (a b d : Bool)
-        → a || b || d ≡ ltb 0 (cond a (suc (cond b (suc (cond d 1 0)) (cond d 1 0))) (cond b (suc (cond d 1 0)) (cond d 1 0)))
+        → a || b || d ≡ ltb 0 (cond a (suc (cond b (suc (cond d 1 0)) (cond d 1 0)))
+        (cond b (suc (cond d 1 0)) (cond d 1 0)))
     any-held true b d = some (cond b (suc (cond d 1 0)) (cond d 1 0))
     any-held false true d = some (cond d 1 0)
     any-held false false true = refl
@@ -138,7 +139,19 @@ module _ (s : List ℕ) (sh : Shape) (i : ℕ) (f : ProofFacts s sh) (l : i < sh
             rw (row-lone s sh i e, row-v, slots-lone, count-cons, count-nil, q, d, halved, w-at)
             (once (at (wOf s sh i)))
         go false e =
-            rw (row-pair s sh i e, row-v, row-w, slots-pair, count-cons, count-cons, count-cons, count-nil, v-at, w-at, u-at)
+            rw (
+              row-pair s sh i e,
+              row-v,
+              row-w,
+              slots-pair,
+              count-cons,
+              count-cons,
+              count-cons,
+              count-nil,
+              v-at,
+              w-at,
+              u-at,
+            )
             (any-held (at (vOf s sh i)) (at (wOf s sh i)) (at (midpointOf (vOf s sh i) (wOf s sh i))))
 
   -- holds_key
@@ -198,7 +211,14 @@ module _ (s : List ℕ) (sh : Shape) (i : ℕ) (f : ProofFacts s sh) (l : i < sh
         unfolding tallyOf
         pair-added c r hc hr e =
             let row = pair-slots s sh i (sym (lone s sh i f l v w ev ew) ∙ ne-eqb v w e) in
-            hr ∙ rw (hc, hb, middle s sh i f l v w ev ew key, p-there s sh i at ea, q-there s sh i at ea, r-there s sh i at ea)
+            hr ∙ rw (
+              hc,
+              hb,
+              middle s sh i f l v w ev ew key,
+              p-there s sh i at ea,
+              q-there s sh i at ea,
+              r-there s sh i at ea,
+            )
             (sym (rw (add-one, row, tally-append, tally-cons, tally-cons, tally-cons, tally-nil, ← ha, ← ev, ← ew)))
 
     -- the tallies before the row's first, second and third slot
@@ -221,7 +241,10 @@ module _ (s : List ℕ) (sh : Shape) (i : ℕ) (f : ProofFacts s sh) (l : i < sh
         pub small-third : (t₂ : Bool) (c : Tally) → c ≡ added t₂ (i32At s (at + 4)) b → Small c
         small-third t₂ c hc =
             let g = added-bound t₂ (i32At s (at + 4)) b q-within in
-            rw hc (record { sum-small = omega (arith, bound-b .0, g .0); count-small = omega (arith, bound-b .1, g .1) })
+            rw hc (record {
+              sum-small = omega (arith, bound-b .0, g .0);
+              count-small = omega (arith, bound-b .1, g .1);
+            })
 
 -- ---- scan and held
 
@@ -229,9 +252,9 @@ pub scan-end : (s : List ℕ) (sh : Shape) (key i to : ℕ) (b : Tally) → b �
     → b ≡ tallyOf key (slotsTo s sh to)
 scan-end s sh key i to b h l m = let q : i ≡ to = omega arith in rw q at h
 
-pub tally-none : (s : List ℕ) (sh : Shape) (key : ℕ) → record { sum = pos 0; count = 0 } ≡ tallyOf key (slotsTo s sh 0)
+pub scan-start : (s : List ℕ) (sh : Shape) (key : ℕ) → record { sum = pos 0; count = 0 } ≡ tallyOf key (slotsTo s sh 0)
 unfolding tallyOf
-tally-none s sh key = rw (no-slots s sh, tally-nil)
+scan-start s sh key = rw (no-slots s sh, tally-nil)
 
 module _ (s : List ℕ) (sh : Shape) (f : ProofFacts s sh) (key : ℕ) where
   module _ (i own : ℕ) (before all : Tally) (eb : before ≡ tallyOf key (slotsTo s sh i)) (l : i < sh .k) where

@@ -1,4 +1,4 @@
--- Laws of the claim sheet: the ways through the code that reads its fields, and its terms by their index.
+-- Laws of the claim sheet: its terms by their index.
 use mathlib.Core.Path.{_≡_, refl}
 use mathlib.Core.List.{List}
 use Prim.Native.Nat.{ℕ}

@@ -1,4 +1,4 @@
--- STEPS of claim_sheet
+-- The steps of the functions that read a claim's fields.
 use mathlib.Core.Path.{_≡_, _∙_}
 use mathlib.Core.List.{List}
 use Prim.Native.Nat.{ℕ, _+_, _<_, _≤_}

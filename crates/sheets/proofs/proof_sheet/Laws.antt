@@ -1,4 +1,4 @@
--- Laws of the proof sheet: the ways through the code that reads its fields, and its rows by their index.
+-- Laws of the proof sheet: its rows by their index, their triples, and what is read from the same bytes.
 use mathlib.Core.Path.{_≡_, refl, sym, ap₂}
 use mathlib.Core.Bool.{Bool, true, false}
 use mathlib.Core.List.{List}
@@ -23,8 +23,6 @@ use Rattle.sheets.specs.ProofSheet.{scaleOf, vOf, wOf, wordsAt, tripleOf
 use Rattle.sheets.specs.declared.proof_sheet.Row.{Row}
 use Rattle.sheets.specs.declared.proof_sheet.Triple.{Triple}
 use Rattle.integers.proofs.Tests.{never}
-
--- ---- fields read
 
 pub triple-inside : (s : List ℕ) (sh : Shape) (i at : ℕ) → ProofRoom s sh → i < sh .k → at ≡ tripleAt sh i
     → at + 12 ≤ length s
@@ -156,7 +154,8 @@ module _ (s : List ℕ) (sh : Shape) (i : ℕ) where
       go false e = let g = row-pair e in never (cc)
 
   pub pair-of : (p q r : ℤ) → rowOf s sh i .weights ≡ Pair p q r
-      → (samePoint (vOf s sh i) (wOf s sh i) ≡ false) × (tripleOf s sh i .p ≡ p) × (tripleOf s sh i .q ≡ q) × (tripleOf s sh i .r ≡ r)
+      → (samePoint (vOf s sh i) (wOf s sh i) ≡ false) × (tripleOf s sh i .p ≡ p) × (tripleOf s sh i .q ≡ q)
+      × (tripleOf s sh i .r ≡ r)
   pair-of p q r h = go (samePoint (vOf s sh i) (wOf s sh i)) refl
     where
       go : (b : Bool) → samePoint (vOf s sh i) (wOf s sh i) ≡ b

@@ -1,4 +1,4 @@
--- STEPS of proof_sheet
+-- The steps of the functions that read a proof's fields.
 use mathlib.Core.Path.{_≡_}
 use mathlib.Core.Bool.{Bool, true, false}
 use mathlib.Core.List.{List}
@@ -25,7 +25,8 @@ use Rattle.bounds.specs.Bounds.{mostVariables, mostRows}
 pub shape-read : (s : List ℕ) (n k : ℕ) → n ≡ variables s → k ≡ rowCount s → record { n = n; k = k } ≡ shapeOf s
 shape-read s n k en ek = rw (en, ek)
 
-pub row-low : (sh : Shape) (i from : ℕ) → sh .n ≤ mostVariables → sh .k ≤ mostRows → i < sh .k → from ≡ vAt sh i → from ≤ 4088
+pub row-low : (sh : Shape) (i from : ℕ) → sh .n ≤ mostVariables → sh .k ≤ mostRows → i < sh .k → from ≡ vAt sh i
+    → from ≤ 4088
 row-low sh i from few rows l e = let h : i ≤ 255 = omega arith in omega (arith, mul-le-mul h few)
 
 module _ (s : List ℕ) (sh : Shape) (i from : ℕ) (room : ProofRoom s sh) (l : i < sh .k) (e : from ≡ vAt sh i) where
@@ -41,7 +42,8 @@ module _ (s : List ℕ) (sh : Shape) (i from : ℕ) (room : ProofRoom s sh) (l :
   pub w-inside : from + sh .n + sh .n ≤ length s
   w-inside = omega (arith, mul-le-mul-right (2 * sh .n) l)
 
-module _ (sh : Shape) (i : ℕ) (few : sh .n ≤ mostVariables) (rows : sh .k ≤ mostRows) (from : ℕ) (e : from ≡ place 8 (sh .k) (2 * sh .n))
+module _ (sh : Shape) (i : ℕ) (few : sh .n ≤ mostVariables) (rows : sh .k ≤ mostRows) (from : ℕ)
+    (e : from ≡ place 8 (sh .k) (2 * sh .n))
   where
     pub rows-low : from ≤ 16777216
     rows-low = omega (arith, mul-le-mul rows few)

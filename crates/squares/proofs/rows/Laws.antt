@@ -1,4 +1,4 @@
--- Laws of rows: where a midpoint's worth is the mean of its ends', a row that holds is worth at least 0 at absolute values.
+-- Laws of rows: where a midpoint's worth is the mean of its ends', a row that holds is worth at least 0.
 use mathlib.Core.Path.{_≡_, refl, sym, _∙_, ap}
 use mathlib.Core.List.{List, [], _∷_}
 use Prim.Native.Nat.{ℕ, suc, _+_, _*_, _≤_}

@@ -1,9 +1,8 @@
--- Laws of targets: the term found by its key is the one at the point, and the ways through the code. A prime marks a
--- number as the machine reads it back.
+-- Laws of targets: the aim of checked sheets, and the target as document 01 has it.
 use mathlib.Core.Path.{_≡_, refl}
 use mathlib.Core.List.{List}
 use Prim.Native.Nat.{ℕ, _≤_}
-use lib.IntN.{ℤ, natAbs}
+use lib.IntN.{natAbs}
 use Rattle.points.specs.Points.{Exponents}
 use Rattle.squares.specs.Targets.{lowered, target}
 use Rattle.bounds.specs.Bounds.{greatestWeight, greatestScale}
@@ -13,11 +12,7 @@ use Rattle.sheets.specs.ProofSheet.{scaleOf}
 use Rattle.targets.specs.declared.targets.Aim.{Aim}
 use Rattle.targets.specs.Targets.{AimWithin, aimOf, targetOf}
 
--- a bound, of what the machine reads back
-pub back-small : (r r′ : ℤ) (m : ℕ) → natAbs r ≤ m → r′ ≡ r → natAbs r′ ≤ m
-back-small r r′ m h e = rw e h
-
--- ---- aim_of: b and S are what the sheets say
+-- ---- the aim of checked sheets
 
 -- the aim of sheets with a floor and a scale in their bounds, and its targets
 pub aim-within : (c s : List ℕ) → natAbs (floorOf c) ≤ greatestWeight → scaleOf s ≤ greatestScale
@@ -30,7 +25,7 @@ pub targets-are : (c s : List ℕ) (α : Exponents)
 unfolding aimOf targetOf
 targets-are c s α = refl
 
--- ---- for the crates above
+-- ---- targets
 
 pub target-of : (c : List ℕ) (a : Aim) (α : Exponents)
     → targetOf c a α ≡ target (a .scale) (lowered (variables c) (a .floor) (termsOf c)) α

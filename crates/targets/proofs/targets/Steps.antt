@@ -1,4 +1,5 @@
--- STEPS of targets
+-- The steps of the functions that find a target: the term with a key is the one at the point. A prime marks a number as
+-- the machine reads it back.
 use mathlib.Core.Path.{_≡_, refl, sym, _∙_, ap}
 use mathlib.Core.Bool.{Bool, true, false, cond}
 use mathlib.Core.List.{List}
@@ -34,7 +35,7 @@ use Rattle.sheets.specs.ProofSheet.{scaleOf}
 use Rattle.claims.specs.ClaimChecks.{ClaimFacts}
 use Rattle.answers.specs.declared.searches.Found.{Found}
 use Rattle.answers.specs.declared.searches.Found.the-variants.{At, Nothing}
-use Rattle.answers.proofs.searches.Laws.{first-start, first-here, first-stays, first-next, first-inside, first-at, all-right}
+use Rattle.answers.proofs.searches.Laws.{first-start, first-here, first-stays, first-next, first-inside, first-stop, all-right}
 use Rattle.sheets.proofs.claim_sheet.Laws.{terms-table, term-point, term-coefficient}
 use Rattle.claims.proofs.claim_checks.Laws.{points-differ}
 use Rattle.targets.specs.declared.targets.Aim.{Aim}
@@ -53,7 +54,8 @@ module _ (x x′ : ℤ) (a : Aim) (key : ℕ) (hx : natAbs x ≤ greatestWeight)
 
   pub lowered-fits : SFits w64 (x′ -ℤ back (a .floor))
   lowered-fits =
-      rw (ex, floor-back) (fits-within (x -ℤ a .floor) (2 ^ 31) (difference-small x (a .floor) hx (ha .floor)) (lit< tt))
+      rw (ex, floor-back) (fits-within (x -ℤ a .floor) (2 ^ 31) (difference-small x (a .floor) hx (ha .floor))
+      (lit< tt))
 
   pub lowered-here : key ≡ 0 → back (x′ -ℤ back (a .floor)) ≡ loweredBy a key x
   unfolding loweredBy
@@ -183,7 +185,8 @@ module _ (c : List ℕ) (n t : ℕ) (facts : ClaimFacts c n t) (α : Exponents) 
     where
       go : (f : Found) → first here m ≡ f → (b : Bool) → here m ≡ b
           → foundAt c n t (first here m) ≡ coefficient α (terms m)
-          → foundAt c n t (first here (suc m)) ≡ coefficient α (terms m) +ℤ cond (here m) (coefficientOf c n t m) (pos 0)
+          → foundAt c n t (first here (suc m))
+          ≡ coefficient α (terms m) +ℤ cond (here m) (coefficientOf c n t m) (pos 0)
       go (At i) e b h ih =
           rw (first-stays here m i e, later i m l e, +ℤ-idr) (rw e at ih)
       go Nothing e true h ih =
@@ -206,7 +209,7 @@ module _ (c : List ℕ) (n t : ℕ) (facts : ClaimFacts c n t) (α : Exponents) 
 
       found : At i ≡ first here t
       found =
-          first-at here t i true l (sym (all-right here i earlier))
+          first-stop here t i true l (sym (all-right here i earlier))
           (sym (key-there i l ∙ rw e (same-refl (termPoint c n i)))) refl
 
   -- the target, from the coefficient of the polynomial
@@ -221,7 +224,8 @@ module _ (c : List ℕ) (n t : ℕ) (facts : ClaimFacts c n t) (α : Exponents) 
       f = termsOf c
 
       go : (k : Bool) → samePoint α (replicate n 0) ≡ k
-          → cond (eqb (keyOf α) 0) (coefficient α f -ℤ a .floor) (coefficient α f) ≡ coefficient α (lowered n (a .floor) f)
+          → cond (eqb (keyOf α) 0) (coefficient α f -ℤ a .floor) (coefficient α f)
+          ≡ coefficient α (lowered n (a .floor) f)
       go true e = rw (constant-there, e) (sym (lowered-constant n (a .floor) f α e))
       go false e = rw (constant-there, e) (sym (lowered-other n (a .floor) f α e))
 

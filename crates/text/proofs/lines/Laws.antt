@@ -1,5 +1,4 @@
--- Laws of lines: the ways through the code whose last part has numbers of either sign, and how long lines are; a prime
--- marks a number as the machine reads it back.
+-- Laws of lines: how long they are.
 use mathlib.Core.List.{List}
 use Prim.Native.Nat.{ℕ, suc, _+_, _^_, _<_, _≤_}
 use native.Mathlib.Omega.{arith}
@@ -50,4 +49,8 @@ line-short i x h p q r =
 pub refusal-short : (number index : ℕ) → number < 10 ^ 10 → index < 10 ^ 20 → length (refusedLine number index) ≤ 42
 unfolding refusedLine
 refusal-short number index h l =
-    simp length-append (omega (arith, counted-short (ascii "refused ") 9 number h, counted-short (ascii " at ") 19 index l))
+    simp length-append (omega (
+      arith,
+      counted-short (ascii "refused ") 9 number h,
+      counted-short (ascii " at ") 19 index l,
+    ))

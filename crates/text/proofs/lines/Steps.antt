@@ -1,4 +1,4 @@
--- STEPS of lines
+-- The steps of the functions that put lines.
 use mathlib.Core.Path.{_≡_}
 use mathlib.Core.List.{List, _++_}
 use Prim.Native.Nat.{ℕ}

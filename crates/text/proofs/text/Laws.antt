@@ -1,4 +1,4 @@
--- Laws of text: one text after another, the digits of a number, and the ways through the code that puts them.
+-- Laws of text put over a buffer, one piece after another, and of how long numbers are.
 use mathlib.Core.Path.{_≡_, sym, _∙_, ap}
 use mathlib.Core.List.{List, [], _∷_, _++_}
 use Prim.Native.Nat.{ℕ, zero, suc, _+_, _/_, _%_, _^_, _<_, _≤_}

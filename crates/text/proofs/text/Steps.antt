@@ -1,4 +1,4 @@
--- STEPS of text
+-- The steps of the functions that put digits, numbers and labels.
 use mathlib.Core.Path.{_≡_, refl, _∙_, ap}
 use mathlib.Core.Bool.{true, false, true≢false}
 use mathlib.Core.List.{List, [], _∷_, _++_}
@@ -17,15 +17,15 @@ use Rattle.text.proofs.text.Laws.{natural-before, natural-last, room-fi
 
 -- put_text: the first i bytes are copied
 module _ (l o t : List ℕ) (at i : ℕ) (e : o ≡ sets l at (take i t)) where
-  pub copied-more : i < length t → set o (at + i) (getD t i 0) ≡ sets l at (take (i + 1) t)
-  copied-more h =
+  pub copied-next : i < length t → set o (at + i) (getD t i 0) ≡ sets l at (take (i + 1) t)
+  copied-next h =
       let n : i ≡ length (take i t) = omega (arith, length-take i t) in
       rw (add-one, take-suc t i 0 h, e)
       (ap (λ (k : ℕ). set (sets l at (take i t)) (at + k) (getD t i 0)) n
       ∙ sets-append (take i t) (getD t i 0 ∷ []) l at)
 
-  pub copied-all : length t ≤ i → Room l at t → Written l at t o (at + length t)
-  copied-all h r =
+  pub copied-end : length t ≤ i → Room l at t → Written l at t o (at + length t)
+  copied-end h r =
       let w : o ≡ sets l at t = e ∙ ap (sets l at) (take-all i t h) in
       let k : length o ≡ length l = ap length w ∙ length-sets l at t in
       record { bytes = w; ends = refl; kept = k; inside = omega (arith, r .room) }

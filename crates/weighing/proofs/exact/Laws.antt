@@ -1,4 +1,4 @@
--- Laws of the exact proof: the ways through writing it, and its rows are the shifted rows.
+-- Laws of the exact proof: its rows are the shifted rows, and weights that add up leave the proof as it was.
 use mathlib.Core.Path.{_≡_, refl, sym, _∙_, ap}
 use mathlib.Core.List.{List}
 use Prim.Native.Nat.{ℕ, _≤_, _<_}

@@ -1,4 +1,4 @@
--- STEPS of exact
+-- The steps of writing the exact proof.
 use mathlib.Core.Path.{_≡_, sym, _∙_}
 use mathlib.Core.List.{List, _++_}
 use Prim.Native.Nat.{ℕ, _+_, _≤_, _<_}
@@ -55,14 +55,14 @@ module _ (c s : List ℕ) (t : Aim) (given : CheckedSheets c s t) (sh : Shape) (
         pub weights-narrow : AllWithin greatestWeight (targetOf c t) s → i < sh .k → Narrow (tripleFor a)
         weights-narrow w l = rw weights-are (within-narrow _ (w .within i (rw es at l)))
 
-        pub row-written : (out′ : List ℕ) → out′ ≡ withWeights out sh i a → out′ ≡ withRows weights out₀ sh (i + 1)
-        row-written out′ eo = eo ∙ rw (e, weights-are) (sym (all-more weights out₀ sh i))
+        pub rows-next : (out′ : List ℕ) → out′ ≡ withWeights out sh i a → out′ ≡ withRows weights out₀ sh (i + 1)
+        rows-next out′ eo = eo ∙ rw (e, weights-are) (sym (all-more weights out₀ sh i))
 
-    pub rows-written : sh .k ≤ i → i ≤ sh .k → out ≡ withRows weights out₀ (shapeOf s) (rowCount s)
-    rows-written l m = let q : i ≡ sh .k = omega arith in e ∙ rw (q, es)
+    pub rows-end : sh .k ≤ i → i ≤ sh .k → out ≡ withRows weights out₀ (shapeOf s) (rowCount s)
+    rows-end l m = let q : i ≡ sh .k = omega arith in e ∙ rw (q, es)
 
-pub rows-none : (weights : ℕ → Weights) (out : List ℕ) (sh : Shape) → out ≡ withRows weights out sh 0
-rows-none weights out sh = sym (all-none weights out sh)
+pub rows-start : (weights : ℕ → Weights) (out : List ℕ) (sh : Shape) → out ≡ withRows weights out sh 0
+rows-start weights out sh = sym (all-none weights out sh)
 
 -- ---- write_exact: o is the output with the proof copied into it
 

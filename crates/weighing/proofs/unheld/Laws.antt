@@ -1,4 +1,4 @@
--- Laws of check 16: the ways through it, and that it is passed exactly where every target that is not zero has a slot.
+-- Laws of check 16: it is passed exactly where every target that is not zero has a slot.
 use mathlib.Core.Path.{_≡_, refl, sym, _∙_, ap}
 use mathlib.Core.Bool.{Bool, true, false, not, cond, _&&_, true≢false}
 use mathlib.Core.List.{List}
@@ -91,13 +91,16 @@ module _ (c s : List ℕ) (a : Aim) where
     listed-terms =
         rw (← (terms-table c (variables c) (termCount c) refl refl))
         (all-table (termOf c (variables c) (termCount c)) (λ t. unheldAt τ s (t .0) ≡ false) (termCount c)
-        (λ i l. rw (term-point c (variables c) (termCount c) i) (rw (lt-ltb i (termCount c) l) at (listed i (omega arith)))))
+        (λ i l. rw (term-point c (variables c) (termCount c) i)
+        (rw (lt-ltb i (termCount c) l) at (listed i (omega arith)))))
 
     -- a point outside the polynomial and its constant has no target
     elsewhere : (α : Exponents) → samePoint α (replicate (variables c) 0) ≡ false → unheldAt τ s α ≡ true → ⊥
     elsewhere α apart wrong =
-        let none = coefficient-none (λ β. unheldAt τ s β ≡ false) α (termsOf c) listed-terms (λ q. true≢false (sym wrong ∙ q)) in
-        let zero = target-of c a α ∙ target-zero (a .scale) _ α (lowered-other (variables c) (a .floor) (termsOf c) α apart ∙ none) in
+        let none = coefficient-none (λ β. unheldAt τ s β ≡ false) α (termsOf c) listed-terms
+        (λ q. true≢false (sym wrong ∙ q)) in
+        let zero = target-of c a α ∙ target-zero (a .scale) _ α
+        (lowered-other (variables c) (a .floor) (termsOf c) α apart ∙ none) in
         true≢false (sym wrong ∙ met-zero τ s α zero)
 
     pub unheld-passed : (α : Exponents) → unheldAt τ s α ≡ false

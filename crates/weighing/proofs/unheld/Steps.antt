@@ -1,4 +1,4 @@
--- STEPS of unheld
+-- The steps of check 16.
 use mathlib.Core.Path.{_≡_, refl, sym, _∙_}
 use mathlib.Core.Bool.{Bool, true, false, cond}
 use mathlib.Core.List.{List}
@@ -21,7 +21,7 @@ use Rattle.answers.specs.Searches.{first}
 use Rattle.claims.specs.ClaimChecks.{ClaimFacts}
 use Rattle.checks.specs.ProofChecks.{ProofFacts}
 use Rattle.answers.specs.declared.searches.Found.the-variants.{At, Nothing}
-use Rattle.answers.proofs.searches.Laws.{first-at, first-next, first-end}
+use Rattle.answers.proofs.searches.Laws.{first-stop, first-next, first-end}
 use Rattle.targets.specs.Carried.{Carried}
 use Rattle.sharing.specs.Sharing.{count}
 use Rattle.targets.specs.Targets.{targetOf, Targeted}
@@ -136,8 +136,8 @@ module _ (c s : List ℕ) (a : Aim) (given : CheckedSheets c s a) (n t : ℕ) (s
       target-tested : eqb (natAbs (targetOf c a α)) 0 ≡ r
       target-tested = sym (er ∙ rw (point-is p ep))
 
-      pub target-none : r ≡ true → first wrong i ≡ Nothing → first wrong (i + 1) ≡ Nothing
-      target-none h = met (zero-met (targetOf c a) s α (target-tested ∙ h))
+      pub zero-next : r ≡ true → first wrong i ≡ Nothing → first wrong (i + 1) ≡ Nothing
+      zero-next h = met (zero-met (targetOf c a) s α (target-tested ∙ h))
 
       pub target-some : r ≡ false → eqb (natAbs (targetOf c a α)) 0 ≡ false
       target-some h = target-tested ∙ h
@@ -147,19 +147,19 @@ module _ (c s : List ℕ) (a : Aim) (given : CheckedSheets c s a) (n t : ℕ) (s
       pub row-answered : r ≡ holdsPoint s sh α j
       row-answered = er .tells α carried-too e
 
-      pub row-found : r ≡ true → j < sh .k → first wrong i ≡ Nothing → first wrong (i + 1) ≡ Nothing
-      row-found h l =
+      pub held-next : r ≡ true → j < sh .k → first wrong i ≡ Nothing → first wrong (i + 1) ≡ Nothing
+      held-next h l =
           met (held-met (targetOf c a) s α (rw slots-here at (point-held s sh α j l (sym row-answered ∙ h))))
 
-    pub none-found : (j i′ : ℕ) → i ≤ t → sh .k ≤ j → j ≤ sh .k → eqb (natAbs (targetOf c a α)) 0 ≡ false
+    pub unheld-stop : (j i′ : ℕ) → i ≤ t → sh .k ≤ j → j ≤ sh .k → eqb (natAbs (targetOf c a α)) 0 ≡ false
         → first (holdsPoint s sh α) j ≡ Nothing → first wrong i ≡ Nothing → i′ ≡ i
         → At i′ ≡ first wrong (suc (termCount c))
-    none-found j i′ l m o h rows before ei =
+    unheld-stop j i′ l m o h rows before ei =
         let q : j ≡ sh .k = omega arith in
         let none : count α (slotsTo s sh (sh .k)) ≡ 0 = point-unheld s sh α (rw q at rows) in
         let unheld-here = here ∙ unmet (targetOf c a) s α h (rw slots-here at none) in
         let inside : i < suc (termCount c) = omega (arith, et) in
-        rw ei (first-at wrong (suc (termCount c)) i true inside before (sym unheld-here) refl)
+        rw ei (first-stop wrong (suc (termCount c)) i true inside before (sym unheld-here) refl)
 
-    pub all-met : t < i → i ≤ suc t → first wrong i ≡ Nothing → Nothing ≡ first wrong (suc (termCount c))
-    all-met l m before = first-end wrong (suc (termCount c)) i (omega (arith, et)) (omega (arith, et)) before
+    pub terms-end : t < i → i ≤ suc t → first wrong i ≡ Nothing → Nothing ≡ first wrong (suc (termCount c))
+    terms-end l m before = first-end wrong (suc (termCount c)) i (omega (arith, et)) (omega (arith, et)) before

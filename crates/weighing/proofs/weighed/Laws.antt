@@ -1,4 +1,4 @@
--- Laws of 16 to 19: the ways through them, and what it says of the shifted rows that they are passed.
+-- Laws of 16 to 19: what it says of the shifted rows that they are passed.
 use mathlib.Core.Path.{_≡_, _∙_}
 use mathlib.Core.List.{List}
 use Prim.Native.Nat.{ℕ, _<_}

@@ -1,4 +1,4 @@
--- STEPS of weighed
+-- The steps of 16 to 19, one after another.
 use mathlib.Core.Path.{_≡_, refl}
 use mathlib.Core.List.{List}
 use Prim.Native.Nat.{ℕ, suc}

@@ -1,5 +1,5 @@
 -- Laws of weights written back: no other byte changes, what is written reads back, and a sheet written back as it was
--- is the same; and the ways through the code.
+-- is the same.
 use mathlib.Core.Path.{_≡_, refl, sym, _∙_, ap}
 use mathlib.Core.Bool.{Bool, true}
 use mathlib.Core.List.{List, _++_}
@@ -62,7 +62,8 @@ module _ (s : List ℕ) (at : ℕ) (x : Triple) where
       words-are _ at (x .p) (x .q) (x .r)
       (read-before two (at + 8) (x .r) at (omega arith) ∙ read-before one (at + 4) (x .q) at (omega arith)
       ∙ read-written s at (x .p) (omega arith) (f .p-fits))
-      (read-before two (at + 8) (x .r) (at + 4) (omega arith) ∙ read-written one (at + 4) (x .q) (omega arith) (f .q-fits))
+      (read-before two (at + 8) (x .r) (at + 4) (omega arith)
+      ∙ read-written one (at + 4) (x .q) (omega arith) (f .q-fits))
       (read-written two (at + 8) (x .r) (omega arith) (f .r-fits))
 
   triple-earlier : (p : ℕ) → p + 12 ≤ at → wordsAt (withTriple s at x) p ≡ wordsAt s p
@@ -134,7 +135,8 @@ module _ (weights : ℕ → Weights) (s : List ℕ) (sh : Shape) where
       go : Dec (j < i) → (j < i → wordsAt (so i) (tripleAt sh j) ≡ next j)
           → wordsAt (withTriple (so i) (tripleAt sh i) (next i)) (tripleAt sh j) ≡ next j
       go (yes g) below =
-          triple-earlier (so i) (tripleAt sh i) (next i) (tripleAt sh j) (omega (arith, mul-le-mul-right 12 g)) ∙ below g
+          triple-earlier (so i) (tripleAt sh i) (next i) (tripleAt sh j) (omega (arith, mul-le-mul-right 12 g))
+          ∙ below g
       go (no g) below =
           let q : j ≡ i = omega arith in
           let room : tripleAt sh i + 12 ≤ length (so i) = rw all-length (omega (arith, mul-le-mul-right 12 l)) in

@@ -1,4 +1,4 @@
--- STEPS of writing
+-- The steps of write_triple and write_weights.
 use mathlib.Core.Path.{_≡_, _∙_}
 use mathlib.Core.List.{List}
 use Prim.Native.Nat.{ℕ, _+_}

@@ -7,4 +7,11 @@ returns : tie.Need-returns
 returns c = search code-is
 
 pub code-spec : {M : Type 1} → statement M
-code-spec = tie.close (tie.spec (λ c κs. search needs) (λ c. search needs) (λ c. search needs) (λ c. search needs) returns)
+code-spec =
+    tie.close
+    (tie.spec
+    (λ c κs. search needs)
+    (λ c. search needs)
+    (λ c. search needs)
+    (λ c. search needs)
+    returns)

@@ -4,7 +4,7 @@ use mathlib.Core.Path.{_≡_}
 use Rattle.answers.specs.declared.searches.Found.the-variants.{Nothing}
 use Rattle.answers.specs.Searches.{first}
 use Rattle.checks.specs.ProofChecks.{breaks}
-use Rattle.answers.proofs.searches.Laws.{first-start, first-at, first-next, first-end}
+use Rattle.answers.proofs.searches.Laws.{first-start, first-stop, first-next, first-end}
 use Rattle.checks.proofs.proof_checks.first_row.Statement.{statement}
 use Rattle.checks.proofs.proof_checks.first_row.Tie as tie
 
@@ -18,7 +18,7 @@ loop-holds : tie.Need-loop-holds Inv-loop μ-loop
 loop-holds c = search (needs, first-start)
 
 returns : tie.Need-returns Inv-loop μ-loop
-returns c = search first-at
+returns c = search first-stop
 
 loop-again : tie.Need-loop-again Inv-loop μ-loop
 loop-again c = search (needs, first-next)

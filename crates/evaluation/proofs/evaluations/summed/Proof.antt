@@ -10,7 +10,7 @@ use Rattle.answers.specs.declared.searches.Found.the-variants.{Nothing}
 use Rattle.answers.proofs.searches.Laws.{first-start}
 use Rattle.evaluation.specs.Evaluations.{tooLarge, sumTo}
 use Rattle.bounds.specs.Bounds.{greatestValue}
-use Rattle.evaluation.proofs.evaluations.Steps.{small-start, sum-next, sum-start, small-more, sum-fits, summed-all, large-here, none-more}
+use Rattle.evaluation.proofs.evaluations.Steps.{small-start, sum-next, sum-start, small-next, sum-fits, summed-end, summed-stop, none-next}
 use Rattle.evaluation.proofs.evaluations.summed.Statement.{statement}
 use Rattle.evaluation.proofs.evaluations.summed.Tie as tie
 
@@ -26,16 +26,16 @@ loop-holds : tie.Need-loop-holds Inv-loop μ-loop
 loop-holds c = (search needs, search first-start, search small-start, search sum-start)
 
 returns : tie.Need-returns Inv-loop μ-loop
-returns c = search large-here
+returns c = search summed-stop
 
 add-sum : tie.Need-add-sum Inv-loop μ-loop
 add-sum c = search (sum-fits, toZ-ofZ)
 
 loop-again : tie.Need-loop-again Inv-loop μ-loop
-loop-again c = (search needs, search none-more, search small-more, search (sum-next, toZ-ofZ))
+loop-again c = (search needs, search none-next, search small-next, search (sum-next, toZ-ofZ))
 
 returns-2 : tie.Need-returns-2 Inv-loop μ-loop
-returns-2 c = search summed-all
+returns-2 c = search summed-end
 
 pub summed-spec : {M : Type 1} → statement M
 summed-spec =

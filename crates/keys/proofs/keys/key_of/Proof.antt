@@ -2,7 +2,7 @@ use borrow.Author.Needs.{needs}
 use Prim.Native.Nat.{_≤_, _<_, _^_, _-_, _*_}
 use mathlib.Core.Path.{_≡_}
 use lib.ListN.{length}
-use Rattle.keys.proofs.keys.Steps.{from-on, from-first, times-fits, from-low, plus-fits, keyFrom, from-lower, from-none}
+use Rattle.keys.proofs.keys.Steps.{from-next, from-end, times-fits, low-start, plus-fits, keyFrom, low-next, from-start}
 use Rattle.keys.proofs.keys.key_of.Statement.{statement}
 use Rattle.keys.proofs.keys.key_of.Tie as tie
 
@@ -13,7 +13,7 @@ abbrev μ-loop : tie.MeasureT-loop
 μ-loop x i₀ key₀ i key = i
 
 loop-holds : tie.Need-loop-holds Inv-loop μ-loop
-loop-holds c = search (needs, from-none, from-low)
+loop-holds c = search (needs, from-start, low-start)
 
 mul-key : tie.Need-mul-key Inv-loop μ-loop
 mul-key c = search times-fits
@@ -22,10 +22,10 @@ add-key : tie.Need-add-key Inv-loop μ-loop
 add-key c = search plus-fits
 
 loop-again : tie.Need-loop-again Inv-loop μ-loop
-loop-again c = search (needs, from-on, from-lower)
+loop-again c = search (needs, from-next, low-next)
 
 returns : tie.Need-returns Inv-loop μ-loop
-returns c = search from-first
+returns c = search from-end
 
 pub key-of-spec : {M : Type 1} → statement M
 key-of-spec =

@@ -5,25 +5,26 @@ use lib.ListN.{length}
 use mir.Facts.{toZ-ofZ}
 use Rattle.bounds.specs.Bounds.{mostVariables}
 use Rattle.monomials.specs.Powers.{within}
-use Rattle.monomials.proofs.powers.Steps.{From, from-end, from-more, from-all}
+use Rattle.monomials.proofs.powers.Steps.{From, from-start, from-next, from-end}
 use Rattle.points.proofs.points.Laws.{Places}
 use Rattle.monomials.proofs.powers.monomial.Statement.{statement}
 use Rattle.monomials.proofs.powers.monomial.Tie as tie
 
 abbrev Inv-loop : tie.InvT-loop
-Inv-loop offsets e n i₀ value₀ i value = (i ≤ n) × (n ≤ mostVariables) × (i ≤ length offsets) × Places e × (value ≡ within (From offsets e n i))
+Inv-loop offsets e n i₀ value₀ i value = (i ≤ n) × (n ≤ mostVariables) × (i ≤ length offsets) × Places e
+    × (value ≡ within (From offsets e n i))
 
 abbrev μ-loop : tie.MeasureT-loop
 μ-loop offsets e n i₀ value₀ i value = i
 
 loop-holds : tie.Need-loop-holds Inv-loop μ-loop
-loop-holds c = search (needs, from-end)
+loop-holds c = search (needs, from-start)
 
 loop-again : tie.Need-loop-again Inv-loop μ-loop
-loop-again c = search (needs, from-more, toZ-ofZ)
+loop-again c = search (needs, from-next, toZ-ofZ)
 
 returns : tie.Need-returns Inv-loop μ-loop
-returns c = search from-all
+returns c = search from-end
 
 pub monomial-spec : {M : Type 1} → statement M
 monomial-spec =

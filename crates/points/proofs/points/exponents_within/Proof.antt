@@ -4,7 +4,7 @@ use lib.Dec.{leb}
 use borrow.Author.Tests.{le-leb, lt-leb}
 use Rattle.points.specs.Points.{exponentsWithin}
 use Rattle.points.proofs.points.Laws.{Places}
-use Rattle.points.proofs.points.Steps.{passed-none, passed-on, Passed, every-ends, every-stops}
+use Rattle.points.proofs.points.Steps.{passed-start, passed-next, Passed, every-end, every-stop}
 use Rattle.points.proofs.points.exponents_within.Statement.{statement}
 use Rattle.points.proofs.points.exponents_within.Tie as tie
 
@@ -15,18 +15,18 @@ abbrev μ-loop : tie.MeasureT-loop
 μ-loop limit n x i₀ i = n - i
 
 loop-holds : tie.Need-loop-holds Inv-loop μ-loop
-loop-holds c = search (needs, passed-none)
+loop-holds c = search (needs, passed-start)
 
 returns : tie.Need-returns Inv-loop μ-loop
 unfolding exponentsWithin
-returns c = search (every-stops, lt-leb)
+returns c = search (every-stop, lt-leb)
 
 loop-again : tie.Need-loop-again Inv-loop μ-loop
-loop-again c = search (needs, passed-on, le-leb)
+loop-again c = search (needs, passed-next, le-leb)
 
 returns-2 : tie.Need-returns-2 Inv-loop μ-loop
 unfolding exponentsWithin
-returns-2 c = search every-ends
+returns-2 c = search every-end
 
 pub exponents-within-spec : {M : Type 1} → statement M
 exponents-within-spec =

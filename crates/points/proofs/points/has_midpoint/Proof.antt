@@ -2,7 +2,7 @@ use borrow.Author.Needs.{needs}
 use Prim.Native.Nat.{_-_, _≤_}
 use Rattle.points.specs.Points.{evenSum, hasMidpoint}
 use Rattle.points.proofs.points.Laws.{Places}
-use Rattle.points.proofs.points.Steps.{passed-none, pair-test, pair-fewer, pair-ends, Passed, passed-test}
+use Rattle.points.proofs.points.Steps.{passed-start, tested-stop, pair-fewer, pair-end, Passed, tested-next}
 use Rattle.points.proofs.points.has_midpoint.Statement.{statement}
 use Rattle.points.proofs.points.has_midpoint.Tie as tie
 
@@ -17,18 +17,18 @@ unfolding hasMidpoint
 returns c = search (needs, pair-fewer)
 
 loop-holds : tie.Need-loop-holds Inv-loop μ-loop
-loop-holds c = search (needs, passed-none)
+loop-holds c = search (needs, passed-start)
 
 loop-again : tie.Need-loop-again Inv-loop μ-loop
-loop-again c = search (needs, passed-test)
+loop-again c = search (needs, tested-next)
 
 returns-2 : tie.Need-returns-2 Inv-loop μ-loop
 unfolding hasMidpoint
-returns-2 c = search pair-test
+returns-2 c = search tested-stop
 
 returns-3 : tie.Need-returns-3 Inv-loop μ-loop
 unfolding hasMidpoint
-returns-3 c = search pair-ends
+returns-3 c = search pair-end
 
 pub has-midpoint-spec : {M : Type 1} → statement M
 has-midpoint-spec =

@@ -5,7 +5,7 @@ use lib.Dec.{eqb}
 use borrow.Author.Tests.{eq-eqb, ne-eqb}
 use Rattle.points.specs.Points.{keepsSign}
 use Rattle.points.proofs.points.Laws.{Places}
-use Rattle.points.proofs.points.Steps.{passed-none, passed-on, Passed, every-ends, every-stops}
+use Rattle.points.proofs.points.Steps.{passed-start, passed-next, Passed, every-end, every-stop}
 use Rattle.points.proofs.points.keeps_sign.Statement.{statement}
 use Rattle.points.proofs.points.keeps_sign.Tie as tie
 
@@ -16,18 +16,18 @@ abbrev μ-loop : tie.MeasureT-loop
 μ-loop n x i₀ i = n - i
 
 loop-holds : tie.Need-loop-holds Inv-loop μ-loop
-loop-holds c = search (needs, passed-none)
+loop-holds c = search (needs, passed-start)
 
 returns : tie.Need-returns Inv-loop μ-loop
 unfolding keepsSign
-returns c = search (every-stops, ne-eqb)
+returns c = search (every-stop, ne-eqb)
 
 loop-again : tie.Need-loop-again Inv-loop μ-loop
-loop-again c = search (needs, passed-on, eq-eqb)
+loop-again c = search (needs, passed-next, eq-eqb)
 
 returns-2 : tie.Need-returns-2 Inv-loop μ-loop
 unfolding keepsSign
-returns-2 c = search every-ends
+returns-2 c = search every-end
 
 pub keeps-sign-spec : {M : Type 1} → statement M
 keeps-sign-spec =

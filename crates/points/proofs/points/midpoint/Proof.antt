@@ -5,24 +5,25 @@ use lib.ListN.{getD}
 use Rattle.bounds.specs.Bounds.{mostVariables}
 use Rattle.points.specs.Lists.{table}
 use Rattle.points.proofs.points.Laws.{Places}
-use Rattle.points.proofs.points.Steps.{filled-on, midpoint-made, filled-none, padded}
+use Rattle.points.proofs.points.Steps.{filled-next, midpoint-end, filled-start, padded}
 use Rattle.points.proofs.points.midpoint.Statement.{statement}
 use Rattle.points.proofs.points.midpoint.Tie as tie
 
 abbrev Inv-loop : tie.InvT-loop
-Inv-loop n x y exps₀ i₀ exps i = (i ≤ n) × (n ≤ mostVariables) × Places x × Places y × (exps ≡ padded (table (λ j. (getD x j 0 + getD y j 0) / 2) i))
+Inv-loop n x y exps₀ i₀ exps i = (i ≤ n) × (n ≤ mostVariables) × Places x × Places y
+    × (exps ≡ padded (table (λ j. (getD x j 0 + getD y j 0) / 2) i))
 
 abbrev μ-loop : tie.MeasureT-loop
 μ-loop n x y exps₀ i₀ exps i = n - i
 
 loop-holds : tie.Need-loop-holds Inv-loop μ-loop
-loop-holds c = search (needs, filled-none)
+loop-holds c = search (needs, filled-start)
 
 loop-again : tie.Need-loop-again Inv-loop μ-loop
-loop-again c = search (needs, filled-on)
+loop-again c = search (needs, filled-next)
 
 returns : tie.Need-returns Inv-loop μ-loop
-returns c = search midpoint-made
+returns c = search midpoint-end
 
 pub midpoint-spec : {M : Type 1} → statement M
 midpoint-spec =

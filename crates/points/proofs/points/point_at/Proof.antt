@@ -4,7 +4,7 @@ use mathlib.Core.Path.{_≡_}
 use lib.ListN.{getD}
 use Rattle.points.specs.Lists.{table}
 use Rattle.points.specs.Points.{bytesAt}
-use Rattle.points.proofs.points.Steps.{filled-on, filled-end, filled-none, padded}
+use Rattle.points.proofs.points.Steps.{filled-next, filled-end, filled-start, padded}
 use Rattle.points.proofs.points.point_at.Statement.{statement}
 use Rattle.points.proofs.points.point_at.Tie as tie
 
@@ -15,10 +15,10 @@ abbrev μ-loop : tie.MeasureT-loop
 μ-loop s at n exps₀ i₀ exps i = n - i
 
 loop-holds : tie.Need-loop-holds Inv-loop μ-loop
-loop-holds c = search (needs, filled-none)
+loop-holds c = search (needs, filled-start)
 
 loop-again : tie.Need-loop-again Inv-loop μ-loop
-loop-again c = search (needs, filled-on)
+loop-again c = search (needs, filled-next)
 
 returns : tie.Need-returns Inv-loop μ-loop
 unfolding bytesAt

@@ -3,7 +3,7 @@ use Prim.Native.Nat.{_-_, _≤_}
 use lib.Dec.{eqb}
 use Rattle.bounds.specs.Bounds.{mostVariables}
 use Rattle.points.proofs.points.Laws.{Places}
-use Rattle.points.proofs.points.Steps.{rises-end, rises-less, Passed, rises-on, rises-more, passed-start}
+use Rattle.points.proofs.points.Steps.{rises-end, rises-less, Passed, rises-next, rises-more, rises-start}
 use Rattle.points.proofs.points.rises.Statement.{statement}
 use Rattle.points.proofs.points.rises.Tie as tie
 
@@ -14,7 +14,7 @@ abbrev μ-loop : tie.MeasureT-loop
 μ-loop n x y left₀ left = left
 
 loop-holds : tie.Need-loop-holds Inv-loop μ-loop
-loop-holds c = search (needs, passed-start)
+loop-holds c = search (needs, rises-start)
 
 returns : tie.Need-returns Inv-loop μ-loop
 returns c = search rises-more
@@ -23,7 +23,7 @@ returns-2 : tie.Need-returns-2 Inv-loop μ-loop
 returns-2 c = search rises-less
 
 loop-again : tie.Need-loop-again Inv-loop μ-loop
-loop-again c = search (needs, rises-on)
+loop-again c = search (needs, rises-next)
 
 returns-3 : tie.Need-returns-3 Inv-loop μ-loop
 returns-3 c = search rises-end

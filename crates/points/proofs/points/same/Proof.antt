@@ -4,7 +4,7 @@ use lib.Dec.{eqb}
 use borrow.Author.Tests.{eq-eqb, ne-eqb}
 use Rattle.points.specs.Points.{samePoint}
 use Rattle.points.proofs.points.Laws.{Places}
-use Rattle.points.proofs.points.Steps.{passed-none, passed-on, pair-fewer, pair-stops, pair-ends, Passed}
+use Rattle.points.proofs.points.Steps.{passed-start, passed-next, pair-fewer, pair-stop, pair-end, Passed}
 use Rattle.points.proofs.points.same.Statement.{statement}
 use Rattle.points.proofs.points.same.Tie as tie
 
@@ -19,18 +19,18 @@ unfolding samePoint
 returns c = search (needs, pair-fewer)
 
 loop-holds : tie.Need-loop-holds Inv-loop μ-loop
-loop-holds c = search (needs, passed-none)
+loop-holds c = search (needs, passed-start)
 
 returns-2 : tie.Need-returns-2 Inv-loop μ-loop
 unfolding samePoint
-returns-2 c = search (pair-stops, ne-eqb)
+returns-2 c = search (pair-stop, ne-eqb)
 
 loop-again : tie.Need-loop-again Inv-loop μ-loop
-loop-again c = search (needs, passed-on, eq-eqb)
+loop-again c = search (needs, passed-next, eq-eqb)
 
 returns-3 : tie.Need-returns-3 Inv-loop μ-loop
 unfolding samePoint
-returns-3 c = search pair-ends
+returns-3 c = search pair-end
 
 pub same-spec : {M : Type 1} → statement M
 same-spec =

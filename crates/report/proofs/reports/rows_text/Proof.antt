@@ -2,7 +2,7 @@ use borrow.Author.Needs.{needs}
 use Prim.Native.Nat.{_-_, _≤_}
 use Rattle.text.specs.Text.{Written}
 use Rattle.report.specs.Reports.{rowsText}
-use Rattle.report.proofs.reports.Steps.{next-room, rows-all, rows-none, rows-more}
+use Rattle.report.proofs.reports.Steps.{next-room, rows-end, rows-start, rows-next}
 use Rattle.report.proofs.reports.rows_text.Statement.{statement}
 use Rattle.report.proofs.reports.rows_text.Tie as tie
 
@@ -13,16 +13,16 @@ abbrev μ-loop : tie.MeasureT-loop
 μ-loop proof shape out₀ at end₀ i₀ out end i = shape .k - i
 
 loop-holds : tie.Need-loop-holds Inv-loop μ-loop
-loop-holds c = search (needs, rows-none)
+loop-holds c = search (needs, rows-start)
 
 row-text-requires : tie.Need-row-text-requires Inv-loop μ-loop
 row-text-requires c κs = search (needs, next-room)
 
 loop-again : tie.Need-loop-again Inv-loop μ-loop
-loop-again c = search (needs, rows-more)
+loop-again c = search (needs, rows-next)
 
 returns : tie.Need-returns Inv-loop μ-loop
-returns c = search rows-all
+returns c = search rows-end
 
 pub rows-text-spec : {M : Type 1} → statement M
 rows-text-spec =

@@ -1,11 +1,11 @@
 use mir.Facts.{toZ-ofZ}
 use borrow.Author.Needs.{needs}
-use Rattle.sharing.proofs.slots.Steps.{rank-fits, held-is, tally-none}
+use Rattle.sharing.proofs.slots.Steps.{rank-fits, held-is, scan-start}
 use Rattle.sharing.proofs.slots.held.Statement.{statement}
 use Rattle.sharing.proofs.slots.held.Tie as tie
 
 scan-requires : tie.Need-scan-requires
-scan-requires c κs = search (needs, tally-none)
+scan-requires c κs = search (needs, scan-start)
 
 add-t9 : tie.Need-add-t9
 add-t9 c = search rank-fits

@@ -3,7 +3,7 @@ use Prim.Native.Nat.{_≤_, _-_}
 use mathlib.Core.Path.{_≡_}
 use Rattle.answers.specs.Searches.{first}
 use Rattle.answers.specs.declared.searches.Found.the-variants.{Nothing}
-use Rattle.answers.proofs.searches.Laws.{first-start, first-at, first-next, first-end}
+use Rattle.answers.proofs.searches.Laws.{first-start, first-stop, first-next, first-end}
 use Rattle.targets.specs.Targets.{hasKey}
 use Rattle.targets.proofs.targets.find_term.Statement.{statement}
 use Rattle.targets.proofs.targets.find_term.Tie as tie
@@ -18,7 +18,7 @@ loop-holds : tie.Need-loop-holds Inv-loop μ-loop
 loop-holds c = search (needs, first-start)
 
 returns : tie.Need-returns Inv-loop μ-loop
-returns c = search first-at
+returns c = search first-stop
 
 loop-again : tie.Need-loop-again Inv-loop μ-loop
 loop-again c = search (needs, first-next)

@@ -3,7 +3,7 @@ use Prim.Native.Nat.{_-_, _≤_}
 use mathlib.Core.Path.{_≡_}
 use lib.ListN.{length, take}
 use lib.Seq.{sets}
-use Rattle.text.proofs.text.Steps.{copied-all, copied-more}
+use Rattle.text.proofs.text.Steps.{copied-end, copied-next}
 use Rattle.text.proofs.text.put_text.Statement.{statement}
 use Rattle.text.proofs.text.put_text.Tie as tie
 
@@ -14,10 +14,10 @@ abbrev μ-loop : tie.MeasureT-loop
 μ-loop text out₀ at i₀ out i = length text - i
 
 loop-again : tie.Need-loop-again Inv-loop μ-loop
-loop-again c = search (needs, copied-more)
+loop-again c = search (needs, copied-next)
 
 returns : tie.Need-returns Inv-loop μ-loop
-returns c = search copied-all
+returns c = search copied-end
 
 pub put-text-spec : {M : Type 1} → statement M
 put-text-spec =

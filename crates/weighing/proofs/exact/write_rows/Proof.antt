@@ -4,7 +4,7 @@ use mathlib.Core.Path.{_≡_}
 use Rattle.writing.specs.Writing.{withRows}
 use Rattle.targets.specs.Targets.{targetOf}
 use Rattle.weighing.specs.Exact.{weightsFor}
-use Rattle.weighing.proofs.exact.Steps.{rows-written, row-written, rows-none, weights-narrow, room-kept, row-inside, length-kept}
+use Rattle.weighing.proofs.exact.Steps.{rows-end, rows-next, rows-start, weights-narrow, room-kept, row-inside, length-kept}
 use Rattle.weighing.proofs.exact.write_rows.Statement.{statement}
 use Rattle.weighing.proofs.exact.write_rows.Tie as tie
 
@@ -16,7 +16,7 @@ abbrev μ-loop : tie.MeasureT-loop
 μ-loop claim proof aim out₀ shape i₀ out i = shape .k - i
 
 loop-holds : tie.Need-loop-holds Inv-loop μ-loop
-loop-holds c = (search needs, search rows-none)
+loop-holds c = (search needs, search rows-start)
 
 shifted-row-requires : tie.Need-shifted-row-requires Inv-loop μ-loop
 shifted-row-requires c κs = search (needs, row-inside)
@@ -25,13 +25,13 @@ write-weights-requires : tie.Need-write-weights-requires Inv-loop μ-loop
 write-weights-requires c κs = (search room-kept, search needs, search weights-narrow)
 
 loop-again : tie.Need-loop-again Inv-loop μ-loop
-loop-again c = (search needs, search row-written)
+loop-again c = (search needs, search rows-next)
 
 same-length : tie.Need-same-length Inv-loop μ-loop
 same-length c = search length-kept
 
 returns : tie.Need-returns Inv-loop μ-loop
-returns c = search rows-written
+returns c = search rows-end
 
 pub write-rows-spec : {M : Type 1} → statement M
 write-rows-spec =

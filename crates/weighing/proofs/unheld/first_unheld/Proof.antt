@@ -13,7 +13,7 @@ use Rattle.answers.proofs.searches.Laws.{first-start, first-next}
 use Rattle.targets.specs.Targets.{targetOf}
 use Rattle.sharing.specs.Slots.{holdsPoint}
 use Rattle.weighing.specs.Unheld.{pointFor, unheld}
-use Rattle.weighing.proofs.unheld.Steps.{key-low, row-found, all-met, targeted-here, row-answered, target-some, none-found, claim-here, point-looked, proof-here, key-here, target-none}
+use Rattle.weighing.proofs.unheld.Steps.{key-low, held-next, terms-end, targeted-here, row-answered, target-some, unheld-stop, claim-here, point-looked, proof-here, key-here, zero-next}
 use Rattle.weighing.proofs.unheld.first_unheld.Statement.{statement}
 use Rattle.weighing.proofs.unheld.first_unheld.Tie as tie
 
@@ -44,7 +44,7 @@ no-target-requires : tie.Need-no-target-requires Inv-loop μ-loop Inv-terms μ-t
 no-target-requires c κs = (search targeted-here, search point-looked)
 
 terms-again : tie.Need-terms-again Inv-loop μ-loop Inv-terms μ-terms
-terms-again c = (search needs, search target-none)
+terms-again c = (search needs, search zero-next)
 
 loop-holds : tie.Need-loop-holds Inv-loop μ-loop Inv-terms μ-terms
 loop-holds c =
@@ -54,16 +54,24 @@ holds-key-requires : tie.Need-holds-key-requires Inv-loop μ-loop Inv-terms μ-t
 holds-key-requires c κs = (search proof-here, search needs, search key-low)
 
 terms-again-2 : tie.Need-terms-again-2 Inv-loop μ-loop Inv-terms μ-terms
-terms-again-2 c = (search needs, search row-found)
+terms-again-2 c = (search needs, search held-next)
 
 loop-again : tie.Need-loop-again Inv-loop μ-loop Inv-terms μ-terms
-loop-again c = (search needs, search needs, search needs, search needs, search needs, search (first-next, row-answered), search needs)
+loop-again c = (
+  search needs,
+  search needs,
+  search needs,
+  search needs,
+  search needs,
+  search (first-next, row-answered),
+  search needs,
+)
 
 returns : tie.Need-returns Inv-loop μ-loop Inv-terms μ-terms
-returns c = ⊎-elim (λ end. absurd (omega arith)) (λ miss. search none-found) (c .before .terms-test .came)
+returns c = ⊎-elim (λ end. absurd (omega arith)) (λ miss. search unheld-stop) (c .before .terms-test .came)
 
 returns-2 : tie.Need-returns-2 Inv-loop μ-loop Inv-terms μ-terms
-returns-2 c = ⊎-elim (λ end. search all-met) (λ miss. absurd (omega arith)) (c .before .terms-test .came)
+returns-2 c = ⊎-elim (λ end. search terms-end) (λ miss. absurd (omega arith)) (c .before .terms-test .came)
 
 pub first-unheld-spec : {M : Type 1} → statement M
 first-unheld-spec =

@@ -5,7 +5,7 @@ use Rattle.bounds.specs.Bounds.{greatestWeight}
 use Rattle.targets.specs.Targets.{targetOf}
 use Rattle.sharing.specs.Shifts.{shiftedRow}
 use Rattle.judgements.specs.Judgements.{firstsTo}
-use Rattle.judgements.proofs.judgements.Laws.{firsts-none, firsts-on, firsts-end}
+use Rattle.judgements.proofs.judgements.Laws.{firsts-start, firsts-next, firsts-end}
 use Rattle.weighing.proofs.weighed.judge_all.Statement.{statement}
 use Rattle.weighing.proofs.weighed.judge_all.Tie as tie
 
@@ -17,10 +17,10 @@ abbrev μ-loop : tie.MeasureT-loop
 μ-loop claim proof aim k f₀ i₀ f i = k - i
 
 loop-holds : tie.Need-loop-holds Inv-loop μ-loop
-loop-holds c = search (needs, firsts-none)
+loop-holds c = search (needs, firsts-start)
 
 loop-again : tie.Need-loop-again Inv-loop μ-loop
-loop-again c = search (needs, firsts-on)
+loop-again c = search (needs, firsts-next)
 
 returns : tie.Need-returns Inv-loop μ-loop
 returns c = search firsts-end
