@@ -7,6 +7,8 @@ use lib.ListN.{length, getD, take, replicate}
 use Rattle.bounds.specs.Bounds.{mostVariables}
 use Rattle.points.specs.Lists.{table}
 use Rattle.points.specs.declared.points.Point.{Point}
+use Rattle.points.specs.declared.points.Test.{Test}
+use Rattle.points.specs.declared.points.Test.the-variants.{Equal, EvenSum, Even, Within}
 
 abbrev pub Exponents : Type 0
 Exponents = List ℕ
@@ -65,3 +67,11 @@ keepsSign α = every (λ e. eqb (e % 2) 0) α
 -- no exponent is over the limit
 unfoldable pub exponentsWithin : ℕ → Exponents → Bool
 exponentsWithin limit α = every (λ e. leb e limit) α
+
+-- ---- the same tests as the code has them, one for each of the four: the last two look at the first exponent alone
+
+unfoldable pub passes : Test → ℕ → ℕ → Bool
+passes Equal a b = eqb a b
+passes EvenSum a b = evenSum a b
+passes Even a b = eqb (a % 2) 0
+passes (Within limit) a b = leb a limit

@@ -4,7 +4,7 @@ ghost use mathlib.Core.Path.{_≡_};
 ghost use Prim.Native.Nat.{_+_, _/_, _<_, _≤_, min};
 ghost use lib.ListN.{length};
 ghost use Rattle.bounds.specs.Bounds.{mostVariables};
-ghost use Rattle.points.specs.Points.{exponents, pointOf, bytesAt, samePoint, risesTo, evenSum, hasMidpoint, midpointOf, keepsSign, exponentsWithin};
+ghost use Rattle.points.specs.Points.{exponents, pointOf, bytesAt, everyPair, passes, samePoint, risesTo, hasMidpoint, midpointOf, keepsSign, exponentsWithin};
 
 // The exponents of n variables, in the first n places; no point has more variables than places.
 pub struct Point {
@@ -17,12 +17,7 @@ impl Point {
     pub fn variables(self) -> usize
         ensures { λ r. ⌜ (r ≡ length (exponents self)) × (r ≤ mostVariables) ⌝ }
     {
-        let n = self.n;
-        if n < MOST_VARIABLES {
-            n
-        } else {
-            MOST_VARIABLES
-        }
+        fewer(self.n, MOST_VARIABLES)
     }
 }
 
@@ -47,9 +42,29 @@ pub fn point_at(s: &[u8], at: usize, n: usize) -> Point
     Point { exps, n }
 }
 
-// Whether two points have the same exponents.
-pub fn same(a: Point, b: Point) -> bool
-    ensures { λ r. ⌜ r ≡ samePoint (exponents a) (exponents b) ⌝ }
+// What is asked of an exponent of one point, beside that of another.
+pub enum Test {
+    Equal,
+    EvenSum,
+    Even,
+    Within(u8),
+}
+
+// Whether two exponents pass a test; the last two look at the first alone.
+fn passes(test: Test, x: u8, y: u8) -> bool
+    ensures { λ r. ⌜ r ≡ passes test x y ⌝ }
+{
+    match test {
+        Test::Equal => x == y,
+        Test::EvenSum => (x as u16 + y as u16) % 2 == 0,
+        Test::Even => x % 2 == 0,
+        Test::Within(limit) => x <= limit,
+    }
+}
+
+// Whether two points have as many variables, and every two exponents of one variable pass a test.
+fn all_pass(test: Test, a: Point, b: Point) -> bool
+    ensures { λ r. ⌜ r ≡ everyPair (passes test) (exponents a) (exponents b) ⌝ }
 {
     let n = a.variables();
     if n != b.variables() {
@@ -59,12 +74,41 @@ pub fn same(a: Point, b: Point) -> bool
     let y = b.exps;
     let mut i = 0;
     while i < n {
-        if x[i] != y[i] {
+        if passes(test, x[i], y[i]) {
+            i += 1;
+        } else {
             return false;
         }
-        i += 1;
     }
     true
+}
+
+// Whether two points have the same exponents.
+pub fn same(a: Point, b: Point) -> bool
+    ensures { λ r. ⌜ r ≡ samePoint (exponents a) (exponents b) ⌝ }
+{
+    all_pass(Test::Equal, a, b)
+}
+
+// Whether every sum of two exponents of one variable is even.
+pub fn has_midpoint(a: Point, b: Point) -> bool
+    ensures { λ r. ⌜ r ≡ hasMidpoint (exponents a) (exponents b) ⌝ }
+{
+    all_pass(Test::EvenSum, a, b)
+}
+
+// Whether the monomial with these exponents is never negative.
+pub fn keeps_sign(p: Point) -> bool
+    ensures { λ r. ⌜ r ≡ keepsSign (exponents p) ⌝ }
+{
+    all_pass(Test::Even, p, p)
+}
+
+// Whether no exponent is over the limit.
+pub fn exponents_within(p: Point, limit: u8) -> bool
+    ensures { λ r. ⌜ r ≡ exponentsWithin limit (exponents p) ⌝ }
+{
+    all_pass(Test::Within(limit), p, p)
 }
 
 // Whether b is above a, compared by the first variable first.
@@ -88,34 +132,6 @@ pub fn rises(a: Point, b: Point) -> bool
     false
 }
 
-// Whether half the sum of two exponents is whole.
-fn even_sum(x: u8, y: u8) -> bool
-    ensures { λ r. ⌜ r ≡ evenSum x y ⌝ }
-{
-    (x as u16 + y as u16) % 2 == 0
-}
-
-// Whether every sum of two exponents of one variable is even.
-pub fn has_midpoint(a: Point, b: Point) -> bool
-    ensures { λ r. ⌜ r ≡ hasMidpoint (exponents a) (exponents b) ⌝ }
-{
-    let n = a.variables();
-    if n != b.variables() {
-        return false;
-    }
-    let x = a.exps;
-    let y = b.exps;
-    let mut i = 0;
-    while i < n {
-        if even_sum(x[i], y[i]) {
-            i += 1;
-        } else {
-            return false;
-        }
-    }
-    true
-}
-
 // Half the sum of two exponents.
 fn half(x: u8, y: u8) -> u8
     ensures { λ r. ⌜ r ≡ (x + y) / 2 ⌝ }
@@ -137,36 +153,4 @@ pub fn midpoint(a: Point, b: Point) -> Point
         i += 1;
     }
     Point { exps, n }
-}
-
-// Whether the monomial with these exponents is never negative.
-pub fn keeps_sign(p: Point) -> bool
-    ensures { λ r. ⌜ r ≡ keepsSign (exponents p) ⌝ }
-{
-    let n = p.variables();
-    let x = p.exps;
-    let mut i = 0;
-    while i < n {
-        if x[i] % 2 != 0 {
-            return false;
-        }
-        i += 1;
-    }
-    true
-}
-
-// Whether no exponent is over the limit.
-pub fn exponents_within(p: Point, limit: u8) -> bool
-    ensures { λ r. ⌜ r ≡ exponentsWithin limit (exponents p) ⌝ }
-{
-    let n = p.variables();
-    let x = p.exps;
-    let mut i = 0;
-    while i < n {
-        if limit < x[i] {
-            return false;
-        }
-        i += 1;
-    }
-    true
 }

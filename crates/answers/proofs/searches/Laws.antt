@@ -1,4 +1,5 @@
--- Laws of searches: the loop that looks for the first index at which something is wrong, and what it says of every index.
+-- Laws of searches: the loop that looks for the first index at which something is wrong, and what it says of every
+-- index.
 use mathlib.Core.Path.{_≡_, refl, sym, _∙_}
 use mathlib.Core.Bool.{Bool, true, false}
 use mathlib.Core.Logic.{⊎-elim}
@@ -29,7 +30,8 @@ module _ (wrong : ℕ → Bool) where
   first-found n i l h k = le-ind (λ m. first wrong m ≡ At i) (first-here i h k) (λ m _. first-stays m i) n l
 
   -- the loop `while i < n { if wrong(i) { return At(i); } i += 1; } Nothing`, where r is what wrong(i) answered
-  pub first-stop : (n i : ℕ) (r : Bool) → i < n → first wrong i ≡ Nothing → r ≡ wrong i → r ≡ true → At i ≡ first wrong n
+  pub first-stop : (n i : ℕ) (r : Bool) → i < n → first wrong i ≡ Nothing → r ≡ wrong i → r ≡ true
+      → At i ≡ first wrong n
   first-stop n i r l h e k = sym (first-found n i l h (sym e ∙ k))
 
   pub first-next : (i : ℕ) (r : Bool) → first wrong i ≡ Nothing → r ≡ wrong i → r ≡ false

@@ -2,39 +2,37 @@
 use mathlib.Core.Path.{_≡_, refl, sym, _∙_, ap}
 use mathlib.Core.Bool.{Bool, true, false, cond, and-false}
 use mathlib.Core.List.{List, [], _∷_, _++_, append-assoc}
-use Prim.Native.Nat.{ℕ, zero, suc, _+_, _-_, _/_, _<_, _≤_, min}
+use Prim.Native.Nat.{ℕ, zero, suc, _+_, _-_, _/_, _<_, _≤_, min, _%_}
 use native.Mathlib.Nat.{le-of-lt}
 use native.Mathlib.Numerals.{add-one}
 use native.Mathlib.Omega.{arith}
-use lib.Dec.{eqb, ltb}
+use lib.Dec.{leb, eqb, ltb}
 use lib.ListN.{length, getD, set, drop, replicate, length-append, length-take}
 use lib.Seq.{drop-cons, drop-nil, getD-take, set-at, ext-getD}
 use borrow.Author.Tests.{lt-ltb, le-ltb, eq-eqb, eqb-true}
 use borrow.Author.Count.{below-more}
 use Rattle.bounds.specs.Bounds.{mostVariables}
 use Rattle.points.specs.Lists.{table}
-use Rattle.points.specs.Points.{Exponents, exponents, pointOf, every, everyPair, risesTo, midpointOf}
+use Rattle.points.specs.Points.{evenSum, Exponents, exponents, pointOf, every, everyPair, risesTo, midpointOf, passes, keepsSign, exponentsWithin, samePoint, hasMidpoint}
 use Rattle.points.proofs.Lists.{table-length, table-get}
 use Rattle.points.specs.declared.points.Point.{Point}
+use Rattle.points.specs.declared.points.Test.{Test}
+use Rattle.points.specs.declared.points.Test.the-variants.{Equal, EvenSum, Even, Within}
 use Rattle.points.proofs.points.Laws.{Places, midpoint-length}
 
 -- ---- points by value
 
 module _ (p : Point) (eight : Places (p .exps)) where
-  pub variables-fewer : p .n < mostVariables → p .n ≡ length (exponents p)
+  pub variables-are : (r : ℕ) → r ≡ min (p .n) mostVariables → r ≡ length (exponents p)
   unfolding exponents
-  variables-fewer h = sym (length-take (p .n) (p .exps) ∙ omega arith)
-
-  pub variables-all : mostVariables ≤ p .n → mostVariables ≡ length (exponents p)
-  unfolding exponents
-  variables-all h = sym (length-take (p .n) (p .exps) ∙ omega arith)
+  variables-are r e = omega (arith, length-take (p .n) (p .exps))
 
   -- an exponent, by its place
   exponent-is : (i : ℕ) → i < length (exponents p) → getD (exponents p) i 0 ≡ getD (p .exps) i 0
   unfolding exponents
   exponent-is i h = getD-take (p .n) (p .exps) i 0 (omega (arith, length-take (p .n) (p .exps)))
 
--- ---- tests over the exponents of two points
+-- ---- tests over exponents
 
 -- the test holds at every place below i
 unfoldable pub Passed : (ℕ → ℕ → Bool) → List ℕ → List ℕ → ℕ → Type 0
@@ -49,14 +47,11 @@ module _ (p : ℕ → ℕ → Bool) (x y : List ℕ) where
   pub rises-start : (n : ℕ) → Passed p x y (n - n)
   rises-start n = let e : n - n ≡ 0 = omega arith in rw e passed-start
 
-  pub passed-next : (i : ℕ) → Passed p x y i → p (getD x i 0) (getD y i 0) ≡ true → Passed p x y (i + 1)
-  unfolding Passed
-  passed-next i h e = below-more _ _ h e
-
-  -- the same where r is what a test's function answered
-  pub tested-next : (i : ℕ) (r : Bool) → Passed p x y i → r ≡ p (getD x i 0) (getD y i 0) → r ≡ true
+  -- r is what the test answered
+  pub passed-next : (i : ℕ) (r : Bool) → Passed p x y i → r ≡ p (getD x i 0) (getD y i 0) → r ≡ true
       → Passed p x y (i + 1)
-  tested-next i r h e t = passed-next i h (sym e ∙ t)
+  unfolding Passed
+  passed-next i r h e k = below-more _ _ h (sym e ∙ k)
 
 module _ (p : ℕ → ℕ → Bool) where
   pair-false : (v w : Exponents) (i : ℕ) → i < length v → i < length w → p (getD v i 0) (getD w i 0) ≡ false
@@ -96,15 +91,11 @@ module _ (p : ℕ → ℕ → Bool) (a b : Point) (n m : ℕ) (ea : Places (a .e
   pair-fewer h = sym (pair-unlike p (exponents a) (exponents b) (λ e. h (na ∙ e ∙ sym mb)))
 
   module _ (i : ℕ) (e : n ≡ m) where
-    pub pair-stop : i < n → p (getD (a .exps) i 0) (getD (b .exps) i 0) ≡ false
+    pub pair-stop : (r : Bool) → i < n → r ≡ p (getD (a .exps) i 0) (getD (b .exps) i 0) → r ≡ false
         → false ≡ everyPair p (exponents a) (exponents b)
-    pair-stop h k =
+    pair-stop r h k f =
         sym (pair-false p (exponents a) (exponents b) i (omega arith) (omega arith)
-        (rw (exponent-is a ea i (omega arith), exponent-is b eb i (omega arith)) k))
-
-    pub tested-stop : (r : Bool) → i < n → r ≡ p (getD (a .exps) i 0) (getD (b .exps) i 0) → r ≡ false
-        → false ≡ everyPair p (exponents a) (exponents b)
-    tested-stop r h k t = pair-stop h (sym k ∙ t)
+        (rw (exponent-is a ea i (omega arith), exponent-is b eb i (omega arith)) (sym k ∙ f)))
 
     pub pair-end : n ≤ i → Passed p (a .exps) (b .exps) i → true ≡ everyPair p (exponents a) (exponents b)
     unfolding Passed
@@ -112,19 +103,47 @@ module _ (p : ℕ → ℕ → Bool) (a b : Point) (n m : ℕ) (ea : Places (a .e
         sym (pair-true p (exponents a) (exponents b) (omega arith)
         (passed-exponents p a b (length (exponents a)) ea eb (omega arith) (omega arith) (λ j l. k j (omega arith))))
 
--- ---- tests over the exponents of one point
+-- the four tests, of two exponents
+module _ (test : Test) (x y : ℕ) where
+  pub passes-equal : test ≡ Equal → eqb x y ≡ passes test x y
+  unfolding passes
+  passes-equal h = rw h
 
+  pub passes-sum : test ≡ EvenSum → eqb ((x + y) % 2) 0 ≡ passes test x y
+  unfolding passes evenSum
+  passes-sum h = rw h
+
+  pub passes-even : test ≡ Even → eqb (x % 2) 0 ≡ passes test x y
+  unfolding passes
+  passes-even h = rw h
+
+  pub passes-within : (limit : ℕ) → test ≡ Within limit → leb x limit ≡ passes test x y
+  unfolding passes
+  passes-within limit h = rw h
+
+-- and of all: r is what the loop answered
 every-pair : (p : ℕ → Bool) (v : Exponents) → every p v ≡ everyPair (λ a b. p a) v v
 unfolding every everyPair
 every-pair p [] = refl
 every-pair p (a ∷ v) = rw (every-pair p v)
 
-module _ (p : ℕ → Bool) (a : Point) (n i : ℕ) (ea : Places (a .exps)) (na : n ≡ length (exponents a)) where
-  pub every-stop : i < n → p (getD (a .exps) i 0) ≡ false → false ≡ every p (exponents a)
-  every-stop h k = pair-stop (λ a b. p a) a a n n ea ea na na i refl h k ∙ sym (every-pair p (exponents a))
+module _ (r : Bool) (v w : Exponents) where
+  pub test-same : r ≡ everyPair (passes Equal) v w → r ≡ samePoint v w
+  unfolding passes samePoint
+  test-same h = h
 
-  pub every-end : n ≤ i → Passed (λ a b. p a) (a .exps) (a .exps) i → true ≡ every p (exponents a)
-  every-end h k = pair-end (λ a b. p a) a a n n ea ea na na i refl h k ∙ sym (every-pair p (exponents a))
+  pub test-midpoint : r ≡ everyPair (passes EvenSum) v w → r ≡ hasMidpoint v w
+  unfolding passes hasMidpoint
+  test-midpoint h = h
+
+module _ (r : Bool) (v : Exponents) where
+  pub test-sign : r ≡ everyPair (passes Even) v v → r ≡ keepsSign v
+  unfolding passes keepsSign
+  test-sign h = h ∙ sym (every-pair _ v)
+
+  pub test-within : (limit : ℕ) → r ≡ everyPair (passes (Within limit)) v v → r ≡ exponentsWithin limit v
+  unfolding passes exponentsWithin
+  test-within limit h = h ∙ sym (every-pair _ v)
 
 -- ---- the order
 
@@ -158,7 +177,9 @@ pub rises-next : (x y : List ℕ) (n left : ℕ) → Passed eqb x y (n - left) �
     → Passed eqb x y (n - (left - 1))
 rises-next x y n left so h l p q =
     let e : n - (left - 1) ≡ n - left + 1 = omega arith in
-    rw e (passed-next eqb x y (n - left) so (eq-eqb (getD x (n - left) 0) (getD y (n - left) 0) (omega arith)))
+    rw e
+    (passed-next eqb x y (n - left) true so
+    (sym (eq-eqb (getD x (n - left) 0) (getD y (n - left) 0) (omega arith))) refl)
 
 module _ (a b : Point) (n k m left : ℕ) (ea : Places (a .exps)) (eb : Places (b .exps))
     (na : k ≡ length (exponents a)) (mb : m ≡ length (exponents b)) (e : n ≡ min k m)
