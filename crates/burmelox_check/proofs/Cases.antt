@@ -35,17 +35,17 @@ use Rattle.burmelox_check.specs.Cases.{cases, Worked}
 
 pub worked : Worked
 unfolding
-    u32At i32At withBits withI32 floorDiv floorMod share table bytesAt every everyPair samePoint risesTo
-    midpointOf evenSum hasMidpoint exponentsWithin keepsSign gathered coefficient slotsAt lowered worst target
-    floorOf termPoint coefficientOf termOf termsOf scaleOf vOf wOf wordsAt tripleOf weightsOf rowOf rowsOf
-    tripleFor withTriple withWeights withRows accepted refused refuseIf refuseAt blameless andThen first
-    beyond C.countsRight C.headerRight C.breaks C.termsAnswer C.claimAnswer P.headerRight P.headerAnswer
-    P.qOrR P.anyBeyond P.breaks P.rowsAnswer joined word words claimOf proofOf squareWith square squareProof
-    count errorAt shiftedWeight aimOf targetOf slotsTo rankOf shiftedWeights shiftRow slotsBefore shiftedRow
-    headAnswer roomAnswer bodyAnswer inputAnswer pointFor unheldAt unheld unheldAnswer negative indefinite
-    judgePair judgeLone judgementOf numberOf judgedAs firstsTo judgedAnswer weightsFor exactProof
-    weighedAnswer targetsOf checkAnswer outputOf motzkin motzkinProof digits natural integer counted numbered
-    scaleText acceptedLine laterText weightsText rowLine refusedLine ended linesOf rowsText firstText
-    acceptedText refusedText reportable reportText saidLength splits claimEnd claimPart proofPart sheetsText
-    programText cases
+    cases programText sheetsText proofPart claimPart claimEnd splits saidLength reportText reportable
+    refusedText acceptedText firstText rowsText linesOf ended refusedLine rowLine weightsText laterText
+    acceptedLine scaleText numbered counted integer natural digits u32At i32At withBits withI32 floorDiv
+    floorMod share table bytesAt every everyPair samePoint risesTo midpointOf evenSum hasMidpoint
+    exponentsWithin keepsSign gathered coefficient slotsAt lowered worst target floorOf termPoint coefficientOf
+    termOf termsOf scaleOf vOf wOf wordsAt tripleOf weightsOf rowOf rowsOf tripleFor withTriple withWeights
+    withRows accepted refused refuseIf refuseAt blameless andThen first beyond C.countsRight C.headerRight
+    C.breaks C.termsAnswer C.claimAnswer P.headerRight P.headerAnswer P.qOrR P.anyBeyond P.breaks P.rowsAnswer
+    joined word words claimOf proofOf squareWith square squareProof count errorAt shiftedWeight aimOf targetOf
+    slotsTo rankOf shiftedWeights shiftRow slotsBefore shiftedRow headAnswer roomAnswer bodyAnswer inputAnswer
+    pointFor unheldAt unheld unheldAnswer negative indefinite judgePair judgeLone judgementOf numberOf judgedAs
+    firstsTo judgedAnswer weightsFor exactProof weighedAnswer targetsOf checkAnswer outputOf motzkin
+    motzkinProof
 worked = refl

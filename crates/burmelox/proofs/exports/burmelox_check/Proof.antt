@@ -10,4 +10,6 @@ returns : tie.Need-returns
 returns c = (search checked-code, search needs)
 
 pub burmelox-check-spec : {M : Type 1} → statement M
-burmelox-check-spec = tie.close (tie.spec (λ c κs. search needs) code-requires (λ c. search needs) returns)
+burmelox-check-spec =
+    tie.close
+    (tie.spec (λ c κs. search needs) code-requires (λ c. search needs) returns)

@@ -16,14 +16,6 @@ returns c = (search input-written, prints-lines _)
 pub print-input-spec : {M : Type 1} → statement M
 print-input-spec =
     tie.close
-    (tie.spec
-    (λ c κs. search needs)
-    (λ c. search needs)
-    slice-aggregate-print-sheets
-    (λ c. search needs)
-    (λ c. search needs)
-    (λ c. search needs)
-    (λ c. search needs)
-    slice-aggregate-print-sheets-2
-    (λ c κs. search needs)
-    returns)
+    (tie.spec (λ c κs. search needs) (λ c. search needs) slice-aggregate-print-sheets (λ c. search needs)
+    (λ c. search needs) (λ c. search needs) (λ c. search needs) slice-aggregate-print-sheets-2
+    (λ c κs. search needs) returns)

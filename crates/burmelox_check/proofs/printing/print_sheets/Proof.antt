@@ -7,4 +7,6 @@ returns : tie.Need-returns
 returns c = search sheets-written
 
 pub print-sheets-spec : {M : Type 1} → statement M
-print-sheets-spec = tie.close (tie.spec (λ c κs. search needs) (λ c κs. search needs) (λ c. search needs) returns)
+print-sheets-spec =
+    tie.close
+    (tie.spec (λ c κs. search needs) (λ c κs. search needs) (λ c. search needs) returns)

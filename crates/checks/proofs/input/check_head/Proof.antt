@@ -16,11 +16,5 @@ returns-2 c = search head-proof
 pub check-head-spec : {M : Type 1} → statement M
 check-head-spec =
     tie.close
-    (tie.spec
-    (λ c κs. search needs)
-    (λ c. search needs)
-    (λ c. search needs)
-    returns
-    variables-requires
-    (λ c κs. search needs)
-    returns-2)
+    (tie.spec (λ c κs. search needs) (λ c. search needs) (λ c. search needs) returns variables-requires
+    (λ c κs. search needs) returns-2)

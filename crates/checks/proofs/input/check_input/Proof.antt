@@ -15,4 +15,5 @@ returns-2 c = search input-body
 pub check-input-spec : {M : Type 1} → statement M
 check-input-spec =
     tie.close
-    (tie.spec (λ c κs. search needs) (λ c. search needs) (λ c. search needs) returns check-body-requires returns-2)
+    (tie.spec (λ c κs. search needs) (λ c. search needs) (λ c. search needs) returns check-body-requires
+    returns-2)

@@ -16,10 +16,4 @@ returns-3 c = search (beyond-r, toZ-ofZ)
 pub any-beyond-spec : {M : Type 1} → statement M
 any-beyond-spec =
     tie.close
-    (tie.spec
-    (λ c κs. search needs)
-    returns
-    (λ c κs. search needs)
-    returns-2
-    (λ c κs. search needs)
-    returns-3)
+    (tie.spec (λ c κs. search needs) returns (λ c κs. search needs) returns-2 (λ c κs. search needs) returns-3)

@@ -8,4 +8,5 @@ returns c = search midpoint-judged
 
 pub midpoint-wrong-spec : {M : Type 1} → statement M
 midpoint-wrong-spec =
-    tie.close (tie.spec (λ c κs. search needs) (λ c κs. search needs) (λ c κs. search needs) returns)
+    tie.close
+    (tie.spec (λ c κs. search needs) (λ c κs. search needs) (λ c κs. search needs) returns)

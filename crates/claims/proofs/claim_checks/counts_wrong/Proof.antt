@@ -14,4 +14,5 @@ returns-3 c = search counts-terms
 
 pub counts-wrong-spec : {M : Type 1} → statement M
 counts-wrong-spec =
-    tie.close (tie.spec (λ c κs. search needs) returns returns-2 (λ c κs. search needs) returns-3)
+    tie.close
+    (tie.spec (λ c κs. search needs) returns returns-2 (λ c κs. search needs) returns-3)

@@ -15,10 +15,4 @@ returns-3 c = search header-three
 pub header-wrong-spec : {M : Type 1} → statement M
 header-wrong-spec =
     tie.close
-    (tie.spec
-    (λ c κs. search needs)
-    returns
-    (λ c. search needs)
-    returns-2
-    (λ c. search needs)
-    returns-3)
+    (tie.spec (λ c κs. search needs) returns (λ c. search needs) returns-2 (λ c. search needs) returns-3)

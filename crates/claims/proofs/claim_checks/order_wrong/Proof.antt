@@ -12,10 +12,5 @@ returns-2 c = search order-later
 pub order-wrong-spec : {M : Type 1} → statement M
 order-wrong-spec =
     tie.close
-    (tie.spec
-    returns
-    (λ c. search needs)
-    (λ c κs. search needs)
-    (λ c κs. search needs)
-    (λ c κs. search needs)
+    (tie.spec returns (λ c. search needs) (λ c κs. search needs) (λ c κs. search needs) (λ c κs. search needs)
     returns-2)

@@ -25,13 +25,5 @@ returns-3 c = search (all-summed, evaluates, floored)
 pub evaluate-spec : {M : Type 1} → statement M
 evaluate-spec =
     tie.close
-    (tie.spec
-    (λ c κs. search needs)
-    (λ c. search needs)
-    returns
-    (λ c. search needs)
-    variables-requires
-    returns-2
-    term-count-requires
-    summed-requires
-    returns-3)
+    (tie.spec (λ c κs. search needs) (λ c. search needs) returns (λ c. search needs) variables-requires
+    returns-2 term-count-requires summed-requires returns-3)

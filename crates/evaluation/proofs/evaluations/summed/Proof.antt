@@ -40,16 +40,5 @@ returns-2 c = search summed-end
 pub summed-spec : {M : Type 1} → statement M
 summed-spec =
     tie.close
-    (tie.spec
-    Inv-loop
-    μ-loop
-    loop-holds
-    (λ c κs. search needs)
-    (λ c. search needs)
-    (λ c. search needs)
-    returns
-    add-sum
-    (λ c. search needs)
-    (λ c. search needs)
-    loop-again
-    returns-2)
+    (tie.spec Inv-loop μ-loop loop-holds (λ c κs. search needs) (λ c. search needs) (λ c. search needs) returns
+    add-sum (λ c. search needs) (λ c. search needs) loop-again returns-2)

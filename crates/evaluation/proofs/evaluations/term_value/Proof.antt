@@ -9,4 +9,5 @@ returns c = search (term-read, toZ-ofZ)
 
 pub term-value-spec : {M : Type 1} → statement M
 term-value-spec =
-    tie.close (tie.spec (λ c κs. search needs) (λ c κs. search needs) (λ c κs. search needs) returns)
+    tie.close
+    (tie.spec (λ c κs. search needs) (λ c κs. search needs) (λ c κs. search needs) returns)

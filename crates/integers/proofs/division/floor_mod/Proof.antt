@@ -24,4 +24,5 @@ returns-2 c = search (casts, mod-more)
 
 pub floor-mod-spec : {M : Type 1} → statement M
 floor-mod-spec =
-    tie.close (tie.spec (λ c. search needs) rem-m add-result cast-result cast-result-2 returns returns-2)
+    tie.close
+    (tie.spec (λ c. search needs) rem-m add-result cast-result cast-result-2 returns returns-2)

@@ -15,4 +15,5 @@ returns-2 c = search (share-least, toZ-ofZ)
 
 pub share-spec : {M : Type 1} → statement M
 share-spec =
-    tie.close (tie.spec (λ c κs. search needs) (λ c κs. search needs) add-result returns returns-2)
+    tie.close
+    (tie.spec (λ c κs. search needs) (λ c κs. search needs) add-result returns returns-2)

@@ -24,4 +24,5 @@ returns-2 c = search (casts, kept)
 
 pub magnitude-spec : {M : Type 1} → statement M
 magnitude-spec =
-    tie.close (tie.spec sub-result cast-result add-result returns cast-result-2 returns-2)
+    tie.close
+    (tie.spec sub-result cast-result add-result returns cast-result-2 returns-2)

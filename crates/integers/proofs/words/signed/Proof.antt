@@ -13,4 +13,6 @@ returns-2 : tie.Need-returns-2
 returns-2 c = search high-word
 
 pub signed-spec : {M : Type 1} → statement M
-signed-spec = tie.close (tie.spec (λ c. search needs) (λ c. search needs) sub-result returns returns-2)
+signed-spec =
+    tie.close
+    (tie.spec (λ c. search needs) (λ c. search needs) sub-result returns returns-2)

@@ -22,17 +22,6 @@ returns c = simp towards-suc
 pub write-bits-spec : {M : Type 1} → statement M
 write-bits-spec =
     tie.close
-    (tie.spec
-    (λ c. search needs)
-    (λ c. search needs)
-    (λ c. search needs)
-    (λ c. search needs)
-    slice-write-out-2
-    (λ c. search needs)
-    (λ c. search needs)
-    slice-write-out-3
-    (λ c. search needs)
-    (λ c. search needs)
-    slice-write-out-4
-    (λ c. search needs)
-    returns)
+    (tie.spec (λ c. search needs) (λ c. search needs) (λ c. search needs) (λ c. search needs) slice-write-out-2
+    (λ c. search needs) (λ c. search needs) slice-write-out-3 (λ c. search needs) (λ c. search needs)
+    slice-write-out-4 (λ c. search needs) returns)

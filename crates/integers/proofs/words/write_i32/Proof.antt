@@ -11,4 +11,6 @@ returns : tie.Need-returns
 returns c = search (word-written, toZ-ofZ)
 
 pub write-i32-spec : {M : Type 1} → statement M
-write-i32-spec = tie.close (tie.spec (λ c κs. search needs) write-bits-requires (λ c. search needs) returns)
+write-i32-spec =
+    tie.close
+    (tie.spec (λ c κs. search needs) write-bits-requires (λ c. search needs) returns)

@@ -15,4 +15,5 @@ returns-3 c = search (lone-holds, toZ-ofZ)
 
 pub judge-lone-spec : {M : Type 1} → statement M
 judge-lone-spec =
-    tie.close (tie.spec (λ c κs. search needs) returns (λ c κs. search needs) returns-2 returns-3)
+    tie.close
+    (tie.spec (λ c κs. search needs) returns (λ c κs. search needs) returns-2 returns-3)

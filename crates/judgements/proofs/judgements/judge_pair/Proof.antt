@@ -25,13 +25,5 @@ returns-5 c = search (pair-holds, toZ-ofZ)
 pub judge-pair-spec : {M : Type 1} → statement M
 judge-pair-spec =
     tie.close
-    (tie.spec
-    (λ c κs. search needs)
-    returns
-    (λ c κs. search needs)
-    returns-2
-    (λ c κs. search needs)
-    returns-3
-    is-indefinite-requires
-    returns-4
-    returns-5)
+    (tie.spec (λ c κs. search needs) returns (λ c κs. search needs) returns-2 (λ c κs. search needs) returns-3
+    is-indefinite-requires returns-4 returns-5)

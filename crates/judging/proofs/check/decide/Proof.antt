@@ -18,11 +18,5 @@ returns-2 c = search decided-weighed
 pub decide-spec : {M : Type 1} → statement M
 decide-spec =
     tie.close
-    (tie.spec
-    (λ c κs. search needs)
-    (λ c. search needs)
-    (λ c. search needs)
-    returns
-    aim-of-requires
-    weigh-requires
-    returns-2)
+    (tie.spec (λ c κs. search needs) (λ c. search needs) (λ c. search needs) returns aim-of-requires
+    weigh-requires returns-2)

@@ -30,16 +30,5 @@ returns c = search from-end
 pub key-of-spec : {M : Type 1} → statement M
 key-of-spec =
     tie.close
-    (tie.spec
-    Inv-loop
-    μ-loop
-    (λ c κs. search needs)
-    loop-holds
-    (λ c. search needs)
-    mul-key
-    (λ c. search needs)
-    (λ c κs. search needs)
-    add-key
-    (λ c. search needs)
-    loop-again
-    returns)
+    (tie.spec Inv-loop μ-loop (λ c κs. search needs) loop-holds (λ c. search needs) mul-key (λ c. search needs)
+    (λ c κs. search needs) add-key (λ c. search needs) loop-again returns)

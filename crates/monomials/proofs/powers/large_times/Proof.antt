@@ -15,4 +15,5 @@ returns-3 c = search (large-stays, toZ-ofZ)
 
 pub large-times-spec : {M : Type 1} → statement M
 large-times-spec =
-    tie.close (tie.spec (λ c. search needs) (λ c. search needs) returns (λ c κs. search needs) returns-2 returns-3)
+    tie.close
+    (tie.spec (λ c. search needs) (λ c. search needs) returns (λ c κs. search needs) returns-2 returns-3)

@@ -19,4 +19,5 @@ returns-3 c = search (times-value, toZ-ofZ)
 pub times-spec : {M : Type 1} → statement M
 times-spec =
     tie.close
-    (tie.spec (λ c κs. search needs) (λ c κs. search needs) returns (λ c. search needs) returns-2 mul-t7 returns-3)
+    (tie.spec (λ c κs. search needs) (λ c κs. search needs) returns (λ c. search needs) returns-2 mul-t7
+    returns-3)

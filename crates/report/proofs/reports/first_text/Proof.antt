@@ -16,10 +16,5 @@ returns c = search (first-written, toZ-ofZ)
 pub first-text-spec : {M : Type 1} → statement M
 first-text-spec =
     tie.close
-    (tie.spec
-    (λ c κs. search needs)
-    (λ c κs. search needs)
-    accepted-line-requires
-    put-byte-requires
-    (λ c. search needs)
-    returns)
+    (tie.spec (λ c κs. search needs) (λ c κs. search needs) accepted-line-requires put-byte-requires
+    (λ c. search needs) returns)

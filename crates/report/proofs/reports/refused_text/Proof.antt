@@ -18,4 +18,5 @@ returns c = search written-then
 
 pub refused-text-spec : {M : Type 1} → statement M
 refused-text-spec =
-    tie.close (tie.spec refused-line-requires put-byte-requires (λ c. search needs) returns)
+    tie.close
+    (tie.spec refused-line-requires put-byte-requires (λ c. search needs) returns)

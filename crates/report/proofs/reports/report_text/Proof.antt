@@ -21,13 +21,5 @@ returns-3 c = search empty-report
 pub report-text-spec : {M : Type 1} → statement M
 report-text-spec =
     tie.close
-    (tie.spec
-    (λ c. search needs)
-    (λ c. search needs)
-    (λ c κs. search needs)
-    refused-text-requires
-    returns
-    (λ c κs. search needs)
-    accepted-text-requires
-    returns-2
-    returns-3)
+    (tie.spec (λ c. search needs) (λ c. search needs) (λ c κs. search needs) refused-text-requires returns
+    (λ c κs. search needs) accepted-text-requires returns-2 returns-3)

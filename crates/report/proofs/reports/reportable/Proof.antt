@@ -21,11 +21,4 @@ returns-5 c = search rows-reportable
 pub reportable-spec : {M : Type 1} → statement M
 reportable-spec =
     tie.close
-    (tie.spec
-    returns
-    returns-2
-    (λ c κs. search needs)
-    returns-3
-    returns-4
-    (λ c κs. search needs)
-    returns-5)
+    (tie.spec returns returns-2 (λ c κs. search needs) returns-3 returns-4 (λ c κs. search needs) returns-5)

@@ -27,13 +27,5 @@ returns c = search rows-end
 pub rows-text-spec : {M : Type 1} → statement M
 rows-text-spec =
     tie.close
-    (tie.spec
-    Inv-loop
-    μ-loop
-    loop-holds
-    row-text-requires
-    (λ c. search needs)
-    (λ c. search needs)
-    loop-again
-    (λ c. search needs)
-    returns)
+    (tie.spec Inv-loop μ-loop loop-holds row-text-requires (λ c. search needs) (λ c. search needs) loop-again
+    (λ c. search needs) returns)

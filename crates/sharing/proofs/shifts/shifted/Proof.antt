@@ -21,10 +21,5 @@ returns c = search (shifted-is, toZ-ofZ)
 pub shifted-spec : {M : Type 1} → statement M
 shifted-spec =
     tie.close
-    (tie.spec
-    (λ c κs. search needs)
-    (λ c κs. search needs)
-    held-requires
-    target-at-requires
-    moved-requires
+    (tie.spec (λ c κs. search needs) (λ c κs. search needs) held-requires target-at-requires moved-requires
     returns)

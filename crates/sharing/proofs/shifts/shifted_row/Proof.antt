@@ -15,8 +15,4 @@ returns c = search row-shifted
 pub shifted-row-spec : {M : Type 1} → statement M
 shifted-row-spec =
     tie.close
-    (tie.spec
-    (λ c κs. search needs)
-    row-at-requires
-    shifted-weights-requires
-    returns)
+    (tie.spec (λ c κs. search needs) row-at-requires shifted-weights-requires returns)

@@ -25,13 +25,5 @@ returns-2 c = search (lone-shifted, toZ-ofZ)
 pub shifted-weights-spec : {M : Type 1} → statement M
 shifted-weights-spec =
     tie.close
-    (tie.spec
-    (λ c. search needs)
-    shifted-requires
-    shifted-requires-2
-    (λ c κs. search needs)
-    shifted-requires-3
-    (λ c. search needs)
-    shifted-requires-4
-    returns
-    returns-2)
+    (tie.spec (λ c. search needs) shifted-requires shifted-requires-2 (λ c κs. search needs) shifted-requires-3
+    (λ c. search needs) shifted-requires-4 returns returns-2)

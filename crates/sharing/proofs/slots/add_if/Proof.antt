@@ -13,4 +13,6 @@ returns-2 : tie.Need-returns-2
 returns-2 c = search added-miss
 
 pub add-if-spec : {M : Type 1} → statement M
-add-if-spec = tie.close (tie.spec (λ c κs. search needs) add-t7 (λ c. search needs) returns returns-2)
+add-if-spec =
+    tie.close
+    (tie.spec (λ c κs. search needs) add-t7 (λ c. search needs) returns returns-2)

@@ -24,16 +24,6 @@ returns-2 c = search pair-added
 pub add-row-spec : {M : Type 1} → statement M
 add-row-spec =
     tie.close
-    (tie.spec
-    (λ c κs. search needs)
-    (λ c κs. search needs)
-    (λ c κs. search needs)
-    add-if-requires
-    returns
-    (λ c. search needs)
-    add-if-requires-2
-    add-add-if-2
-    (λ c. search needs)
-    (λ c. search needs)
-    add-if-requires-3
+    (tie.spec (λ c κs. search needs) (λ c κs. search needs) (λ c κs. search needs) add-if-requires returns
+    (λ c. search needs) add-if-requires-2 add-add-if-2 (λ c. search needs) (λ c. search needs) add-if-requires-3
     returns-2)

@@ -18,4 +18,5 @@ returns-3 c = search key-middle
 pub holds-key-spec : {M : Type 1} → statement M
 holds-key-spec =
     tie.close
-    (tie.spec (λ c κs. search needs) (λ c κs. search needs) returns returns-2 add-result (λ c. search needs) returns-3)
+    (tie.spec (λ c κs. search needs) (λ c κs. search needs) returns returns-2 add-result (λ c. search needs)
+    returns-3)

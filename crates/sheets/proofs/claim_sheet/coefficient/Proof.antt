@@ -15,4 +15,5 @@ returns c = search (coefficient-read, toZ-ofZ)
 
 pub coefficient-spec : {M : Type 1} → statement M
 coefficient-spec =
-    tie.close (tie.spec (λ c κs. search needs) place-of-requires-2 read-i32-requires returns)
+    tie.close
+    (tie.spec (λ c κs. search needs) place-of-requires-2 read-i32-requires returns)

@@ -12,4 +12,6 @@ unfolding wOf
 returns c = cc
 
 pub row-w-spec : {M : Type 1} → statement M
-row-w-spec = tie.close (tie.spec (λ c κs. search needs) (λ c. search needs) point-at-requires returns)
+row-w-spec =
+    tie.close
+    (tie.spec (λ c κs. search needs) (λ c. search needs) point-at-requires returns)

@@ -10,4 +10,6 @@ returns : tie.Need-returns
 returns c = (search triple-here, search triple-low)
 
 pub triple-place-spec : {M : Type 1} → statement M
-triple-place-spec = tie.close (tie.spec (λ c. search needs) (λ c κs. search needs) place-of-requires-2 returns)
+triple-place-spec =
+    tie.close
+    (tie.spec (λ c. search needs) (λ c κs. search needs) place-of-requires-2 returns)

@@ -16,4 +16,5 @@ returns-2 c = search (found-with, term-small, found-inside, toZ-ofZ)
 pub coefficient-at-spec : {M : Type 1} → statement M
 coefficient-at-spec =
     tie.close
-    (tie.spec (λ c κs. search needs) (λ c. search needs) (λ c. search needs) returns coefficient-requires returns-2)
+    (tie.spec (λ c κs. search needs) (λ c. search needs) (λ c. search needs) returns coefficient-requires
+    returns-2)

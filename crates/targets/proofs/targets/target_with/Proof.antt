@@ -11,4 +11,5 @@ returns c = search (with-made, back-small, toZ-ofZ)
 pub target-with-spec : {M : Type 1} → statement M
 target-with-spec =
     tie.close
-    (tie.spec (λ c κs. search needs) (λ c κs. search needs) (λ c κs. search needs) (λ c κs. search needs) returns)
+    (tie.spec (λ c κs. search needs) (λ c κs. search needs) (λ c κs. search needs) (λ c κs. search needs)
+    returns)

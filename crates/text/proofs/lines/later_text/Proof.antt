@@ -20,10 +20,5 @@ returns c = search (numbered-then, numbered-back, toZ-ofZ)
 pub later-text-spec : {M : Type 1} → statement M
 later-text-spec =
     tie.close
-    (tie.spec
-    (λ c. search needs)
-    numbered-requires
-    (λ c. search needs)
-    numbered-requires-2
-    (λ c. search needs)
+    (tie.spec (λ c. search needs) numbered-requires (λ c. search needs) numbered-requires-2 (λ c. search needs)
     returns)

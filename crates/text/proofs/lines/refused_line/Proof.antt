@@ -19,10 +19,5 @@ returns c = search written-then
 pub refused-line-spec : {M : Type 1} → statement M
 refused-line-spec =
     tie.close
-    (tie.spec
-    (λ c. search needs)
-    counted-requires
-    (λ c. search needs)
-    counted-requires-2
-    (λ c. search needs)
+    (tie.spec (λ c. search needs) counted-requires (λ c. search needs) counted-requires-2 (λ c. search needs)
     returns)

@@ -20,10 +20,5 @@ returns c = search (written-then, numbered-back, toZ-ofZ)
 pub scale-text-spec : {M : Type 1} → statement M
 scale-text-spec =
     tie.close
-    (tie.spec
-    (λ c. search needs)
-    counted-requires
-    (λ c. search needs)
-    numbered-requires
-    (λ c. search needs)
+    (tie.spec (λ c. search needs) counted-requires (λ c. search needs) numbered-requires (λ c. search needs)
     returns)

@@ -22,12 +22,5 @@ returns-2 c = search (unsigned-written, toZ-ofZ)
 pub integer-spec : {M : Type 1} → statement M
 integer-spec =
     tie.close
-    (tie.spec
-    (λ c κs. search needs)
-    put-byte-requires
-    natural-requires
-    (λ c. search needs)
-    returns
-    natural-requires-2
-    (λ c. search needs)
-    returns-2)
+    (tie.spec (λ c κs. search needs) put-byte-requires natural-requires (λ c. search needs) returns
+    natural-requires-2 (λ c. search needs) returns-2)

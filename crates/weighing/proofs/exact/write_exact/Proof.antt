@@ -10,4 +10,6 @@ returns : tie.Need-returns
 returns c = search exact-written
 
 pub write-exact-spec : {M : Type 1} → statement M
-write-exact-spec = tie.close (tie.spec (λ c κs. search needs) write-rows-requires (λ c. search needs) returns)
+write-exact-spec =
+    tie.close
+    (tie.spec (λ c κs. search needs) write-rows-requires (λ c. search needs) returns)

@@ -36,15 +36,5 @@ returns c = search rows-end
 pub write-rows-spec : {M : Type 1} → statement M
 write-rows-spec =
     tie.close
-    (tie.spec
-    Inv-loop
-    μ-loop
-    (λ c κs. search needs)
-    loop-holds
-    shifted-row-requires
-    write-weights-requires
-    (λ c. search needs)
-    (λ c. search needs)
-    loop-again
-    same-length
-    returns)
+    (tie.spec Inv-loop μ-loop (λ c κs. search needs) loop-holds shifted-row-requires write-weights-requires
+    (λ c. search needs) (λ c. search needs) loop-again same-length returns)

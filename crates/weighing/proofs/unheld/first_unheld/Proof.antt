@@ -76,28 +76,7 @@ returns-2 c = ⊎-elim (λ end. search terms-end) (λ miss. absurd (omega arith)
 pub first-unheld-spec : {M : Type 1} → statement M
 first-unheld-spec =
     tie.close
-    (tie.spec
-    Inv-loop
-    μ-loop
-    Inv-terms
-    μ-terms
-    (λ c κs. search needs)
-    (λ c κs. search needs)
-    (λ c κs. search needs)
-    terms-holds
-    point-for-requires
-    (λ c κs. search needs)
-    no-target-requires
-    (λ c. search needs)
-    (λ c. search needs)
-    terms-again
-    loop-holds
-    holds-key-requires
-    (λ c. search needs)
-    (λ c. search needs)
-    terms-again-2
-    (λ c. search needs)
-    (λ c. search needs)
-    loop-again
-    returns
-    returns-2)
+    (tie.spec Inv-loop μ-loop Inv-terms μ-terms (λ c κs. search needs) (λ c κs. search needs)
+    (λ c κs. search needs) terms-holds point-for-requires (λ c κs. search needs) no-target-requires
+    (λ c. search needs) (λ c. search needs) terms-again loop-holds holds-key-requires (λ c. search needs)
+    (λ c. search needs) terms-again-2 (λ c. search needs) (λ c. search needs) loop-again returns returns-2)

@@ -16,11 +16,5 @@ returns-2 c = search (no-target, toZ-ofZ)
 pub no-target-spec : {M : Type 1} → statement M
 no-target-spec =
     tie.close
-    (tie.spec
-    (λ c κs. search needs)
-    term-target-requires
-    (λ c κs. search needs)
-    returns
-    (λ c κs. search needs)
-    (λ c κs. search needs)
-    returns-2)
+    (tie.spec (λ c κs. search needs) term-target-requires (λ c κs. search needs) returns (λ c κs. search needs)
+    (λ c κs. search needs) returns-2)

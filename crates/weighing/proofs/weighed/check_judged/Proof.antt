@@ -8,4 +8,5 @@ returns c = search judged-is
 
 pub check-judged-spec : {M : Type 1} → statement M
 check-judged-spec =
-    tie.close (tie.spec (λ c κs. search needs) (λ c κs. search needs) (λ c κs. search needs) returns)
+    tie.close
+    (tie.spec (λ c κs. search needs) (λ c κs. search needs) (λ c κs. search needs) returns)
