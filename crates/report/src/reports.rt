@@ -22,8 +22,8 @@ ghost use Rattle.answers.specs.Answers.{says};
 ghost use Rattle.text.specs.Text.{Room, Written};
 ghost use Rattle.report.specs.Reports.{rowText, rowsText, reportable, firstText, acceptedText, refusedText, reportText};
 
-// The longest report: 53 bytes for the first line, and 50 for each of 256 rows.
-pub const LONGEST: usize = 12853;
+// The longest report: 53 bytes for the first line, and 50 for each row.
+pub const LONGEST: usize = 53 + 50 * MOST_ROWS;
 
 // The line of row i.
 fn row_text(proof: &[u8], shape: Shape, i: usize, out: &mut [u8], at: usize) -> usize

@@ -43,7 +43,7 @@ module _ (x : Triple) (w : Within greatestWeight x) where
   weight-back z h = toZ-ofZ (fits-within z greatestWeight h (lit< tt))
 
   product-small : (y z : ℤ) → natAbs y ≤ greatestWeight → natAbs z ≤ greatestWeight → natAbs (y *ℤ z) ≤ 2 ^ 60
-  product-small y z hy hz = rw (abs-mul y z) (mul-le-mul {n₂ = 1073741824} hy hz)
+  product-small y z hy hz = rw (abs-mul y z) (mul-le-mul {n₂ = greatestWeight} hy hz)
 
   product-fits : (y z : ℤ) → natAbs y ≤ greatestWeight → natAbs z ≤ greatestWeight → SFits w64 (back y *ℤ back z)
   product-fits y z hy hz =

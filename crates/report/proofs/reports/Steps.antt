@@ -221,8 +221,11 @@ module _ (c s l : List ℕ) (k : ℕ) (b : Bool) (e : b ≡ reportable c s k) wh
         (record { bytes = refl; ends = refl; kept = refl; inside = omega arith })
 
 -- it has room
+abbrev longest : ℕ
+longest = 53 + 50 * mostRows
+
 pub accepted-room : (c s l : List ℕ) (k : ℕ) (b : Bool) → Bytes c → Bytes s → b ≡ reportable c s k → b ≡ true
-    → length l ≡ 12853 → Room l 0 (acceptedText c s k)
+    → length l ≡ longest → Room l 0 (acceptedText c s k)
 unfolding acceptedText
 accepted-room c s l k b bc bs eb t e =
     let few = enough c s k (sym eb ∙ t) .rows .rows in
@@ -231,7 +234,7 @@ accepted-room c s l k b bc bs eb t e =
           (omega (arith, first-short c s k bc bs few, rows-short s (shapeWith s k) k bs few));
     }
 
-pub refused-room : (l : List ℕ) (number index : ℕ) → Fits w32 number → Fits w64 index → length l ≡ 12853
+pub refused-room : (l : List ℕ) (number index : ℕ) → Fits w32 number → Fits w64 index → length l ≡ longest
     → Room l 0 (refusedText number index)
 refused-room l number index f g e =
     record { room = omega (arith, refused-short number index (omega (arith, f .fits)) (omega (arith, g .fits))) }

@@ -101,7 +101,7 @@ module _ (S : ℕ) (x x′ : ℤ) (hS : S ≤ greatestScale) (h : natAbs x ≤ 2
   scale-is = toZ-pos w64 (omega arith)
 
   product-small : natAbs (pos S *ℤ x) ≤ 2 ^ 51
-  product-small = rw (abs-mul (pos S) x) (mul-le-mul {n₂ = 1048576} hS h)
+  product-small = rw (abs-mul (pos S) x) (mul-le-mul {n₂ = greatestScale} hS h)
 
   pub product-fits : SFits w64 (toZ w64 S *ℤ x′)
   product-fits = rw (scale-is, ex) (fits-within (pos S *ℤ x) (2 ^ 51) product-small (lit< tt))
