@@ -27,7 +27,7 @@ holdsPoint s shape α i = ltb 0 (count α (slotsOf (rowOf s shape i)))
 
 -- the answer that row i gives for a key: whether it has a slot at the point with that key
 pub record HoldsKey (s : List ℕ) (shape : Shape) (key i : ℕ) (answer : Bool) : Type 0 where
-  pub tells : (α : Exponents) → Carried (shape .n) α → key ≡ keyOf α → answer ≡ holdsPoint s shape α i
+  pub holds : (α : Exponents) → Carried (shape .n) α → key ≡ keyOf α → answer ≡ holdsPoint s shape α i
 
 -- ---- by keys, as the code counts: `held-at` of proofs/slots/Laws.antt shows that it is the same as at the point with
 -- the key

@@ -12,6 +12,7 @@ ghost use Rattle.integers.specs.Words.{i32At};
 ghost use Rattle.bounds.specs.Bounds.{greatestWeight};
 ghost use Rattle.checks.specs.ProofChecks.{ProofFacts};
 ghost use Rattle.sharing.specs.Slots.{Small, HoldsKey, slotsTo, added, tallyOf, holdingOf};
+ghost use Rattle.targets.specs.Carried.{CarriedKey};
 
 // What the slots at a point weigh together, and how many they are.
 pub struct Tally {
@@ -89,7 +90,7 @@ pub(crate) fn held(proof: &[u8], shape: Shape, i: usize, own: u32, key: u64) -> 
 
 // Whether row i has a slot at the point with a key.
 pub fn holds_key(proof: &[u8], shape: Shape, i: usize, key: u64) -> bool
-    requires { ⌜ (ProofFacts (now proof) shape) × (i < shape .k) × (key < 2 ^ 63) ⌝ }
+    requires { ⌜ (ProofFacts (now proof) shape) × (i < shape .k) × (CarriedKey (shape .n) key) ⌝ }
     ensures { λ r. ⌜ HoldsKey (now (proof .entry)) shape key i r ⌝ }
 {
     let v = v_key(proof, shape, i);

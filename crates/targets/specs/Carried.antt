@@ -5,7 +5,14 @@ use Prim.Native.Nat.{ℕ}
 use lib.ListN.{length}
 use Rattle.points.specs.Points.{Exponents, exponentsWithin}
 use Rattle.bounds.specs.Bounds.{greatestExponent}
+use Rattle.keys.specs.Keys.{keyOf}
 
 pub record Carried (n : ℕ) (α : Exponents) : Type 0 where
   pub sized : length α ≡ n
   pub within : exponentsWithin greatestExponent α ≡ true
+
+-- a number that is the key of such a point
+pub record CarriedKey (n key : ℕ) : Type 0 where
+  pub point : Exponents
+  pub carried : Carried n point
+  pub keyed : key ≡ keyOf point

@@ -22,13 +22,13 @@ use Rattle.keys.proofs.keys.Laws.{key-midpoint}
 use Rattle.squares.specs.Sums.{Sum}
 use Rattle.squares.specs.Rows.{slotsOf}
 use Rattle.squares.proofs.rows.Laws.{slots-pair, slots-lone}
-use Rattle.bounds.specs.Bounds.{greatestWeight}
+use Rattle.bounds.specs.Bounds.{greatestWeight, mostVariables}
 use Rattle.sheets.specs.Layout.{tripleAt}
 use Rattle.sheets.specs.ProofSheet.{vOf, wOf, tripleOf, rowOf}
 use Rattle.sheets.specs.declared.layout.Shape.{Shape}
 use Rattle.sheets.proofs.proof_sheet.Laws.{triple-inside, p-there, q-there, r-there, row-lone, row-pair, row-v, row-w}
 use Rattle.checks.specs.ProofChecks.{Within, ProofFacts}
-use Rattle.targets.specs.Carried.{Carried}
+use Rattle.targets.specs.Carried.{Carried, CarriedKey}
 use Rattle.targets.proofs.Carried.{carried-same, carried-low}
 use Rattle.sharing.specs.Sharing.{count}
 use Rattle.sharing.specs.Slots.{Small, HoldsKey, slotsTo, holdsPoint, added, tallyFrom, tallyOf, holdingOf}
@@ -68,6 +68,9 @@ unfolding added
 added-miss hit x a h = rw h
 
 -- ---- the keys of a row's ends, v and w
+
+pub key-doubles : (n key : ℕ) → CarriedKey n key → n ≤ mostVariables → Fits w64 (key * 2)
+key-doubles n key k few = omega (arith, k .keyed, carried-low n (k .point) few (k .carried))
 
 halved : (u key : ℕ) → eqb (u * 2) (key * 2) ≡ eqb key u
 halved u key = go (ℕ-discrete u key)
@@ -157,7 +160,7 @@ module _ (s : List ℕ) (sh : Shape) (i : ℕ) (f : ProofFacts s sh) (l : i < sh
   -- holds_key
   module _ (v w key : ℕ) (ev : v ≡ keyOf (vOf s sh i)) (ew : w ≡ keyOf (wOf s sh i)) where
     told : (answer : Bool) → answer ≡ eqb key v || eqb key w || eqb (v + w) (key * 2) → HoldsKey s sh key i answer
-    told answer h = record { tells = λ α carried e. h ∙ rw (e, ev, ew) (held-by-key α carried) }
+    told answer h = record { holds = λ α carried e. h ∙ rw (e, ev, ew) (held-by-key α carried) }
 
     pub key-first : key ≡ v → HoldsKey s sh key i true
     key-first e = told true (rw (eq-eqb key v e))

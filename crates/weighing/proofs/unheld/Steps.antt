@@ -2,7 +2,7 @@
 use mathlib.Core.Path.{_≡_, refl, sym, _∙_}
 use mathlib.Core.Bool.{Bool, true, false, cond}
 use mathlib.Core.List.{List}
-use Prim.Native.Nat.{ℕ, suc, _+_, _^_, _≤_, _<_}
+use Prim.Native.Nat.{ℕ, suc, _+_, _≤_, _<_}
 use native.Mathlib.Omega.{arith}
 use lib.Dec.{eqb, ltb}
 use lib.IntN.{ℤ, natAbs}
@@ -22,13 +22,13 @@ use Rattle.claims.specs.ClaimChecks.{ClaimFacts}
 use Rattle.checks.specs.ProofChecks.{ProofFacts}
 use Rattle.answers.specs.declared.searches.Found.the-variants.{At, Nothing}
 use Rattle.answers.proofs.searches.Laws.{first-stop, first-next, first-end}
-use Rattle.targets.specs.Carried.{Carried}
+use Rattle.targets.specs.Carried.{Carried, CarriedKey}
 use Rattle.sharing.specs.Sharing.{count}
 use Rattle.targets.specs.Targets.{targetOf, Targeted}
 use Rattle.targets.specs.declared.targets.Aim.{Aim}
 use Rattle.sharing.specs.Slots.{slotsTo, HoldsKey, holdsPoint}
 use Rattle.sharing.specs.Shifts.{CheckedSheets}
-use Rattle.targets.proofs.Carried.{term-carried, constant-carried, carried-low}
+use Rattle.targets.proofs.Carried.{term-carried, constant-carried}
 use Rattle.sharing.proofs.slots.Laws.{point-held, point-unheld, all-slots}
 use Rattle.sharing.proofs.shifts.Laws.{proof-checked, targeted}
 use Rattle.weighing.specs.Unheld.{pointFor, unheldAt, unheld}
@@ -119,8 +119,8 @@ module _ (c s : List ℕ) (a : Aim) (given : CheckedSheets c s a) (n t : ℕ) (s
         pub targeted-here : Targeted c a (exponents p) key
         targeted-here = targeted c s a given sh es (exponents p) point-here key e
 
-    pub key-low : (key : ℕ) → key ≡ keyOf α → key < 2 ^ 63
-    key-low key e = omega (arith, e, carried-low n α (claim-here .room .few) carried)
+    pub key-carried : (key : ℕ) → key ≡ keyOf α → CarriedKey (sh .n) key
+    key-carried key e = record { point = α; carried = carried-too; keyed = e }
 
     abbrev wrong : ℕ → Bool
     wrong = unheld (targetOf c a) c s
@@ -145,7 +145,7 @@ module _ (c s : List ℕ) (a : Aim) (given : CheckedSheets c s a) (n t : ℕ) (s
     -- r is what row j answered for the key
     module _ (j key : ℕ) (r : Bool) (e : key ≡ keyOf α) (er : HoldsKey s sh key j r) where
       pub row-answered : r ≡ holdsPoint s sh α j
-      row-answered = er .tells α carried-too e
+      row-answered = er .holds α carried-too e
 
       pub held-next : r ≡ true → j < sh .k → first wrong i ≡ Nothing → first wrong (i + 1) ≡ Nothing
       held-next h l =

@@ -13,7 +13,7 @@ use Rattle.answers.proofs.searches.Laws.{first-start, first-next}
 use Rattle.targets.specs.Targets.{targetOf}
 use Rattle.sharing.specs.Slots.{holdsPoint}
 use Rattle.weighing.specs.Unheld.{pointFor, unheld}
-use Rattle.weighing.proofs.unheld.Steps.{key-low, held-next, terms-end, targeted-here, row-answered, target-some, unheld-stop, claim-here, point-looked, proof-here, key-here, zero-next}
+use Rattle.weighing.proofs.unheld.Steps.{key-carried, held-next, terms-end, targeted-here, row-answered, target-some, unheld-stop, claim-here, point-looked, proof-here, key-here, zero-next}
 use Rattle.weighing.proofs.unheld.first_unheld.Statement.{statement}
 use Rattle.weighing.proofs.unheld.first_unheld.Tie as tie
 
@@ -51,7 +51,7 @@ loop-holds c =
     (search needs, search needs, search needs, search key-here, search target-some, search first-start, search needs)
 
 holds-key-requires : tie.Need-holds-key-requires Inv-loop μ-loop Inv-terms μ-terms
-holds-key-requires c κs = (search proof-here, search needs, search key-low)
+holds-key-requires c κs = (search proof-here, search needs, search key-carried)
 
 terms-again-2 : tie.Need-terms-again-2 Inv-loop μ-loop Inv-terms μ-terms
 terms-again-2 c = (search needs, search held-next)
