@@ -6,16 +6,16 @@ use Prim.Native.Nat.{ℕ, _<_, _≤_}
 use lib.Dec.{eqb, ltb, leb}
 use lib.IntN.{pos, natAbs}
 use lib.ListN.{length, getD}
-use Rattle.points.specs.Points.{samePoint, hasMidpoint, exponentsWithin}
+use Rattle.bounds.specs.Bounds.{greatestExponent, greatestWeight, mostRows, greatestScale, beyond}
 use Rattle.answers.specs.Answers.{Answer, accepted, refuseIf, refuseAt}
 use Rattle.answers.specs.Searches.{first}
-use Rattle.bounds.specs.Bounds.{greatestExponent, greatestWeight, mostRows, greatestScale, beyond}
+use Rattle.points.specs.Points.{samePoint, hasMidpoint, exponentsWithin}
 use Rattle.sheets.specs.Layout.{variables, rowCount, shapeOf, proofLength, ProofRoom}
 use Rattle.sheets.specs.ProofSheet.{scaleOf, vOf, wOf, tripleOf}
-use Rattle.checks.specs.declared.proof_checks.RowRule.{RowRule}
-use Rattle.checks.specs.declared.proof_checks.RowRule.the-variants.{Exponent, Midpoint, Unused, Weight}
 use Rattle.sheets.specs.declared.layout.Shape.{Shape}
 use Rattle.sheets.specs.declared.proof_sheet.Triple.{Triple}
+use Rattle.checks.specs.declared.proof_checks.RowRule.{RowRule}
+use Rattle.checks.specs.declared.proof_checks.RowRule.the-variants.{Exponent, Midpoint, Unused, Weight}
 
 -- "Byte 0: n, as in the claim. Byte 1: zero. Bytes 2 and 3: k, rows, 0 to 256. Bytes 4 to 7: the scale S, 1 to 2^20"
 unfoldable pub headerRight : ℕ → ℕ → List ℕ → Bool

@@ -6,10 +6,10 @@ use Prim.Native.Nat.{ℕ, suc, _-_, _<_, _≤_}
 use lib.Dec.{eqb, ltb, leb}
 use lib.IntN.{natAbs}
 use lib.ListN.{length, getD}
-use Rattle.points.specs.Points.{risesTo, exponentsWithin}
+use Rattle.bounds.specs.Bounds.{greatestExponent, greatestWeight, beyond, mostVariables, mostTerms}
 use Rattle.answers.specs.Answers.{Answer, accepted, refuseIf, refuseAt}
 use Rattle.answers.specs.Searches.{first}
-use Rattle.bounds.specs.Bounds.{greatestExponent, greatestWeight, beyond, mostVariables, mostTerms}
+use Rattle.points.specs.Points.{risesTo, exponentsWithin}
 use Rattle.sheets.specs.Layout.{variables, termCount, claimLength, ClaimRoom}
 use Rattle.sheets.specs.ClaimSheet.{floorOf, termPoint, coefficientOf}
 use Rattle.claims.specs.declared.claim_checks.TermRule.{TermRule}

@@ -7,16 +7,16 @@ use lib.Dec.{eqb}
 use lib.IntN.{ℤ, natAbs, _*ℤ_}
 use lib.ListN.{length}
 use lib.Signed.{_≤ℤ_}
+use Rattle.bounds.specs.Bounds.{beyond, greatestValue}
+use Rattle.answers.specs.Answers.{Answer, accepted, says, refuseIf, refuseAt, blameless, andThen, Passes}
+use Rattle.answers.specs.Searches.{first}
+use Rattle.answers.specs.declared.answers.Verdict.the-variants as Verdicts
 use Rattle.points.specs.Lists.{table}
 use Rattle.monomials.specs.Powers.{monomialOf}
 use Rattle.squares.specs.Sums.{valueAt}
 use Rattle.sheets.specs.Layout.{variables, termCount}
 use Rattle.sheets.specs.ClaimSheet.{floorOf, termPoint, coefficientOf, termOf, termsOf}
-use Rattle.answers.specs.Answers.{Answer, accepted, says, refuseIf, refuseAt, blameless, andThen, Passes}
-use Rattle.bounds.specs.Bounds.{beyond, greatestValue}
 use Rattle.claims.specs.ClaimChecks.{claimAnswer}
-use Rattle.answers.specs.Searches.{first}
-use Rattle.answers.specs.declared.answers.Verdict.the-variants as Verdicts
 use Rattle.judging.specs.Check.{checkAnswer}
 use Rattle.evaluation.specs.declared.evaluations.Evaluation.{Evaluation}
 use Rattle.evaluation.specs.declared.evaluations.Evaluation.the-variants.{Value, Refused}

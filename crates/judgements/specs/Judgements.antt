@@ -4,16 +4,16 @@ use Prim.Native.Nat.{ℕ}
 use lib.Dec.{eqb}
 use lib.IntN.{ℤ, pos, _*ℤ_}
 use lib.Signed.{ltZ}
+use Rattle.bounds.specs.Bounds.{beyond}
+use Rattle.answers.specs.Answers.{Answer, accepted, refuseAt}
+use Rattle.answers.specs.Searches.{first}
+use Rattle.answers.specs.declared.searches.Found.{Found}
+use Rattle.answers.specs.declared.searches.Found.the-variants.{At, Nothing}
 use Rattle.squares.specs.Rows.{Row}
 use Rattle.squares.specs.declared.rows.Weights.{Weights}
 use Rattle.squares.specs.declared.rows.Weights.the-variants.{Pair, Lone}
 use Rattle.sheets.specs.declared.proof_sheet.Triple.{Triple}
-use Rattle.answers.specs.Answers.{Answer, accepted, refuseAt}
-use Rattle.answers.specs.Searches.{first}
-use Rattle.bounds.specs.Bounds.{beyond}
 use Rattle.checks.specs.ProofChecks.{anyBeyond}
-use Rattle.answers.specs.declared.searches.Found.{Found}
-use Rattle.answers.specs.declared.searches.Found.the-variants.{At, Nothing}
 use Rattle.judgements.specs.declared.judgements.Firsts.{Firsts}
 use Rattle.judgements.specs.declared.judgements.Judgement.{Judgement}
 use Rattle.judgements.specs.declared.judgements.Judgement.the-variants.{Holds, Beyond, Negative, Indefinite}

@@ -11,8 +11,8 @@ use squares::rows::Weights;
 ghost use mathlib.Core.Path.{_≡_};
 ghost use mathlib.Core.Bool.{true};
 ghost use Prim.Native.Nat.{_≤_};
-ghost use Rattle.answers.specs.Answers.{says};
 ghost use Rattle.bounds.specs.Bounds.{greatestWeight};
+ghost use Rattle.answers.specs.Answers.{says};
 ghost use Rattle.checks.specs.ProofChecks.{Within};
 ghost use Rattle.judgements.specs.Judgements.{negative, indefinite, judgePair, judgeLone, judgementOf, kept, noted, judgedAnswer};
 

@@ -8,6 +8,9 @@ use lib.ListN.{length}
 use lib.Seq.{drop-length}
 use lib.Signed.{_≤ℤ_}
 use Rattle.integers.proofs.words.Laws.{Bytes}
+use Rattle.bounds.specs.Bounds.{greatestWeight}
+use Rattle.answers.specs.Answers.{accepted, Passes, Short}
+use Rattle.answers.proofs.answers.Laws.{passes-then, then-on, accepted-passes, short-then}
 use Rattle.points.specs.Points.{Exponents}
 use Rattle.squares.specs.Sums.{valueAt}
 use Rattle.squares.specs.Rows.{slots}
@@ -18,9 +21,6 @@ use Rattle.sheets.specs.Layout.{variables, rowCount}
 use Rattle.sheets.specs.ClaimSheet.{floorOf, termsOf}
 use Rattle.sheets.specs.ProofSheet.{scaleOf, rowsOf}
 use Rattle.sheets.proofs.claim_sheet.Laws.{terms-sized}
-use Rattle.answers.specs.Answers.{accepted, Passes, Short}
-use Rattle.bounds.specs.Bounds.{greatestWeight}
-use Rattle.answers.proofs.answers.Laws.{passes-then, then-on, accepted-passes, short-then}
 use Rattle.checks.specs.Input.{WellFormed}
 use Rattle.checks.proofs.input.Laws.{input-passes, input-formed, input-enough, input-short}
 use Rattle.targets.specs.Targets.{aimOf, targetOf}

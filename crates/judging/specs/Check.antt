@@ -4,12 +4,12 @@ use mathlib.Core.List.{List, _++_}
 use Prim.Native.Nat.{ℕ}
 use lib.IntN.{ℤ}
 use lib.ListN.{length, drop}
-use Rattle.points.specs.Points.{Exponents}
 use Rattle.answers.specs.Answers.{Answer, andThen, blameless}
+use Rattle.points.specs.Points.{Exponents}
+use Rattle.checks.specs.Input.{inputAnswer}
 use Rattle.targets.specs.Targets.{aimOf, targetOf}
 use Rattle.weighing.specs.Exact.{exactProof}
 use Rattle.weighing.specs.Weighed.{weighedAnswer}
-use Rattle.checks.specs.Input.{inputAnswer}
 
 -- the targets with the claim's floor and the proof's scale
 unfoldable pub targetsOf : List ℕ → List ℕ → Exponents → ℤ

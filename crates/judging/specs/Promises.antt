@@ -6,6 +6,9 @@ use Prim.Native.Nat.{ℕ, _≤_}
 use lib.IntN.{ℤ}
 use lib.ListN.{length, drop}
 use lib.Signed.{_≤ℤ_}
+use Rattle.bounds.specs.Bounds.{greatestWeight}
+use Rattle.answers.specs.Answers.{accepted, says}
+use Rattle.answers.specs.declared.answers.Verdict.{Verdict}
 use Rattle.points.specs.Lists.{All}
 use Rattle.squares.specs.Sums.{valueAt}
 use Rattle.squares.specs.Rows.{Row, slots, Holds}
@@ -13,10 +16,7 @@ use Rattle.squares.specs.Decomposition.{AddsUp}
 use Rattle.sheets.specs.Layout.{variables, rowCount}
 use Rattle.sheets.specs.ClaimSheet.{floorOf, termsOf}
 use Rattle.sheets.specs.ProofSheet.{rowsOf}
-use Rattle.answers.specs.Answers.{accepted, says}
-use Rattle.bounds.specs.Bounds.{greatestWeight}
 use Rattle.checks.specs.Input.{WellFormed}
-use Rattle.answers.specs.declared.answers.Verdict.{Verdict}
 use Rattle.sharing.specs.Shifts.{shiftedRows}
 use Rattle.weighing.specs.Exact.{exactProof, AllWithin}
 use Rattle.judging.specs.Check.{targetsOf}

@@ -5,9 +5,9 @@ use points::points::Point;
 ghost use mathlib.Core.Path.{_≡_};
 ghost use Prim.Native.Nat.{_+_, _≤_};
 ghost use lib.ListN.{length};
+ghost use Rattle.bounds.specs.Bounds.{mostVariables};
 ghost use Rattle.points.specs.Points.{exponents, bytesAt};
 ghost use Rattle.keys.specs.Keys.{keyOf};
-ghost use Rattle.bounds.specs.Bounds.{mostVariables};
 
 // The key of eight bytes.
 fn eight_at(s: &[u8], at: usize) -> u64

@@ -17,8 +17,8 @@ ghost use mathlib.Core.Path.{_≡_};
 ghost use mathlib.Core.Bool.{true};
 ghost use Prim.Native.Nat.{_<_, _≤_};
 ghost use lib.ListN.{length};
-ghost use Rattle.sheets.specs.Layout.{ProofRoom};
 ghost use Rattle.answers.specs.Answers.{says};
+ghost use Rattle.sheets.specs.Layout.{ProofRoom};
 ghost use Rattle.text.specs.Text.{Room, Written};
 ghost use Rattle.report.specs.Reports.{rowText, rowsText, reportable, firstText, acceptedText, refusedText, reportText};
 

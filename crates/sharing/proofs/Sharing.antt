@@ -12,9 +12,9 @@ use Rattle.integers.proofs.Integers.{ring, ints, by-eq}
 use Rattle.integers.proofs.division.Laws.{shares-none, shares-more, shares-sum, share-none}
 use Rattle.points.specs.Points.{Exponents, samePoint}
 use Rattle.points.specs.Lists.{table}
+use Rattle.points.proofs.points.Laws.{same-eq}
 use Rattle.squares.specs.Sums.{Sum, gathered, coefficient}
 use Rattle.squares.proofs.Sums.{coefficient-nil, coefficient-cons, gathered-none, gathered-more}
-use Rattle.points.proofs.points.Laws.{same-eq}
 use Rattle.sharing.specs.Sharing.{count, errorAt, shiftedWeight, shiftedFrom, shiftedSlots}
 
 -- ---- how many slots are at a point

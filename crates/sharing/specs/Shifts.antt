@@ -5,19 +5,19 @@ use Prim.Native.Nat.{ℕ}
 use lib.IntN.{ℤ}
 use Rattle.points.specs.Lists.{table}
 use Rattle.points.specs.Points.{Exponents, pointOf, midpointOf}
+use Rattle.points.specs.declared.points.Point.{Point}
 use Rattle.squares.specs.Sums.{Sum}
 use Rattle.squares.specs.Rows.{Row, slots}
-use Rattle.points.specs.declared.points.Point.{Point}
 use Rattle.squares.specs.declared.rows.Weights.{Weights}
 use Rattle.squares.specs.declared.rows.Weights.the-variants.{Pair, Lone}
 use Rattle.sheets.specs.Layout.{variables, termCount, rowCount, shapeOf}
 use Rattle.sheets.specs.ProofSheet.{vOf, wOf, rowOf, rowsOf}
 use Rattle.claims.specs.ClaimChecks.{ClaimFacts}
 use Rattle.checks.specs.ProofChecks.{ProofFacts}
-use Rattle.sharing.specs.Sharing.{rankOf, shiftedWeight}
 use Rattle.targets.specs.Targets.{AimWithin}
-use Rattle.sharing.specs.Slots.{slotsTo}
 use Rattle.targets.specs.declared.targets.Aim.{Aim}
+use Rattle.sharing.specs.Sharing.{rankOf, shiftedWeight}
+use Rattle.sharing.specs.Slots.{slotsTo}
 
 -- the shifted weights of a row's slots "p at v, q at w and r at u"; L are all slots, `before` those of the rows before
 unfoldable pub shiftedWeights : (Exponents → ℤ) → Sum → Sum → Exponents → Exponents → Weights → Weights

@@ -12,10 +12,10 @@ use Rattle.squares.specs.Sums.{Sum}
 use Rattle.squares.specs.Rows.{slotsOf, slots}
 use Rattle.sheets.specs.ProofSheet.{rowOf}
 use Rattle.sheets.specs.declared.layout.Shape.{Shape}
+use Rattle.targets.specs.Carried.{Carried}
 use Rattle.sharing.specs.Sharing.{count}
 use Rattle.sharing.specs.declared.slots.Holding.{Holding}
 use Rattle.sharing.specs.declared.slots.Tally.{Tally}
-use Rattle.targets.specs.Carried.{Carried}
 
 -- the slots of the first i rows
 unfoldable pub slotsTo : List ℕ → Shape → ℕ → Sum

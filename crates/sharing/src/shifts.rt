@@ -15,14 +15,14 @@ ghost use mathlib.Core.Path.{_≡_};
 ghost use Prim.Native.Nat.{_+_, _<_, _≤_, _^_};
 ghost use lib.IntN.{natAbs, _+ℤ_, _-ℤ_};
 ghost use Rattle.integers.specs.Division.{share};
+ghost use Rattle.bounds.specs.Bounds.{greatestWeight};
 ghost use Rattle.points.specs.Points.{exponents};
 ghost use Rattle.squares.specs.Rows.{slots};
-ghost use Rattle.bounds.specs.Bounds.{greatestWeight};
 ghost use Rattle.sheets.specs.Layout.{variables, rowCount};
 ghost use Rattle.sheets.specs.ProofSheet.{rowsOf, byValue};
-ghost use Rattle.sharing.specs.Sharing.{count, shiftedWeight};
 ghost use Rattle.targets.specs.Targets.{targetOf};
 ghost use Rattle.targets.specs.Carried.{Carried};
+ghost use Rattle.sharing.specs.Sharing.{count, shiftedWeight};
 ghost use Rattle.sharing.specs.Shifts.{CheckedSheets, IsRow, slotsBefore, shiftedRow};
 
 // A weight with its share of the error.

@@ -11,8 +11,8 @@ ghost use lib.ListN.{length};
 ghost use Rattle.integers.specs.Words.{i32At};
 ghost use Rattle.bounds.specs.Bounds.{greatestWeight};
 ghost use Rattle.checks.specs.ProofChecks.{ProofFacts};
-ghost use Rattle.sharing.specs.Slots.{Small, HoldsKey, slotsTo, added, tallyOf, holdingOf};
 ghost use Rattle.targets.specs.Carried.{CarriedKey};
+ghost use Rattle.sharing.specs.Slots.{Small, HoldsKey, slotsTo, added, tallyOf, holdingOf};
 
 // What the slots at a point weigh together, and how many they are.
 pub struct Tally {

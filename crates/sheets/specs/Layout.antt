@@ -2,8 +2,8 @@
 use mathlib.Core.List.{List}
 use Prim.Native.Nat.{ℕ, _+_, _*_, _≤_}
 use lib.ListN.{length, getD}
-use Rattle.sheets.specs.declared.layout.Shape.{Shape}
 use Rattle.bounds.specs.Bounds.{mostVariables, mostTerms, mostRows}
+use Rattle.sheets.specs.declared.layout.Shape.{Shape}
 
 -- entries of one size stand one after another: where entry i begins
 abbrev pub place : ℕ → ℕ → ℕ → ℕ

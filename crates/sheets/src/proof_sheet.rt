@@ -13,11 +13,11 @@ use squares::rows::Weights;
 ghost use mathlib.Core.Path.{_≡_};
 ghost use Prim.Native.Nat.{_<_, _≤_};
 ghost use lib.ListN.{length};
+ghost use Rattle.bounds.specs.Bounds.{mostVariables, mostRows};
 ghost use Rattle.points.specs.Points.{pointOf};
 ghost use Rattle.keys.specs.Keys.{keyOf};
 ghost use Rattle.sheets.specs.Layout.{rowCount, shapeOf, vAt, tripleAt, proofLength, ProofRoom};
 ghost use Rattle.sheets.specs.ProofSheet.{scaleOf, vOf, wOf, tripleOf, weightsOf, rowOf, byValue, tripleFor};
-ghost use Rattle.bounds.specs.Bounds.{mostVariables, mostRows};
 
 // A row's three numbers, as the sheet has them.
 pub struct Triple {

@@ -11,20 +11,20 @@ use lib.ListN.{length, length-replicate}
 use lib.Signed.{_≤ℤ_}
 use Rattle.integers.proofs.Integers.{ring, by-le, read-le, ≤ℤ-trans, nonneg-cancel}
 use Rattle.points.specs.Points.{Exponents, keepsSign}
+use Rattle.points.specs.Lists.{All}
+use Rattle.points.proofs.points.Laws.{midpoint-sized}
+use Rattle.points.proofs.Lists.{all-map}
 use Rattle.monomials.specs.Powers.{monomialOf}
+use Rattle.monomials.proofs.powers.Laws.{monomial-sign, monomial-mean, monomial-constant}
 use Rattle.squares.specs.Sums.{Sum, coefficient, value, valueAt}
 use Rattle.squares.specs.Rows.{Row, slotsAt, slotsOf, slots}
 use Rattle.squares.specs.Targets.{lowered, worst, target}
-use Rattle.points.specs.Lists.{All}
 use Rattle.squares.specs.Decomposition.{Sized, Whole, Placed, AddsUp}
 use Rattle.squares.specs.Floor.{Floor}
 use Rattle.squares.specs.declared.rows.Weights.{Weights}
 use Rattle.squares.specs.declared.rows.Weights.the-variants.{Pair, Lone}
-use Rattle.points.proofs.points.Laws.{midpoint-sized}
-use Rattle.points.proofs.Lists.{all-map}
 use Rattle.squares.proofs.Targets.{worst-zero, worst-scaled, worst-below, target-zero}
 use Rattle.squares.proofs.Sums.{scaled, coefficient-scaled, value-scaled, dominate, coefficient-none, gathered-all}
-use Rattle.monomials.proofs.powers.Laws.{monomial-sign, monomial-mean, monomial-constant}
 use Rattle.squares.proofs.rows.Laws.{Mean, absolute, rows-nonneg}
 
 -- ---- any worth of points

@@ -11,10 +11,10 @@ use lib.ListN.{length}
 use lib.Signed.{_≤ℤ_, ≤ℤ-refl}
 use Rattle.integers.proofs.Integers.{ring, ints, by-eq, +ℤ-mono, *ℤ-+ℤ, pos-nonneg}
 use Rattle.points.specs.Points.{Exponents, samePoint}
-use Rattle.squares.specs.Sums.{Sum, coefficient, value, gathered}
 use Rattle.points.specs.Lists.{All, table}
 use Rattle.points.proofs.points.Laws.{same-eq, same-refl}
 use Rattle.points.proofs.Lists.{all-append, table-none, table-more}
+use Rattle.squares.specs.Sums.{Sum, coefficient, value, gathered}
 
 -- ---- sums of sums, and multiples
 

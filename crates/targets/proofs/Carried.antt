@@ -4,14 +4,14 @@ use mathlib.Core.List.{List}
 use Prim.Native.Nat.{ℕ, _*_, _^_, _<_, _≤_}
 use lib.Dec.{eqb, lit<}
 use lib.ListN.{replicate, length-replicate}
+use Rattle.bounds.specs.Bounds.{greatestExponent, mostVariables}
 use Rattle.points.specs.Points.{Exponents, samePoint}
-use Rattle.keys.specs.Keys.{keyOf}
 use Rattle.points.proofs.points.Laws.{zeros-within}
+use Rattle.keys.specs.Keys.{keyOf}
 use Rattle.keys.proofs.keys.Laws.{Below, within-below, key-same, key-low}
-use Rattle.bounds.specs.Bounds.{greatestExponent}
 use Rattle.sheets.specs.ClaimSheet.{termPoint}
-use Rattle.claims.specs.ClaimChecks.{ClaimFacts}
 use Rattle.sheets.proofs.claim_sheet.Laws.{point-length}
+use Rattle.claims.specs.ClaimChecks.{ClaimFacts}
 use Rattle.targets.specs.Carried.{Carried}
 
 -- ---- which they are
@@ -32,5 +32,5 @@ carried-same n α β h k =
     key-same α β (h .sized ∙ sym (k .sized)) (below n 256 α (lit< tt) h) (below n 256 β (lit< tt) k)
 
 -- the sum of two keys has 64 bits
-pub carried-low : (n : ℕ) (α : Exponents) → n ≤ 8 → Carried n α → keyOf α * 2 < 2 ^ 64
+pub carried-low : (n : ℕ) (α : Exponents) → n ≤ mostVariables → Carried n α → keyOf α * 2 < 2 ^ 64
 carried-low n α few h = key-low α (rw (h .sized) few) (below n 128 α (lit< tt) h)

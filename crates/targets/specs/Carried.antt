@@ -3,8 +3,8 @@ use mathlib.Core.Path.{_≡_}
 use mathlib.Core.Bool.{true}
 use Prim.Native.Nat.{ℕ}
 use lib.ListN.{length}
-use Rattle.points.specs.Points.{Exponents, exponentsWithin}
 use Rattle.bounds.specs.Bounds.{greatestExponent}
+use Rattle.points.specs.Points.{Exponents, exponentsWithin}
 use Rattle.keys.specs.Keys.{keyOf}
 
 pub record Carried (n : ℕ) (α : Exponents) : Type 0 where

@@ -5,19 +5,19 @@ use mathlib.Core.Path.{_≡_}
 use Prim.Native.Nat.{ℕ, _≤_}
 use lib.Dec.{eqb}
 use lib.IntN.{ℤ, pos, natAbs, _-ℤ_, _*ℤ_}
+use Rattle.bounds.specs.Bounds.{greatestWeight, greatestScale}
+use Rattle.answers.specs.Searches.{first}
+use Rattle.answers.specs.declared.searches.Found.{Found}
+use Rattle.answers.specs.declared.searches.Found.the-variants.{At, Nothing}
 use Rattle.points.specs.Points.{Exponents, keepsSign}
 use Rattle.keys.specs.Keys.{keyOf}
 use Rattle.squares.specs.Targets.{lowered, worst, target}
 use Rattle.sheets.specs.Layout.{variables, termCount}
 use Rattle.sheets.specs.ClaimSheet.{floorOf, termPoint, coefficientOf, termsOf}
 use Rattle.sheets.specs.ProofSheet.{scaleOf}
-use Rattle.bounds.specs.Bounds.{greatestWeight, greatestScale}
-use Rattle.answers.specs.Searches.{first}
-use Rattle.answers.specs.declared.searches.Found.{Found}
-use Rattle.answers.specs.declared.searches.Found.the-variants.{At, Nothing}
-use Rattle.targets.specs.declared.targets.Aim.{Aim}
 use Rattle.claims.specs.ClaimChecks.{ClaimFacts}
 use Rattle.targets.specs.Carried.{Carried}
+use Rattle.targets.specs.declared.targets.Aim.{Aim}
 
 -- a floor and a scale that the sheets can hold
 pub record AimWithin (a : Aim) : Type 0 where

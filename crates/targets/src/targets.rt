@@ -12,12 +12,12 @@ ghost use mathlib.Core.Path.{_≡_};
 ghost use Prim.Native.Nat.{_^_, _<_, _≤_};
 ghost use lib.IntN.{pos, natAbs, _*ℤ_};
 ghost use lib.ListN.{length};
+ghost use Rattle.bounds.specs.Bounds.{greatestWeight, greatestScale};
+ghost use Rattle.answers.specs.Searches.{first};
 ghost use Rattle.points.specs.Points.{exponents};
 ghost use Rattle.squares.specs.Targets.{worst};
-ghost use Rattle.bounds.specs.Bounds.{greatestWeight, greatestScale};
 ghost use Rattle.sheets.specs.Layout.{variables, termCount};
 ghost use Rattle.sheets.specs.ClaimSheet.{termPoint};
-ghost use Rattle.answers.specs.Searches.{first};
 ghost use Rattle.claims.specs.ClaimChecks.{ClaimFacts};
 ghost use Rattle.targets.specs.Targets.{aimOf, AimWithin, Targeted, targetOf, hasKey, coefficientWith, loweredBy, targetWith};
 

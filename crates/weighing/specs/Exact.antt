@@ -3,16 +3,16 @@ use mathlib.Core.List.{List}
 use Prim.Native.Nat.{ℕ, _<_, _≤_}
 use lib.IntN.{ℤ}
 use lib.ListN.{length}
+use Rattle.bounds.specs.Bounds.{greatestWeight}
 use Rattle.points.specs.Points.{Exponents}
 use Rattle.squares.specs.declared.rows.Weights.{Weights}
 use Rattle.sheets.specs.Layout.{rowCount, shapeOf}
 use Rattle.sheets.specs.ProofSheet.{tripleFor}
 use Rattle.writing.specs.Writing.{withRows}
 use Rattle.checks.specs.ProofChecks.{Within}
-use Rattle.sharing.specs.Shifts.{CheckedSheets, shiftedRow}
-use Rattle.bounds.specs.Bounds.{greatestWeight}
 use Rattle.targets.specs.Targets.{targetOf}
 use Rattle.targets.specs.declared.targets.Aim.{Aim}
+use Rattle.sharing.specs.Shifts.{CheckedSheets, shiftedRow}
 
 -- the shifted weights of row i; τ gives each point's target
 unfoldable pub weightsFor : (Exponents → ℤ) → List ℕ → ℕ → Weights

@@ -5,13 +5,13 @@ use Prim.Native.Nat.{ℕ, suc}
 use lib.Dec.{eqb, ltb}
 use lib.IntN.{ℤ, natAbs}
 use lib.ListN.{replicate}
+use Rattle.answers.specs.Answers.{Answer, accepted, refuseAt}
+use Rattle.answers.specs.Searches.{first}
 use Rattle.points.specs.Points.{Exponents}
 use Rattle.squares.specs.Rows.{slots}
 use Rattle.sheets.specs.Layout.{variables, termCount}
 use Rattle.sheets.specs.ClaimSheet.{termPoint}
 use Rattle.sheets.specs.ProofSheet.{rowsOf}
-use Rattle.answers.specs.Answers.{Answer, accepted, refuseAt}
-use Rattle.answers.specs.Searches.{first}
 use Rattle.sharing.specs.Sharing.{count}
 
 -- the point of term i in a claim of n variables and t terms, and after the terms the constant's

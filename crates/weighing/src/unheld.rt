@@ -1,5 +1,6 @@
 // Check 16: a target that is not zero needs a slot.
 use answers::searches::Found;
+use bounds::bounds::MOST_VARIABLES;
 use integers::magnitudes::magnitude;
 use keys::keys::key_of;
 use points::points::Point;
@@ -15,9 +16,9 @@ ghost use mathlib.Core.Path.{_≡_};
 ghost use Prim.Native.Nat.{suc, _≤_};
 ghost use lib.Dec.{eqb};
 ghost use lib.IntN.{natAbs};
+ghost use Rattle.answers.specs.Searches.{first};
 ghost use Rattle.points.specs.Points.{exponents, pointOf};
 ghost use Rattle.sheets.specs.Layout.{variables, termCount};
-ghost use Rattle.answers.specs.Searches.{first};
 ghost use Rattle.claims.specs.ClaimChecks.{ClaimFacts};
 ghost use Rattle.targets.specs.Targets.{Targeted, targetOf};
 ghost use Rattle.sharing.specs.Shifts.{CheckedSheets};
@@ -31,7 +32,10 @@ fn point_for(claim: &[u8], n: usize, t: usize, i: usize) -> Point
     if i < t {
         return term_point(claim, n, t, i);
     }
-    Point { exps: [0; 8], n }
+    Point {
+        exps: [0; MOST_VARIABLES],
+        n,
+    }
 }
 
 // Whether the target is zero at p, the point of term i or after the terms the constant's.

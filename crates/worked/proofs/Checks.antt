@@ -9,23 +9,23 @@ use lib.IntN.{pos}
 use lib.ListN.{length, getD, replicate, getD-replicate, length-replicate, List·getD-eq-default}
 use lib.Seq.{getD-append-add}
 use Rattle.integers.specs.Words.{u32At, i32At}
-use Rattle.points.specs.Lists.{table}
-use Rattle.points.specs.Points.{bytesAt, every, everyPair, samePoint, risesTo, evenSum, hasMidpoint, exponentsWithin}
+use Rattle.bounds.specs.Bounds.{greatestExponent, greatestWeight, beyond}
 use Rattle.answers.specs.Answers.{says, accepted, refused, refuseIf, refuseAt, blameless, andThen}
 use Rattle.answers.specs.Searches.{first}
-use Rattle.bounds.specs.Bounds.{greatestExponent, greatestWeight, beyond}
-use Rattle.sheets.specs.Layout.{tripleAt}
-use Rattle.sheets.specs.declared.layout.Shape.{Shape}
-use Rattle.sheets.specs.ClaimSheet.{floorOf, termPoint, coefficientOf}
-use Rattle.claims.specs.ClaimChecks as C
-use Rattle.sheets.specs.ProofSheet.{scaleOf, vOf, wOf, wordsAt, tripleOf}
-use Rattle.checks.specs.ProofChecks as P
-use Rattle.checks.specs.Input.{headAnswer, formedAnswer}
 use Rattle.answers.specs.declared.answers.Verdict.the-variants.{Accepted}
-use Rattle.checks.specs.declared.proof_checks.RowRule.the-variants as R
 use Rattle.answers.specs.declared.searches.Found.the-variants.{Nothing}
 use Rattle.answers.proofs.answers.Laws.{passed-at, then-passed}
 use Rattle.answers.proofs.searches.Laws.{all-right}
+use Rattle.points.specs.Lists.{table}
+use Rattle.points.specs.Points.{bytesAt, every, everyPair, samePoint, risesTo, evenSum, hasMidpoint, exponentsWithin}
+use Rattle.sheets.specs.Layout.{tripleAt}
+use Rattle.sheets.specs.ClaimSheet.{floorOf, termPoint, coefficientOf}
+use Rattle.sheets.specs.ProofSheet.{scaleOf, vOf, wOf, wordsAt, tripleOf}
+use Rattle.sheets.specs.declared.layout.Shape.{Shape}
+use Rattle.claims.specs.ClaimChecks as C
+use Rattle.checks.specs.ProofChecks as P
+use Rattle.checks.specs.Input.{headAnswer, formedAnswer}
+use Rattle.checks.specs.declared.proof_checks.RowRule.the-variants as R
 use Rattle.worked.specs.Sheets.{joined, word, words, claimOf, proofOf, squareWith, square, squareProof, twoTerms, oneRow}
 use Rattle.worked.specs.Checks.{Case, claims, proves, full, manyPoints, manyRows, small, cases, Worked}
 

@@ -1,15 +1,15 @@
 -- The cases, computed.
 use mathlib.Core.Path.{refl}
 use Rattle.integers.specs.Words.{u32At, i32At}
+use Rattle.bounds.specs.Bounds.{beyond}
+use Rattle.answers.specs.Answers.{accepted, refused, refuseIf, refuseAt, blameless, andThen}
+use Rattle.answers.specs.Searches.{first}
 use Rattle.points.specs.Lists.{table}
 use Rattle.points.specs.Points.{bytesAt, every, risesTo, exponentsWithin}
 use Rattle.monomials.specs.Powers.{powerOf, monomialOf}
 use Rattle.squares.specs.Sums.{value}
 use Rattle.sheets.specs.ClaimSheet.{floorOf, termPoint, coefficientOf, termOf, termsOf}
-use Rattle.answers.specs.Answers.{accepted, refused, refuseIf, refuseAt, blameless, andThen}
-use Rattle.bounds.specs.Bounds.{beyond}
 use Rattle.claims.specs.ClaimChecks.{countsRight, headerRight, breaks, termsAnswer, claimAnswer}
-use Rattle.answers.specs.Searches.{first}
 use Rattle.evaluation.specs.Evaluations.{toldBy, termValue, tooLarge, tooLargeAnswer, evaluationAnswer, evaluationOf}
 use Rattle.worked.specs.Sheets.{joined, word, words, claimOf, twoTerms, squareWith, square}
 use Rattle.worked.specs.Evaluations.{at, oneAt, least, greatest, cases, Worked}

@@ -2,6 +2,9 @@
 use mathlib.Core.Path.{refl}
 use Rattle.integers.specs.Words.{u32At, i32At, withBits, withI32}
 use Rattle.integers.specs.Division.{floorDiv, floorMod, share}
+use Rattle.bounds.specs.Bounds.{beyond}
+use Rattle.answers.specs.Answers.{accepted, refused, refuseIf, refuseAt, blameless, andThen}
+use Rattle.answers.specs.Searches.{first}
 use Rattle.points.specs.Lists.{table}
 use Rattle.points.specs.Points.{bytesAt, every, everyPair, samePoint, risesTo, midpointOf, evenSum, hasMidpoint, exponentsWithin, keepsSign}
 use Rattle.squares.specs.Sums.{gathered, coefficient}
@@ -10,18 +13,15 @@ use Rattle.squares.specs.Targets.{lowered, worst, target}
 use Rattle.sheets.specs.ClaimSheet.{floorOf, termPoint, coefficientOf, termOf, termsOf}
 use Rattle.sheets.specs.ProofSheet.{scaleOf, vOf, wOf, wordsAt, tripleOf, weightsOf, rowOf, rowsOf, tripleFor}
 use Rattle.writing.specs.Writing.{withTriple, withWeights, withRows}
-use Rattle.answers.specs.Answers.{accepted, refused, refuseIf, refuseAt, blameless, andThen}
-use Rattle.answers.specs.Searches.{first}
-use Rattle.bounds.specs.Bounds.{beyond}
 use Rattle.claims.specs.ClaimChecks as C
 use Rattle.checks.specs.ProofChecks as P
-use Rattle.sharing.specs.Sharing.{count, errorAt, shiftedWeight, rankOf}
+use Rattle.checks.specs.Input.{headAnswer, roomAnswer, bodyAnswer, inputAnswer}
 use Rattle.targets.specs.Targets.{aimOf, targetOf}
+use Rattle.sharing.specs.Sharing.{count, errorAt, shiftedWeight, rankOf}
 use Rattle.sharing.specs.Slots.{slotsTo}
 use Rattle.sharing.specs.Shifts.{shiftedWeights, shiftRow, slotsBefore, shiftedRow, shiftedRows}
-use Rattle.checks.specs.Input.{headAnswer, roomAnswer, bodyAnswer, inputAnswer}
-use Rattle.weighing.specs.Unheld.{pointFor, unheldAt, unheld, unheldAnswer}
 use Rattle.judgements.specs.Judgements.{negative, indefinite, judgePair, judgeLone, judgementOf, numberOf, judgedAs, firstsTo, judgedAnswer}
+use Rattle.weighing.specs.Unheld.{pointFor, unheldAt, unheld, unheldAnswer}
 use Rattle.weighing.specs.Exact.{weightsFor, exactProof}
 use Rattle.weighing.specs.Weighed.{weighedAnswer}
 use Rattle.judging.specs.Check.{targetsOf, checkAnswer, outputOf}

@@ -4,8 +4,8 @@ use mathlib.Core.List.{List, [], _∷_, _++_, map}
 use Prim.Native.Nat.{ℕ, _+_, _-_, _^_}
 use lib.IntN.{ℤ, pos, negsuc}
 use lib.ListN.{replicate}
-use Rattle.points.specs.Lists.{table}
 use Rattle.answers.specs.Answers.{Answer, accepted, refused}
+use Rattle.points.specs.Lists.{table}
 use Rattle.checks.specs.Input.{formedAnswer}
 use Rattle.worked.specs.Sheets.{joined, word, claimOf, proofOf, square, squareProof, twoTerms, oneRow}
 

@@ -4,10 +4,10 @@ use mathlib.Core.List.{List, [], _∷_, _++_, map}
 use Prim.Native.Nat.{ℕ, _+_, _^_}
 use lib.IntN.{pos, negsuc}
 use lib.ListN.{length, replicate}
+use Rattle.answers.specs.Answers.{Answer, accepted, refused}
 use Rattle.squares.specs.Rows.{Row}
 use Rattle.squares.specs.declared.rows.Weights.{Weights}
 use Rattle.squares.specs.declared.rows.Weights.the-variants.{Pair, Lone}
-use Rattle.answers.specs.Answers.{Answer, accepted, refused}
 use Rattle.sharing.specs.Shifts.{shiftedRows}
 use Rattle.judging.specs.Check.{targetsOf, checkAnswer, outputOf}
 use Rattle.worked.specs.Sheets.{proofOf, squareWith, square, squareProof, oneRow, bare, noRows, motzkin, motzkinProof, oneTerm}

@@ -3,15 +3,15 @@
 use mathlib.Core.Path.{_≡_, refl, sym, _∙_}
 use mathlib.Core.Bool.{Bool, true, false, cond, false≢true}
 use Prim.Native.Nat.{ℕ, _<_, _≤_}
+use native.Mathlib.Omega.{arith}
 use Rattle.answers.specs.Answers.{Answer, refusal, says, blames, accepted, refused, refuseIf, refuseAt, faultless, blameless, andThen, Passes, Short}
+use Rattle.answers.specs.Searches.{first}
 use Rattle.answers.specs.declared.answers.Sheet.{Sheet}
 use Rattle.answers.specs.declared.answers.Sheet.the-variants.{Claim, Proof, Output, Offsets, Range, Limits, Page, Profile, Buffer, Table, Site}
 use Rattle.answers.specs.declared.answers.Verdict.{Verdict}
 use Rattle.answers.specs.declared.answers.Verdict.the-variants.{Accepted, Refused}
 use Rattle.answers.specs.declared.searches.Found.{Found}
 use Rattle.answers.specs.declared.searches.Found.the-variants.{At, Nothing}
-use native.Mathlib.Omega.{arith}
-use Rattle.answers.specs.Searches.{first}
 use Rattle.answers.proofs.searches.Laws.{first-inside}
 
 -- a number that blames a sheet is no acceptance's

@@ -8,10 +8,10 @@ use native.Mathlib.Decide.{le-ind}
 use native.Mathlib.Nat.{eq-or-lt-of-le, le-of-suc-le-suc}
 use native.Mathlib.Numerals.{add-one}
 use native.Mathlib.Omega.{arith}
+use Rattle.integers.proofs.Tests.{never}
 use Rattle.answers.specs.Searches.{first}
 use Rattle.answers.specs.declared.searches.Found.{Found}
 use Rattle.answers.specs.declared.searches.Found.the-variants.{At, Nothing}
-use Rattle.integers.proofs.Tests.{never}
 
 module _ (wrong : ℕ → Bool) where
   pub first-start : first wrong 0 ≡ Nothing

@@ -1,5 +1,5 @@
-use Rattle.burmelox_check.proofs.printing.Laws.{text-counts}
 use borrow.Author.Needs.{needs}
+use Rattle.burmelox_check.proofs.printing.Laws.{text-counts}
 use Rattle.burmelox_check.proofs.main.Statement.{statement}
 use Rattle.burmelox_check.proofs.main.Tie as tie
 

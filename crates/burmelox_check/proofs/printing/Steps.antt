@@ -5,16 +5,16 @@ use Prim.Native.Nat.{ℕ, zero, suc, _-_, _<_, _≤_}
 use native.Mathlib.Omega.{arith}
 use lib.ListN.{length, take, drop, length-drop, length-replicate}
 use lib.Seq.{take-all}
-use Rattle.sheets.specs.Layout.{rowCount, shapeOf, ProofRoom}
-use Rattle.sheets.specs.ProofSheet.{scaleOf, tripleOf, tripleFor}
 use Rattle.answers.specs.Answers.{says, Passes}
 use Rattle.answers.specs.declared.answers.Verdict.{Verdict}
+use Rattle.sheets.specs.Layout.{rowCount, shapeOf, ProofRoom}
+use Rattle.sheets.specs.ProofSheet.{scaleOf, tripleOf, tripleFor}
 use Rattle.targets.specs.Targets.{aimOf}
 use Rattle.sharing.specs.Shifts.{CheckedSheets}
 use Rattle.sharing.proofs.shifts.Laws.{sheets-checked}
 use Rattle.weighing.specs.Exact.{weightsFor, exactProof}
-use Rattle.judging.specs.Check.{targetsOf, checkAnswer, outputOf}
 use Rattle.weighing.proofs.exact.Laws.{exact-length, exact-variables, exact-scale, exact-weights}
+use Rattle.judging.specs.Check.{targetsOf, checkAnswer, outputOf}
 use Rattle.judging.proofs.Promises.{accepted-formed, accepted-within, accepted-rows, accepted-exact}
 use Rattle.text.specs.Text.{Written}
 use Rattle.report.specs.Reports.{shapeWith, reportText}

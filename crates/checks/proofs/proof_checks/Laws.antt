@@ -9,13 +9,13 @@ use lib.ListN.{length}
 use borrow.Author.Tests.{leb-true, eqb-true, not-false}
 use Rattle.integers.proofs.Integers.{abs-zero}
 use Rattle.integers.proofs.words.Laws.{Bytes}
-use Rattle.points.specs.Points.{samePoint, hasMidpoint, exponentsWithin}
-use Rattle.answers.specs.Answers.{Passes, Short}
-use Rattle.bounds.specs.Bounds.{greatestExponent, greatestWeight, mostVariables}
-use Rattle.answers.proofs.answers.Laws.{passes-if, passes-at, short-accepted, short-if, short-at}
-use Rattle.bounds.proofs.bounds.Laws.{within-bound, bound-within}
-use Rattle.answers.proofs.searches.Laws.{none-wrong}
 use Rattle.integers.proofs.Tests.{nor, nand}
+use Rattle.bounds.specs.Bounds.{greatestExponent, greatestWeight, mostVariables}
+use Rattle.bounds.proofs.bounds.Laws.{within-bound, bound-within}
+use Rattle.answers.specs.Answers.{Passes, Short}
+use Rattle.answers.proofs.answers.Laws.{passes-if, passes-at, short-accepted, short-if, short-at}
+use Rattle.answers.proofs.searches.Laws.{none-wrong}
+use Rattle.points.specs.Points.{samePoint, hasMidpoint, exponentsWithin}
 use Rattle.sheets.specs.Layout.{variables, rowCount, shapeOf, proofLength}
 use Rattle.sheets.specs.ProofSheet.{vOf, wOf, tripleOf}
 use Rattle.sheets.specs.declared.layout.Shape.{Shape}

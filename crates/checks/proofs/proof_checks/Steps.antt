@@ -7,18 +7,18 @@ use lib.Dec.{eqb, ltb, leb}
 use lib.IntN.{ℤ, natAbs}
 use lib.ListN.{getD}
 use borrow.Author.Tests.{eq-eqb, ne-eqb, le-leb, lt-leb}
+use Rattle.bounds.specs.Bounds.{greatestScale, beyond}
+use Rattle.bounds.proofs.bounds.Laws.{over}
 use Rattle.points.specs.Points.{exponents, pointOf, samePoint, hasMidpoint, exponentsWithin}
 use Rattle.points.specs.declared.points.Point.{Point}
 use Rattle.points.proofs.points.Laws.{exponents-of}
-use Rattle.bounds.specs.Bounds.{greatestScale, beyond}
 use Rattle.sheets.specs.Layout.{variables, rowCount}
 use Rattle.sheets.specs.ProofSheet.{scaleOf, vOf, wOf, tripleOf}
+use Rattle.sheets.specs.declared.layout.Shape.{Shape}
+use Rattle.sheets.specs.declared.proof_sheet.Triple.{Triple}
 use Rattle.checks.specs.ProofChecks.{headerRight, qOrR, anyBeyond, breaks}
 use Rattle.checks.specs.declared.proof_checks.RowRule.{RowRule}
 use Rattle.checks.specs.declared.proof_checks.RowRule.the-variants.{Exponent, Midpoint, Unused, Weight}
-use Rattle.sheets.specs.declared.layout.Shape.{Shape}
-use Rattle.sheets.specs.declared.proof_sheet.Triple.{Triple}
-use Rattle.bounds.proofs.bounds.Laws.{over}
 
 -- ---- 9
 

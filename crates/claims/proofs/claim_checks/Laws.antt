@@ -10,16 +10,16 @@ use lib.IntN.{natAbs}
 use lib.ListN.{length}
 use borrow.Author.Tests.{eqb-true, not-false, lt-ltb, leb-true}
 use Rattle.integers.proofs.words.Laws.{Bytes}
-use Rattle.points.specs.Points.{samePoint, risesTo, exponentsWithin}
-use Rattle.points.proofs.points.Laws.{same-eq, rises-self, rises-trans}
-use Rattle.answers.specs.Answers.{says, Passes, Short}
+use Rattle.integers.proofs.Tests.{nor, nand}
 use Rattle.bounds.specs.Bounds.{greatestExponent, greatestWeight}
+use Rattle.bounds.proofs.bounds.Laws.{within-bound}
+use Rattle.answers.specs.Answers.{says, Passes, Short}
 use Rattle.answers.specs.declared.answers.Verdict.{Verdict}
 use Rattle.answers.specs.declared.answers.Verdict.the-variants.{Accepted}
 use Rattle.answers.proofs.answers.Laws.{passes-if, passes-at, passed, short-accepted, short-if, short-at}
-use Rattle.bounds.proofs.bounds.Laws.{within-bound}
 use Rattle.answers.proofs.searches.Laws.{none-wrong}
-use Rattle.integers.proofs.Tests.{nor, nand}
+use Rattle.points.specs.Points.{samePoint, risesTo, exponentsWithin}
+use Rattle.points.proofs.points.Laws.{same-eq, rises-self, rises-trans}
 use Rattle.sheets.specs.Layout.{variables, termCount, ClaimRoom, claimLength}
 use Rattle.sheets.specs.ClaimSheet.{floorOf, termPoint, coefficientOf}
 use Rattle.claims.specs.ClaimChecks.{breaks, termsAnswer, claimAnswer, ClaimFacts, countsRight, headerRight}

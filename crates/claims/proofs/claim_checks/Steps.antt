@@ -9,18 +9,18 @@ use lib.Dec.{ltb, eqb}
 use lib.IntN.{ℤ, natAbs}
 use lib.ListN.{length, getD}
 use borrow.Author.Tests.{not-true, eq-eqb, ne-eqb, lt-ltb, le-ltb, le-leb, lt-leb, not-false}
+use Rattle.bounds.specs.Bounds.{beyond, mostVariables, mostTerms}
+use Rattle.bounds.proofs.bounds.Laws.{over}
+use Rattle.answers.specs.Answers.{says}
+use Rattle.answers.specs.declared.answers.Verdict.{Verdict}
 use Rattle.points.specs.Points.{exponents, pointOf, risesTo, exponentsWithin}
 use Rattle.points.specs.declared.points.Point.{Point}
 use Rattle.points.proofs.points.Laws.{exponents-of}
-use Rattle.answers.specs.Answers.{says}
-use Rattle.bounds.specs.Bounds.{beyond, mostVariables, mostTerms}
 use Rattle.sheets.specs.Layout.{variables, termCount, place, ClaimRoom}
 use Rattle.sheets.specs.ClaimSheet.{floorOf, termPoint, coefficientOf}
-use Rattle.claims.specs.ClaimChecks.{countsRight, headerRight, breaks, termsAnswer}
-use Rattle.answers.specs.declared.answers.Verdict.{Verdict}
-use Rattle.claims.specs.declared.claim_checks.TermRule.the-variants.{Coefficient, Exponent, Order}
 use Rattle.sheets.proofs.layout.Laws.{claim-asked}
-use Rattle.bounds.proofs.bounds.Laws.{over}
+use Rattle.claims.specs.ClaimChecks.{countsRight, headerRight, breaks, termsAnswer}
+use Rattle.claims.specs.declared.claim_checks.TermRule.the-variants.{Coefficient, Exponent, Order}
 use Rattle.claims.proofs.claim_checks.Laws.{header-room}
 
 -- ---- 2: n and t are the counts that were read, r the test of both

@@ -6,17 +6,17 @@ use Prim.Native.Nat.{ℕ, _≤_}
 use native.Mathlib.Omega.{arith}
 use lib.IntN.{ℤ}
 use Rattle.integers.proofs.words.Laws.{Bytes}
-use Rattle.sheets.specs.Layout.{termCount}
+use Rattle.integers.proofs.Tests.{never}
 use Rattle.answers.specs.Answers.{Answer, says, blameless, Short}
 use Rattle.answers.specs.declared.answers.Sheet.{Sheet}
 use Rattle.answers.specs.declared.answers.Verdict.the-variants as Verdicts
 use Rattle.answers.proofs.answers.Laws.{short-accepted, short-if, short-at, short-then}
+use Rattle.sheets.specs.Layout.{termCount}
 use Rattle.claims.proofs.claim_checks.Laws.{claim-short}
 use Rattle.evaluation.specs.Evaluations as Spec
 use Rattle.evaluation.specs.Evaluations.{refusal, tells, toldBy, tooLargeAnswer, evaluationAnswer, evaluationOf}
 use Rattle.evaluation.specs.declared.evaluations.Evaluation.{Evaluation}
 use Rattle.evaluation.specs.declared.evaluations.Evaluation.the-variants.{Value, Refused}
-use Rattle.integers.proofs.Tests.{never}
 
 -- ---- what checks tell
 

@@ -8,27 +8,15 @@ use native.Mathlib.Omega.{arith}
 use lib.Dec.{eqb}
 use lib.IntN.{ℤ, pos, natAbs, _+ℤ_, _*ℤ_}
 use lib.ListN.{length}
+use borrow.Author.Tests.{eq-eqb, ne-eqb, eqb-true, not-false}
 use mir.Syntax.{w64}
 use mir.Val.{SFits, toZ, ofZ}
 use mir.Facts.{toZ-ofZ}
-use borrow.Author.Tests.{eq-eqb, ne-eqb, eqb-true, not-false}
 use Rattle.integers.proofs.Integers.{abs-add, fits-within}
-use Rattle.points.specs.Lists.{table}
-use Rattle.points.specs.Points.{exponents, pointOf}
-use Rattle.monomials.specs.Powers.{monomialOf, Represents, within}
-use Rattle.squares.specs.Sums.{valueAt}
-use Rattle.points.specs.declared.points.Point.{Point}
-use Rattle.monomials.specs.declared.powers.Bounded.{Bounded}
-use Rattle.monomials.specs.declared.powers.Bounded.the-variants.{TooLarge, Value as Exact}
-use Rattle.points.proofs.Lists.{table-none, table-more}
-use Rattle.squares.proofs.Sums.{value-nil, value-one, value-append}
-use Rattle.points.proofs.points.Laws.{exponents-of}
-use Rattle.monomials.proofs.powers.Steps.{within-represents}
-use Rattle.sheets.specs.Layout.{variables, termCount, ClaimRoom}
-use Rattle.sheets.specs.ClaimSheet.{termPoint, coefficientOf, termOf, termsOf}
-use Rattle.sheets.proofs.claim_sheet.Laws.{terms-table, term-point, term-coefficient}
+use Rattle.integers.proofs.Tests.{never}
+use Rattle.bounds.specs.Bounds.{greatestValue}
+use Rattle.bounds.proofs.bounds.Laws.{over-bound, within-bound, bound-within}
 use Rattle.answers.specs.Answers.{Answer, accepted, says, refuseIf, blameless, Passes}
-use Rattle.claims.specs.ClaimChecks.{claimAnswer}
 use Rattle.answers.specs.Searches.{first}
 use Rattle.answers.specs.declared.answers.Sheet.{Sheet}
 use Rattle.answers.specs.declared.answers.Sheet.the-variants.{Claim, Offsets}
@@ -36,16 +24,28 @@ use Rattle.answers.specs.declared.answers.Verdict.{Verdict}
 use Rattle.answers.specs.declared.answers.Verdict.the-variants as Verdicts
 use Rattle.answers.specs.declared.searches.Found.the-variants.{At, Nothing}
 use Rattle.answers.proofs.answers.Laws.{passes-if, passes-at, passes-then, then-on, if-on, at-on, accepted-passes, failed, then-refused, passed, then-passed, refused-if, refused-at, refused-says}
-use Rattle.bounds.proofs.bounds.Laws.{over-bound, within-bound, bound-within}
 use Rattle.answers.proofs.searches.Laws.{first-stop, first-next, none-wrong, all-right}
+use Rattle.points.specs.Lists.{table}
+use Rattle.points.specs.Points.{exponents, pointOf}
+use Rattle.points.specs.declared.points.Point.{Point}
+use Rattle.points.proofs.Lists.{table-none, table-more}
+use Rattle.points.proofs.points.Laws.{exponents-of}
+use Rattle.monomials.specs.Powers.{monomialOf, Represents, within}
+use Rattle.monomials.specs.declared.powers.Bounded.{Bounded}
+use Rattle.monomials.specs.declared.powers.Bounded.the-variants.{TooLarge, Value as Exact}
+use Rattle.monomials.proofs.powers.Laws.{within-represents}
+use Rattle.squares.specs.Sums.{valueAt}
+use Rattle.squares.proofs.Sums.{value-nil, value-one, value-append}
+use Rattle.sheets.specs.Layout.{variables, termCount, ClaimRoom}
+use Rattle.sheets.specs.ClaimSheet.{termPoint, coefficientOf, termOf, termsOf}
+use Rattle.sheets.proofs.claim_sheet.Laws.{terms-table, term-point, term-coefficient}
+use Rattle.claims.specs.ClaimChecks.{claimAnswer}
 use Rattle.claims.proofs.claim_checks.Laws.{claim-passed}
 use Rattle.judging.proofs.Promises.{floor-kept}
 use Rattle.evaluation.specs.Evaluations as Spec
 use Rattle.evaluation.specs.Evaluations.{refusal, tells, toldBy, termValue, tooLarge, tooLargeAnswer, sumTo, summed, evaluationAnswer, evaluationOf, Evaluable, Evaluates, Floored}
 use Rattle.evaluation.specs.declared.evaluations.Evaluation.{Evaluation}
 use Rattle.evaluation.specs.declared.evaluations.Evaluation.the-variants.{Value, Refused}
-use Rattle.bounds.specs.Bounds.{greatestValue}
-use Rattle.integers.proofs.Tests.{never}
 
 -- ---- what checks tell
 

@@ -7,8 +7,8 @@ use native.Mathlib.Omega.{arith}
 use lib.Dec.{T, ltb, ltb→lt, nltb→le, leb·suc-zero}
 use lib.IntN.{ℤ, pos, negsuc, natAbs, _+ℤ_, _*ℤ_}
 use lib.Signed.{mag}
-use Rattle.integers.proofs.Integers.{abs-add, ring, ints, by-eq, read-eq}
 use Rattle.integers.specs.Division.{floorDiv, floorMod, share, shares}
+use Rattle.integers.proofs.Integers.{abs-add, ring, ints, by-eq, read-eq}
 
 pub floorMod-< : (e : ℤ) (c : ℕ) → 0 < c → floorMod e c < c
 unfolding floorMod

@@ -11,8 +11,8 @@ use borrow.Author.Tests.{lt-ltb, le-ltb}
 use mir.Syntax.{w32, w64}
 use mir.Val.{SFits, Fits, toZ}
 use mir.Facts.{toZ-pos, toZ-ofZ}
-use Rattle.integers.proofs.Integers.{up, dn, back, by-fits, read-fits, abs-add, ring, ints, by-eq, read-eq, sizes, abs-neg, le-parts, lt-parts, ltZ-true, ltZ-false, fits-within}
 use Rattle.integers.specs.Division.{floorDiv, floorMod, share}
+use Rattle.integers.proofs.Integers.{up, dn, back, by-fits, read-fits, abs-add, ring, ints, by-eq, read-eq, sizes, abs-neg, le-parts, lt-parts, ltZ-true, ltZ-false, fits-within}
 use Rattle.integers.proofs.division.Laws.{floorMod-<, floor-sum, floorDiv-size}
 
 -- ---- no other quotient and remainder add up so

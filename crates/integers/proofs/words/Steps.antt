@@ -9,8 +9,8 @@ use lib.Signed.{ltZ}
 use mir.Syntax.{w32, w64}
 use mir.Val.{Fits, SFits, toZ, ofZ}
 use mir.Facts.{toZ-pos, toZ-neg, toZ-ofZ, sfits-toZ, fits-ofZ, sfits-widen}
-use Rattle.integers.proofs.Integers.{back, ring, ints, by-eq, by-fits, sizes}
 use Rattle.integers.specs.Words.{u32At, i32At, withBits, withI32}
+use Rattle.integers.proofs.Integers.{back, ring, ints, by-eq, by-fits, sizes}
 
 -- signed: n is the bits
 module _ (n : ℕ) (h : n < 4294967296) where

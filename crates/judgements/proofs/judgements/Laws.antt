@@ -5,10 +5,21 @@ use Prim.Native.Nat.{ℕ, _+_, _≤_, _<_}
 use native.Mathlib.Numerals.{add-one}
 use native.Mathlib.Omega.{arith}
 use lib.Dec.{eqb}
-use borrow.Author.Tests.{eqb-false, ne-eqb}
 use lib.IntN.{ℤ, pos, _*ℤ_}
 use lib.Signed.{ltZ, _≤ℤ_}
+use borrow.Author.Tests.{eqb-false, ne-eqb}
 use Rattle.integers.proofs.Integers.{ltZ-false, le-ltZ}
+use Rattle.integers.proofs.Tests.{never}
+use Rattle.bounds.specs.Bounds.{beyond}
+use Rattle.bounds.proofs.bounds.Laws.{within-bound, bound-within}
+use Rattle.answers.specs.Answers.{says, accepted, Passes, Short}
+use Rattle.answers.specs.Searches.{first}
+use Rattle.answers.specs.declared.answers.Verdict.{Verdict}
+use Rattle.answers.specs.declared.answers.Verdict.the-variants.{Accepted}
+use Rattle.answers.specs.declared.searches.Found.{Found}
+use Rattle.answers.specs.declared.searches.Found.the-variants.{At, Nothing}
+use Rattle.answers.proofs.answers.Laws.{passes-at, passed-at, accepted-says, short-accepted, short-at}
+use Rattle.answers.proofs.searches.Laws.{first-start, first-here, first-stays, first-next, none-wrong, all-right}
 use Rattle.squares.specs.Rows.{Row}
 use Rattle.squares.specs.Rows as Formal
 use Rattle.squares.specs.declared.rows.Weights.{Weights}
@@ -17,23 +28,12 @@ use Rattle.sheets.specs.ProofSheet.{tripleFor, byValue}
 use Rattle.sheets.specs.declared.proof_sheet.Triple.{Triple}
 use Rattle.sheets.specs.declared.proof_sheet.Row as Value
 use Rattle.sheets.proofs.proof_sheet.Laws.{for-lone, for-pair, value-weights}
-use Rattle.answers.specs.Answers.{says, accepted, Passes, Short}
-use Rattle.bounds.specs.Bounds.{beyond}
 use Rattle.checks.specs.ProofChecks.{anyBeyond, Within}
-use Rattle.answers.specs.Searches.{first}
-use Rattle.answers.specs.declared.answers.Verdict.{Verdict}
-use Rattle.answers.specs.declared.answers.Verdict.the-variants.{Accepted}
-use Rattle.answers.specs.declared.searches.Found.{Found}
-use Rattle.answers.specs.declared.searches.Found.the-variants.{At, Nothing}
-use Rattle.answers.proofs.answers.Laws.{passes-at, passed-at, accepted-says, short-accepted, short-at}
-use Rattle.bounds.proofs.bounds.Laws.{within-bound, bound-within}
-use Rattle.answers.proofs.searches.Laws.{first-start, first-here, first-stays, first-next, none-wrong, all-right}
 use Rattle.checks.proofs.proof_checks.Laws.{none-beyond, within-none}
 use Rattle.judgements.specs.Judgements.{negative, indefinite, judgePair, judgeLone, judgementOf, numberOf, judgedAs, kept, noted, firstsTo, judgedAnswer}
 use Rattle.judgements.specs.declared.judgements.Firsts.{Firsts}
 use Rattle.judgements.specs.declared.judgements.Judgement.{Judgement}
 use Rattle.judgements.specs.declared.judgements.Judgement.the-variants.{Holds, Beyond, Negative, Indefinite}
-use Rattle.integers.proofs.Tests.{never}
 
 -- ---- judge_all
 

@@ -11,6 +11,13 @@ use mir.Syntax.{w64}
 use mir.Val.{SFits}
 use mir.Facts.{toZ-ofZ}
 use Rattle.integers.proofs.Integers.{back, abs-mul, fits-within}
+use Rattle.bounds.specs.Bounds.{beyond, greatestWeight}
+use Rattle.answers.specs.Answers.{says}
+use Rattle.answers.specs.declared.answers.Sheet.the-variants.{Proof}
+use Rattle.answers.specs.declared.answers.Verdict.the-variants.{Accepted, Refused}
+use Rattle.answers.specs.declared.searches.Found.{Found}
+use Rattle.answers.specs.declared.searches.Found.the-variants.{At, Nothing}
+use Rattle.answers.proofs.answers.Laws.{refused-at, passed-at, accepted-says, refused-says}
 use Rattle.squares.specs.Rows as Formal
 use Rattle.squares.specs.declared.rows.Weights.{Weights}
 use Rattle.squares.specs.declared.rows.Weights.the-variants.{Pair, Lone}
@@ -18,14 +25,7 @@ use Rattle.sheets.specs.ProofSheet.{tripleFor}
 use Rattle.sheets.specs.declared.proof_sheet.Triple.{Triple}
 use Rattle.sheets.specs.declared.proof_sheet.Row as Value
 use Rattle.sheets.proofs.proof_sheet.Laws.{for-lone}
-use Rattle.answers.specs.Answers.{says}
-use Rattle.bounds.specs.Bounds.{beyond, greatestWeight}
 use Rattle.checks.specs.ProofChecks.{anyBeyond, Within}
-use Rattle.answers.specs.declared.answers.Sheet.the-variants.{Proof}
-use Rattle.answers.specs.declared.answers.Verdict.the-variants.{Accepted, Refused}
-use Rattle.answers.specs.declared.searches.Found.{Found}
-use Rattle.answers.specs.declared.searches.Found.the-variants.{At, Nothing}
-use Rattle.answers.proofs.answers.Laws.{refused-at, passed-at, accepted-says, refused-says}
 use Rattle.checks.proofs.proof_checks.Laws.{none-beyond}
 use Rattle.judgements.specs.Judgements.{negative, indefinite, judgePair, judgeLone, judgementOf, numberOf, kept, noted, judgedAnswer}
 use Rattle.judgements.specs.declared.judgements.Firsts.{Firsts}

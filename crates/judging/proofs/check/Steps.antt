@@ -7,21 +7,21 @@ use native.Mathlib.Omega.{arith}
 use lib.ListN.{length, drop}
 use Rattle.integers.proofs.words.Laws.{Bytes}
 use Rattle.answers.specs.Answers.{says, Passes}
-use Rattle.checks.specs.Input.{WellFormed}
 use Rattle.answers.specs.declared.answers.Sheet.{Sheet}
 use Rattle.answers.specs.declared.answers.Verdict.{Verdict}
 use Rattle.answers.specs.declared.answers.Verdict.the-variants.{Accepted, Refused}
 use Rattle.answers.proofs.answers.Laws.{then-refused, then-passed, passed, failed, accepted-passes}
+use Rattle.checks.specs.Input.{WellFormed}
+use Rattle.checks.specs.Input.{inputAnswer}
+use Rattle.checks.proofs.input.Laws.{input-formed}
 use Rattle.targets.specs.Targets.{aimOf, targetOf}
 use Rattle.targets.specs.declared.targets.Aim.{Aim}
 use Rattle.sharing.specs.Shifts.{CheckedSheets}
 use Rattle.sharing.proofs.shifts.Laws.{sheets-checked}
-use Rattle.checks.specs.Input.{inputAnswer}
 use Rattle.weighing.specs.Weighed.{weighedAnswer}
-use Rattle.judging.specs.Check.{targetsOf, checkAnswer, outputOf}
 use Rattle.weighing.specs.Exact.{Writable, exactProof}
+use Rattle.judging.specs.Check.{targetsOf, checkAnswer, outputOf}
 use Rattle.judging.specs.Promises.{Decides, Floors, Keeps}
-use Rattle.checks.proofs.input.Laws.{input-formed}
 use Rattle.judging.proofs.Promises.{decision, floor-kept, exact-accepted, exact-bytes, accepted-formed, accepted-enough, accepted-within}
 
 -- ---- what decide and check read of well-formed sheets: a is the aim that was read

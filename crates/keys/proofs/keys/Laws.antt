@@ -4,13 +4,14 @@ use mathlib.Core.Bool.{Bool, true, false, false≢true}
 use mathlib.Core.List.{[], _∷_}
 use Prim.Native.Nat.{ℕ, zero, suc, _+_, _*_, _^_, _<_, _≤_}
 use native.Mathlib.Omega.{arith}
-use borrow.Author.Tests.{eq-eqb, ne-eqb}
 use lib.Dec.{eqb}
 use lib.ListN.{length, getD, replicate}
 use lib.Pow.{pow-add, pow-mono}
+use borrow.Author.Tests.{eq-eqb, ne-eqb}
+use Rattle.bounds.specs.Bounds.{mostVariables}
 use Rattle.points.specs.Points.{Exponents, samePoint, hasMidpoint, midpointOf, exponentsWithin}
-use Rattle.keys.specs.Keys.{keyOf}
 use Rattle.points.proofs.points.Laws.{same-eq, same-refl, within-more, midpoint-none, midpoint-more, whole-more, whole-sized}
+use Rattle.keys.specs.Keys.{keyOf}
 
 -- every exponent is below a bound
 abbrev pub Below : ℕ → Exponents → Type 0
@@ -67,5 +68,5 @@ unfolding keyOf
 key-half [] h = omega arith
 key-half (a ∷ α) h = rw (byte-more (length α)) (omega (arith, h 0, key-half α (λ i. h (suc i))))
 
-pub key-low : (α : Exponents) → length α ≤ 8 → Below 128 α → keyOf α * 2 < 2 ^ 64
+pub key-low : (α : Exponents) → length α ≤ mostVariables → Below 128 α → keyOf α * 2 < 2 ^ 64
 key-low α l h = let e : 8 * length α ≤ 64 = omega arith in omega (arith, key-half α h, pow-mono e)

@@ -7,16 +7,17 @@ use native.Mathlib.Nat.{add-assoc, add-zero}
 use native.Mathlib.Omega.{arith}
 use lib.Arith.{digits-div}
 use lib.ListN.{length, getD, take, drop, length-take, drop-of-length-le, List·getD-eq-default}
-use mir.Syntax.{w64}
-use mir.Val.{Fits}
 use lib.Seq.{drop-cons, getD-take}
 use lib.Pow.{pow-pos, pow-mono}
+use mir.Syntax.{w64}
+use mir.Val.{Fits}
 use Rattle.integers.specs.Words.{u32At}
 use Rattle.integers.proofs.words.Laws.{Bytes, u32-bytes}
+use Rattle.bounds.specs.Bounds.{mostVariables}
 use Rattle.points.specs.Points.{Exponents, exponents, bytesAt}
-use Rattle.keys.specs.Keys.{keyOf}
 use Rattle.points.specs.declared.points.Point.{Point}
-use Rattle.points.proofs.points.Laws.{exponents-counted, bytes-length, bytes-get, bytes-split, bytes-eight}
+use Rattle.points.proofs.points.Laws.{exponents-counted, bytes-length, bytes-get, bytes-split, bytes-eight, Places}
+use Rattle.keys.specs.Keys.{keyOf}
 use Rattle.keys.proofs.keys.Laws.{Below, byte-more}
 
 key-cons : (a : ℕ) (α : Exponents) → keyOf (a ∷ α) ≡ a + keyOf α * 256
@@ -57,7 +58,7 @@ key-high s at m n b =
     rw (bytes-split s at m n, key-append (bytesAt s at m) (bytesAt s (at + m) n), bytes-length s at m)
     (digits-div (keyOf (bytesAt s (at + m) n)) low)
 
-pub key-here : (s : List ℕ) (at n eight : ℕ) → Bytes s → n ≤ 8 → 8 ≤ at + n → eight ≡ keyOf (bytesAt s (at + n - 8) 8)
+pub key-here : (s : List ℕ) (at n eight : ℕ) → Bytes s → n ≤ mostVariables → 8 ≤ at + n → eight ≡ keyOf (bytesAt s (at + n - 8) 8)
     → eight / 2 ^ (64 - 8 * n) ≡ keyOf (bytesAt s at n)
 key-here s at n eight b h l e =
     let e₁ : 64 - 8 * n ≡ 8 * (8 - n) = omega arith in
@@ -75,7 +76,7 @@ pub from-start : (x : List ℕ) (n : ℕ) → 0 ≡ keyFrom x n n
 unfolding keyFrom keyOf
 from-start x n = rw (drop-of-length-le (take n x) {i = n} (omega (arith, length-take n x)))
 
-pub from-next : (x : List ℕ) (n i key a : ℕ) → key ≡ keyFrom x n i → 0 < i → i ≤ n → n ≤ 8 → length x ≡ 8
+pub from-next : (x : List ℕ) (n i key a : ℕ) → key ≡ keyFrom x n i → 0 < i → i ≤ n → n ≤ mostVariables → Places x
     → a ≡ getD x (i - 1) 0 → key * 256 + a ≡ keyFrom x n (i - 1)
 unfolding keyFrom
 from-next x n i key a e l h m le ea =
@@ -92,7 +93,7 @@ from-end p n i key e h en = let z : i ≡ 0 = omega arith in e ∙ rw z (ap keyO
 pub low-start : (n : ℕ) → 0 < 2 ^ (8 * (8 - n))
 low-start n = pow-pos (8 * (8 - n))
 
-module _ (n i key : ℕ) (k : key < 2 ^ (8 * (8 - i))) (l : 0 < i) (h : i ≤ n) (m : n ≤ 8) where
+module _ (n i key : ℕ) (k : key < 2 ^ (8 * (8 - i))) (l : 0 < i) (h : i ≤ n) (m : n ≤ mostVariables) where
   pub low-next : (a : ℕ) → a < 256 → key * 256 + a < 2 ^ (8 * (8 - (i - 1)))
   low-next a b = let e : 8 - (i - 1) ≡ suc (8 - i) = omega arith in rw (e, byte-more (8 - i)) (omega arith)
 

@@ -1,17 +1,23 @@
--- Laws of monomials over ℤ: at a point that keeps its sign never negative; at a midpoint the mean of those at its ends.
+-- Laws of monomials over ℤ: at a point that keeps its sign never negative, at a midpoint the mean of those at its ends; and
+-- what an answer up to the greatest value says.
 use mathlib.Core.Path.{_≡_, refl, sym, _∙_, ap}
-use mathlib.Core.Bool.{true}
+use mathlib.Core.Bool.{true, Bool, false, cond}
 use mathlib.Core.List.{List, [], _∷_}
-use Prim.Native.Nat.{ℕ, zero, suc, _+_, _/_, _%_}
+use Prim.Native.Nat.{ℕ, zero, suc, _+_, _/_, _%_, _≤_, _<_}
 use native.Mathlib.Nat.{zero-add, suc-add}
 use native.Mathlib.Omega.{arith}
-use lib.IntN.{ℤ, pos, _*ℤ_}
+use lib.IntN.{ℤ, pos, _*ℤ_, natAbs}
 use lib.ListN.{replicate}
 use lib.Signed.{_≤ℤ_}
+use lib.Dec.{leb}
+use borrow.Author.Tests.{leb-true, leb-false}
 use Rattle.integers.proofs.Integers.{one-*ℤ, *ℤ-assoc, *ℤ-swap, *ℤ-nonneg, pos-nonneg, square-nonneg}
+use Rattle.bounds.specs.Bounds.{greatestValue}
 use Rattle.points.specs.Points.{Exponents, hasMidpoint, midpointOf, keepsSign}
 use Rattle.points.proofs.points.Laws.{keeps-more, midpoint-none, midpoint-more, whole-more, whole-sized}
-use Rattle.monomials.specs.Powers.{powerOf, monomialOf}
+use Rattle.monomials.specs.Powers.{powerOf, monomialOf, Represents, within}
+use Rattle.monomials.specs.declared.powers.Bounded.{Bounded}
+use Rattle.monomials.specs.declared.powers.Bounded.the-variants.{Value, TooLarge}
 
 -- ---- powers
 
@@ -58,3 +64,19 @@ unfolding monomialOf powerOf
 monomial-constant x zero = refl
 monomial-constant [] (suc n) = refl
 monomial-constant (x ∷ xs) (suc n) = one-*ℤ (monomialOf xs (replicate n 0)) ∙ monomial-constant xs n
+
+-- ---- what an answer says
+
+-- the absolute value is either within the limit or over it
+pub by-size : (z : ℤ) (P : Bounded → Type 0) → (natAbs z ≤ greatestValue → P (Value z))
+    → (greatestValue < natAbs z → P TooLarge)
+    → P (within z)
+unfolding within
+by-size z P f g = go (leb (natAbs z) greatestValue) refl
+  where
+    go : (b : Bool) → leb (natAbs z) greatestValue ≡ b → P (cond b (Value z) TooLarge)
+    go true e = f (leb-true _ _ e)
+    go false e = g (leb-false _ _ e)
+
+pub within-represents : (z : ℤ) → Represents (within z) z
+within-represents z = by-size z (λ b. Represents b z) (λ h. (refl, h)) (λ h. h)

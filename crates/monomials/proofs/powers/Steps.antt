@@ -5,38 +5,23 @@ use mathlib.Core.List.{List, [], _∷_}
 use Prim.Native.Nat.{ℕ, zero, suc, _-_, _*_, _/_, _≤_, _<_, min}
 use native.Mathlib.Nat.{mul-le-mul-right, le-div-iff-mul-le, div-lt-iff-lt-mul}
 use native.Mathlib.Omega.{arith}
-use lib.Dec.{leb, eqb}
+use lib.Dec.{eqb}
 use lib.IntN.{ℤ, pos, natAbs, _*ℤ_, *ℤ-comm, *ℤ-zero, zero-*ℤ}
 use lib.ListN.{length, getD, take, drop, length-take}
 use lib.Seq.{drop-cons, drop-nil, getD-take}
+use borrow.Author.Tests.{le-leb, lt-leb, eqb-true, eqb-false, eq-eqb, ne-eqb}
 use mir.Syntax.{w64}
 use mir.Val.{SFits}
 use mir.Facts.{toZ-ofZ}
-use borrow.Author.Tests.{leb-true, leb-false, le-leb, lt-leb, eqb-true, eqb-false, eq-eqb, ne-eqb}
 use Rattle.integers.proofs.Integers.{back, abs-mul, abs-zero, fits-within}
 use Rattle.bounds.specs.Bounds.{mostVariables, greatestValue}
 use Rattle.points.specs.Points.{Exponents, exponents}
-use Rattle.monomials.specs.Powers.{powerOf, monomialOf, Represents, within, largeTimes, productOf}
 use Rattle.points.specs.declared.points.Point.{Point}
 use Rattle.points.proofs.points.Laws.{exponents-counted, Places}
+use Rattle.monomials.specs.Powers.{powerOf, monomialOf, Represents, within, largeTimes, productOf}
 use Rattle.monomials.specs.declared.powers.Bounded.{Bounded}
 use Rattle.monomials.specs.declared.powers.Bounded.the-variants.{Value, TooLarge}
-
--- ---- what an answer says
-
--- the absolute value is either within the limit or over it
-by-size : (z : ℤ) (P : Bounded → Type 0) → (natAbs z ≤ greatestValue → P (Value z))
-    → (greatestValue < natAbs z → P TooLarge)
-    → P (within z)
-unfolding within
-by-size z P f g = go (leb (natAbs z) greatestValue) refl
-  where
-    go : (b : Bool) → leb (natAbs z) greatestValue ≡ b → P (cond b (Value z) TooLarge)
-    go true e = f (leb-true _ _ e)
-    go false e = g (leb-false _ _ e)
-
-pub within-represents : (z : ℤ) → Represents (within z) z
-within-represents z = by-size z (λ b. Represents b z) (λ h. (refl, h)) (λ h. h)
+use Rattle.monomials.proofs.powers.Laws.{by-size}
 
 represents-within : (b : Bounded) (z : ℤ) → Represents b z → b ≡ within z
 unfolding within

@@ -13,8 +13,8 @@ use borrow.Author.Tests.{lt-ltb, le-ltb, ltb-true, ltb-false, le-leb, leb-true, 
 use Rattle.bounds.specs.Bounds.{mostVariables}
 use Rattle.points.specs.Lists.{table}
 use Rattle.points.specs.Points.{Exponents, exponents, pointOf, bytesAt, every, everyPair, samePoint, risesTo, evenSum, hasMidpoint, midpointOf, keepsSign, exponentsWithin}
-use Rattle.points.proofs.Lists.{table-length, table-get, table-split, table-same}
 use Rattle.points.specs.declared.points.Point.{Point}
+use Rattle.points.proofs.Lists.{table-length, table-get, table-split, table-same}
 
 -- ---- points by value
 

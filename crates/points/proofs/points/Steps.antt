@@ -14,10 +14,10 @@ use borrow.Author.Count.{below-more}
 use Rattle.bounds.specs.Bounds.{mostVariables}
 use Rattle.points.specs.Lists.{table}
 use Rattle.points.specs.Points.{evenSum, Exponents, exponents, pointOf, every, everyPair, risesTo, midpointOf, passes, keepsSign, exponentsWithin, samePoint, hasMidpoint}
-use Rattle.points.proofs.Lists.{table-length, table-get}
 use Rattle.points.specs.declared.points.Point.{Point}
 use Rattle.points.specs.declared.points.Test.{Test}
 use Rattle.points.specs.declared.points.Test.the-variants.{Equal, EvenSum, Even, Within}
+use Rattle.points.proofs.Lists.{table-length, table-get}
 use Rattle.points.proofs.points.Laws.{Places, midpoint-length}
 
 -- ---- points by value

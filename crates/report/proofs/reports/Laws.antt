@@ -6,12 +6,12 @@ use Prim.Native.Nat.{ℕ, zero, suc, _<_, _≤_}
 use native.Mathlib.Omega.{arith}
 use lib.ListN.{length}
 use borrow.Author.Tests.{le-leb}
+use Rattle.answers.specs.Answers.{Answer, accepted, blameless}
+use Rattle.answers.proofs.answers.Laws.{accepted-value, accepted-says, accepted-passes}
 use Rattle.sheets.specs.Layout.{ProofRoom}
 use Rattle.sheets.specs.ClaimSheet.{floorOf}
 use Rattle.sheets.specs.ProofSheet.{scaleOf, tripleOf}
 use Rattle.sheets.specs.declared.proof_sheet.Triple.{Triple}
-use Rattle.answers.specs.Answers.{Answer, accepted, blameless}
-use Rattle.answers.proofs.answers.Laws.{accepted-value, accepted-says, accepted-passes}
 use Rattle.text.specs.Lines.{acceptedLine}
 use Rattle.report.specs.Reports.{ended, linesOf, rowsText, shapeWith, firstText, acceptedText, refusedText, reportable, reportText}
 

@@ -9,28 +9,28 @@ use native.Mathlib.Omega.{arith}
 use lib.Dec.{leb}
 use lib.IntN.{ℤ}
 use lib.ListN.{length, length-append}
+use borrow.Author.Tests.{le-leb, lt-leb, leb-true}
 use mir.Syntax.{w32, w64}
 use mir.Val.{Fits}
-use borrow.Author.Tests.{le-leb, lt-leb, leb-true}
 use Rattle.integers.proofs.words.Laws.{Bytes}
-use Rattle.sheets.specs.Layout.{variables, proofLength, ProofRoom}
-use Rattle.sheets.specs.declared.layout.Shape.{Shape}
-use Rattle.sheets.specs.ClaimSheet.{floorOf}
-use Rattle.sheets.specs.ProofSheet.{scaleOf, tripleOf}
-use Rattle.sheets.specs.declared.proof_sheet.Triple.{Triple}
+use Rattle.bounds.specs.Bounds.{mostVariables, mostRows}
 use Rattle.answers.specs.Answers.{says}
 use Rattle.answers.specs.declared.answers.Sheet.{Sheet}
 use Rattle.answers.specs.declared.answers.Verdict.{Verdict}
 use Rattle.answers.specs.declared.answers.Verdict.the-variants.{Accepted, Refused}
+use Rattle.answers.proofs.answers.Laws.{failed, passed, accepted-value}
+use Rattle.sheets.specs.Layout.{variables, proofLength, ProofRoom}
+use Rattle.sheets.specs.ClaimSheet.{floorOf}
+use Rattle.sheets.specs.ProofSheet.{scaleOf, tripleOf}
+use Rattle.sheets.specs.declared.layout.Shape.{Shape}
+use Rattle.sheets.specs.declared.proof_sheet.Triple.{Triple}
 use Rattle.sheets.proofs.claim_sheet.Laws.{floor-fits}
 use Rattle.sheets.proofs.proof_sheet.Laws.{scale-bound, triple-narrow}
-use Rattle.answers.proofs.answers.Laws.{failed, passed, accepted-value}
 use Rattle.text.specs.Text.{Room, Written}
 use Rattle.text.specs.Lines.{acceptedLine, rowLine}
-use Rattle.report.specs.Reports.{ended, linesOf, rowText, rowsText, shapeWith, firstText, acceptedText, refusedText, reportable, reportText}
 use Rattle.text.proofs.text.Laws.{room-first, room-then, written-then}
 use Rattle.text.proofs.lines.Laws.{accepted-short, line-short, refusal-short}
-use Rattle.bounds.specs.Bounds.{mostVariables, mostRows}
+use Rattle.report.specs.Reports.{ended, linesOf, rowText, rowsText, shapeWith, firstText, acceptedText, refusedText, reportable, reportText}
 
 -- ---- how long they are: numbers of 32 bits, and no more rows than a proof can have
 

@@ -2,12 +2,25 @@
 -- points; and a proof whose weights add up stays as it is.
 use mathlib.Core.Path.{_≡_, refl, sym, _∙_, ap₂}
 use mathlib.Core.List.{List, _++_, append-nil, append-assoc}
+use mathlib.Core.Bool.{Bool, true, false}
 use Prim.Native.Nat.{ℕ, _<_}
+use lib.IntN.{ℤ, pos}
+use lib.ListN.{length}
 use Rattle.points.specs.Points.{Exponents, samePoint, midpointOf}
+use Rattle.points.specs.Lists.{table, All}
+use Rattle.points.proofs.Lists.{all-table, table-all, table-same}
+use Rattle.points.proofs.points.Laws.{midpoint-sized}
 use Rattle.keys.specs.Keys.{keyOf}
+use Rattle.squares.specs.Sums.{Sum, coefficient}
+use Rattle.squares.specs.Rows.{Row, slotsAt, slotsOf, slots}
+use Rattle.squares.specs.Decomposition.{Placed, Whole, AddsUp}
+use Rattle.squares.specs.declared.rows.Weights.{Weights}
+use Rattle.squares.specs.declared.rows.Weights.the-variants.{Pair, Lone}
+use Rattle.squares.proofs.rows.Laws.{slots-pair, slots-lone}
 use Rattle.sheets.specs.Layout.{variables, rowCount, shapeOf}
 use Rattle.sheets.specs.ProofSheet.{vOf, wOf, rowOf, rowsOf, Suits}
 use Rattle.sheets.specs.declared.layout.Shape.{Shape}
+use Rattle.sheets.proofs.proof_sheet.Laws.{row-placed, row-lone, row-pair, row-v, row-w, v-length, w-length, rows-table}
 use Rattle.checks.specs.ProofChecks.{ProofFacts}
 use Rattle.checks.specs.Input.{WellFormed}
 use Rattle.checks.proofs.input.Laws.{claim-formed, same-formed, proof-formed}
@@ -16,19 +29,6 @@ use Rattle.targets.specs.Carried.{Carried}
 use Rattle.targets.specs.declared.targets.Aim.{Aim}
 use Rattle.targets.proofs.targets.Laws.{aim-within}
 use Rattle.sharing.specs.Shifts.{CheckedSheets, shiftedWeights, shiftRow, slotsBefore, shiftedRow, shiftedRows}
-use mathlib.Core.Bool.{Bool, true, false}
-use lib.IntN.{ℤ, pos}
-use lib.ListN.{length}
-use Rattle.points.specs.Lists.{table, All}
-use Rattle.points.proofs.Lists.{all-table, table-all, table-same}
-use Rattle.points.proofs.points.Laws.{midpoint-sized}
-use Rattle.squares.specs.Sums.{Sum, coefficient}
-use Rattle.squares.specs.Rows.{Row, slotsAt, slotsOf, slots}
-use Rattle.squares.specs.Decomposition.{Placed, Whole, AddsUp}
-use Rattle.squares.specs.declared.rows.Weights.{Weights}
-use Rattle.squares.specs.declared.rows.Weights.the-variants.{Pair, Lone}
-use Rattle.squares.proofs.rows.Laws.{slots-pair, slots-lone}
-use Rattle.sheets.proofs.proof_sheet.Laws.{row-placed, row-lone, row-pair, row-v, row-w, v-length, w-length, rows-table}
 use Rattle.sharing.specs.Sharing.{count, shiftedWeight, shiftedFrom, shiftedSlots, rankOf}
 use Rattle.sharing.specs.Slots.{slotsTo}
 use Rattle.sharing.proofs.Sharing.{count-append, from-nil, from-cons, shifted-adds, shifted-unheld, weight-stays, gathered-shifted}

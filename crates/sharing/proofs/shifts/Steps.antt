@@ -2,29 +2,29 @@
 -- machine reads it back.
 use mathlib.Core.Path.{_≡_, refl, sym, _∙_, ap}
 use mathlib.Core.Bool.{Bool, true, false, true≢false}
-use borrow.Author.Tests.{eq-eqb}
 use mathlib.Core.List.{List, [], _∷_}
 use Prim.Native.Nat.{ℕ, _+_, _*_, _^_, _<_, _≤_}
 use native.Mathlib.Omega.{arith}
 use lib.Dec.{lit<}
 use lib.IntN.{ℤ, negℤ, natAbs, _+ℤ_, _-ℤ_}
+use borrow.Author.Tests.{eq-eqb}
 use mir.Syntax.{w64}
 use mir.Val.{SFits}
 use mir.Facts.{toZ-ofZ}
 use Rattle.integers.specs.Division.{share}
 use Rattle.integers.proofs.Integers.{back, abs-add, abs-neg, fits-within}
 use Rattle.integers.proofs.division.Laws.{share-abs}
+use Rattle.bounds.specs.Bounds.{greatestWeight}
 use Rattle.points.specs.Points.{Exponents, exponents, pointOf, samePoint, midpointOf}
-use Rattle.keys.specs.Keys.{keyOf}
 use Rattle.points.specs.declared.points.Point.{Point}
 use Rattle.points.proofs.points.Laws.{exponents-of, same-eq, same-refl, apart-sym}
+use Rattle.keys.specs.Keys.{keyOf}
 use Rattle.keys.proofs.keys.Laws.{key-midpoint}
 use Rattle.squares.specs.Sums.{Sum, coefficient}
 use Rattle.squares.specs.Rows.{slotsOf, slots}
 use Rattle.squares.specs.declared.rows.Weights.{Weights}
 use Rattle.squares.specs.declared.rows.Weights.the-variants.{Pair, Lone}
 use Rattle.squares.proofs.rows.Laws.{slots-pair, slots-lone}
-use Rattle.bounds.specs.Bounds.{greatestWeight}
 use Rattle.sheets.specs.Layout.{variables, rowCount, shapeOf, ProofRoom}
 use Rattle.sheets.specs.ProofSheet.{vOf, wOf, tripleOf, rowOf, rowsOf, byValue}
 use Rattle.sheets.specs.declared.layout.Shape.{Shape}
@@ -75,6 +75,9 @@ module _ (z z′ : ℤ) (h : Holding) (ha : natAbs z ≤ 2 ^ 51) (hs : natAbs (h
 -- ---- shifted: sh is what the proof sheet says
 
 module _ (c s : List ℕ) (a : Aim) (given : CheckedSheets c s a) (sh : Shape) (e : sh ≡ shapeOf s) where
+  facts : ProofFacts s sh
+  facts = proof-checked c s a given sh e
+
   carried-here : (α : Exponents) → Carried (variables c) α → Carried (sh .n) α
   carried-here α h = rw (e, given .same) h
 
@@ -83,7 +86,7 @@ module _ (c s : List ℕ) (a : Aim) (given : CheckedSheets c s a) (sh : Shape) (
 
   module _ (α : Exponents) (carried : Carried (variables c) α) (key : ℕ) (ek : key ≡ keyOf α) where
     pub key-here : key < 2 ^ 63
-    key-here = key-bound s sh (proof-checked c s a given sh e) key α (carried-here α carried) ek
+    key-here = key-bound s sh facts key α (carried-here α carried) ek
 
     module _ (i own : ℕ) (l : i < rowCount s) (ranked : count α (slotsBefore s i) + own < count α (slots (rowsOf s)))
       where
@@ -96,23 +99,19 @@ module _ (c s : List ℕ) (a : Aim) (given : CheckedSheets c s a) (sh : Shape) (
             }
         unfolding slotsBefore
         holding =
-            held-at s sh (proof-checked c s a given sh e) key α (carried-here α carried) ek i own
-            (omega (arith, row-here i l))
+            held-at s sh facts key α (carried-here α carried) ek i own (omega (arith, row-here i l))
             ∙ rw (all-slots s sh e, e)
 
         pub own-small : own < 65536
         unfolding holdingOf
         own-small =
             let all = ap (λ (h : Holding). h .count) holding in
-            omega (arith, ranked, all, tally-small s sh (proof-checked c s a given sh e) key (sh .k) (omega arith) .1)
+            omega (arith, ranked, all, tally-small s sh facts key (sh .k) (omega arith) .1)
 
         module _ (h : Holding) (eh : h ≡ holdingOf key (slotsTo s sh (sh .k)) (slotsTo s sh i) own) where
           pub held-small : natAbs (h .sum) ≤ 2 ^ 42
           unfolding holdingOf
-          held-small = rw eh (omega (
-            arith,
-            tally-small s sh (proof-checked c s a given sh e) key (sh .k) (omega arith) .0,
-          ))
+          held-small = rw eh (omega (arith, tally-small s sh facts key (sh .k) (omega arith) .0))
 
           pub held-some : 0 < h .count
           held-some = rw (eh, holding) (omega (arith, ranked))

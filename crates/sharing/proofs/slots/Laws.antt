@@ -10,19 +10,19 @@ use lib.IntN.{ℤ, pos, natAbs, _+ℤ_, +ℤ-idl, +ℤ-idr, +ℤ-assoc}
 use lib.ListN.{length, length-append}
 use borrow.Author.Tests.{ltb-true, ltb-false}
 use Rattle.integers.proofs.Integers.{abs-add}
-use Rattle.points.specs.Lists.{table, All}
-use Rattle.points.specs.Points.{Exponents, samePoint, midpointOf}
-use Rattle.keys.specs.Keys.{keyOf}
-use Rattle.points.proofs.Lists.{all-append}
-use Rattle.points.proofs.points.Laws.{midpoint-sized, midpoint-within}
-use Rattle.squares.specs.Sums.{Sum, coefficient}
-use Rattle.squares.specs.Rows.{slotsOf, slots}
-use Rattle.squares.proofs.Sums.{coefficient-nil, coefficient-cons, gathered-none, gathered-more}
-use Rattle.squares.proofs.rows.Laws.{slots-pair, slots-lone}
 use Rattle.bounds.specs.Bounds.{greatestExponent, greatestWeight}
 use Rattle.answers.specs.Searches.{first}
 use Rattle.answers.specs.declared.searches.Found.the-variants.{Nothing}
 use Rattle.answers.proofs.searches.Laws.{none-wrong}
+use Rattle.points.specs.Lists.{table, All}
+use Rattle.points.specs.Points.{Exponents, samePoint, midpointOf}
+use Rattle.points.proofs.Lists.{all-append}
+use Rattle.points.proofs.points.Laws.{midpoint-sized, midpoint-within}
+use Rattle.keys.specs.Keys.{keyOf}
+use Rattle.squares.specs.Sums.{Sum, coefficient}
+use Rattle.squares.specs.Rows.{slotsOf, slots}
+use Rattle.squares.proofs.Sums.{coefficient-nil, coefficient-cons, gathered-none, gathered-more}
+use Rattle.squares.proofs.rows.Laws.{slots-pair, slots-lone}
 use Rattle.sheets.specs.Layout.{shapeOf}
 use Rattle.sheets.specs.ProofSheet.{vOf, wOf, tripleOf, rowOf, rowsOf}
 use Rattle.sheets.specs.declared.layout.Shape.{Shape}

@@ -15,14 +15,14 @@ use mir.Val.{SFits, Fits}
 use mir.Facts.{toZ-ofZ}
 use Rattle.integers.specs.Words.{i32At}
 use Rattle.integers.proofs.Integers.{back, abs-add, fits-within}
+use Rattle.bounds.specs.Bounds.{greatestWeight, mostVariables}
 use Rattle.points.specs.Points.{Exponents, samePoint, midpointOf}
-use Rattle.keys.specs.Keys.{keyOf}
 use Rattle.points.proofs.points.Laws.{same-eq}
+use Rattle.keys.specs.Keys.{keyOf}
 use Rattle.keys.proofs.keys.Laws.{key-midpoint}
 use Rattle.squares.specs.Sums.{Sum}
 use Rattle.squares.specs.Rows.{slotsOf}
 use Rattle.squares.proofs.rows.Laws.{slots-pair, slots-lone}
-use Rattle.bounds.specs.Bounds.{greatestWeight, mostVariables}
 use Rattle.sheets.specs.Layout.{tripleAt}
 use Rattle.sheets.specs.ProofSheet.{vOf, wOf, tripleOf, rowOf}
 use Rattle.sheets.specs.declared.layout.Shape.{Shape}

@@ -6,10 +6,10 @@ use lib.ListN.{length}
 use mir.Syntax.{w32}
 use mir.Val.{SFits}
 use Rattle.integers.proofs.words.Laws.{Bytes, i32-fits}
-use Rattle.squares.specs.Decomposition.{Sized}
-use Rattle.points.proofs.Lists.{all-table}
 use Rattle.points.specs.Lists.{table}
+use Rattle.points.proofs.Lists.{all-table}
 use Rattle.points.proofs.points.Laws.{bytes-length}
+use Rattle.squares.specs.Decomposition.{Sized}
 use Rattle.sheets.specs.Layout.{variables, termCount, pointAt}
 use Rattle.sheets.specs.ClaimSheet.{floorOf, termPoint, coefficientOf, termOf, termsOf}
 

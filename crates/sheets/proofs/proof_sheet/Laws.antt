@@ -9,20 +9,20 @@ use lib.IntN.{ℤ, pos}
 use lib.ListN.{length, getD}
 use Rattle.integers.specs.Words.{i32At}
 use Rattle.integers.proofs.words.Laws.{Bytes, same-bits, u32-bound, i32-fits}
-use Rattle.points.proofs.points.Laws.{bytes-length, bytes-same}
+use Rattle.integers.proofs.Tests.{never}
 use Rattle.points.specs.Lists.{table}
-use Rattle.squares.specs.Rows as Formal
 use Rattle.points.specs.Points.{pointOf, samePoint, hasMidpoint}
-use Rattle.squares.specs.Decomposition.{Placed, Whole}
 use Rattle.points.specs.declared.points.Point.{Point}
+use Rattle.points.proofs.points.Laws.{bytes-length, bytes-same}
+use Rattle.squares.specs.Rows as Formal
+use Rattle.squares.specs.Decomposition.{Placed, Whole}
 use Rattle.squares.specs.declared.rows.Weights.{Weights}
 use Rattle.squares.specs.declared.rows.Weights.the-variants.{Pair, Lone}
 use Rattle.sheets.specs.Layout.{shapeOf, place, vAt, wAt, tripleAt, ProofRoom}
-use Rattle.sheets.specs.declared.layout.Shape.{Shape}
 use Rattle.sheets.specs.ProofSheet.{scaleOf, vOf, wOf, wordsAt, tripleOf, weightsOf, rowOf, rowsOf, byValue, tripleFor, Suits, Narrow}
+use Rattle.sheets.specs.declared.layout.Shape.{Shape}
 use Rattle.sheets.specs.declared.proof_sheet.Row.{Row}
 use Rattle.sheets.specs.declared.proof_sheet.Triple.{Triple}
-use Rattle.integers.proofs.Tests.{never}
 
 pub triple-inside : (s : List ℕ) (sh : Shape) (i at : ℕ) → ProofRoom s sh → i < sh .k → at ≡ tripleAt sh i
     → at + 12 ≤ length s

@@ -8,17 +8,17 @@ use native.Mathlib.Omega.{arith}
 use lib.IntN.{ℤ}
 use lib.ListN.{length}
 use Rattle.integers.specs.Words.{i32At}
-use Rattle.points.proofs.points.Laws.{exponents-of}
-use Rattle.squares.specs.Rows as Formal
+use Rattle.bounds.specs.Bounds.{mostVariables, mostRows}
 use Rattle.points.specs.Points.{exponents, pointOf, samePoint}
 use Rattle.points.specs.declared.points.Point.{Point}
+use Rattle.points.proofs.points.Laws.{exponents-of}
+use Rattle.squares.specs.Rows as Formal
 use Rattle.squares.specs.declared.rows.Weights.{Weights}
 use Rattle.squares.specs.declared.rows.Weights.the-variants.{Pair, Lone}
 use Rattle.sheets.specs.Layout.{variables, rowCount, shapeOf, place, vAt, tripleAt, ProofRoom}
-use Rattle.sheets.specs.declared.layout.Shape.{Shape}
 use Rattle.sheets.specs.ProofSheet.{vOf, wOf, wordsAt, tripleOf, weightsOf, rowOf, byValue}
+use Rattle.sheets.specs.declared.layout.Shape.{Shape}
 use Rattle.sheets.specs.declared.proof_sheet.Triple.{Triple}
-use Rattle.bounds.specs.Bounds.{mostVariables, mostRows}
 
 -- ---- fields read
 

@@ -3,14 +3,14 @@ use mathlib.Core.Path.{_≡_, refl}
 use mathlib.Core.List.{List}
 use Prim.Native.Nat.{ℕ, _≤_}
 use lib.IntN.{natAbs}
+use Rattle.bounds.specs.Bounds.{greatestWeight, greatestScale}
 use Rattle.points.specs.Points.{Exponents}
 use Rattle.squares.specs.Targets.{lowered, target}
-use Rattle.bounds.specs.Bounds.{greatestWeight, greatestScale}
 use Rattle.sheets.specs.Layout.{variables}
 use Rattle.sheets.specs.ClaimSheet.{floorOf, termsOf}
 use Rattle.sheets.specs.ProofSheet.{scaleOf}
-use Rattle.targets.specs.declared.targets.Aim.{Aim}
 use Rattle.targets.specs.Targets.{AimWithin, aimOf, targetOf}
+use Rattle.targets.specs.declared.targets.Aim.{Aim}
 
 -- ---- the aim of checked sheets
 

@@ -16,31 +16,31 @@ use mir.Syntax.{w64}
 use mir.Val.{SFits, toZ}
 use mir.Facts.{toZ-pos, toZ-ofZ}
 use Rattle.integers.proofs.Integers.{back, abs-add, abs-neg, abs-mul, fits-within, ltZ-true, ltZ-false}
-use Rattle.points.specs.Lists.{table}
-use Rattle.points.specs.Points.{Exponents, exponents, samePoint, keepsSign}
-use Rattle.keys.specs.Keys.{keyOf}
-use Rattle.squares.specs.Sums.{Sum, coefficient}
-use Rattle.squares.specs.Targets.{lowered, worst}
-use Rattle.points.specs.declared.points.Point.{Point}
-use Rattle.squares.proofs.Targets.{worst-kept, worst-negative, worst-positive, target-is, lowered-constant, lowered-other}
-use Rattle.points.proofs.Lists.{table-none, table-more}
-use Rattle.squares.proofs.Sums.{coefficient-nil, coefficient-cons, coefficient-append}
-use Rattle.points.proofs.points.Laws.{same-eq, same-refl, apart-sym}
-use Rattle.keys.proofs.keys.Laws.{key-zeros}
 use Rattle.bounds.specs.Bounds.{greatestWeight, greatestScale}
-use Rattle.sheets.specs.Layout.{variables, termCount, ClaimRoom}
 use Rattle.answers.specs.Searches.{first}
-use Rattle.sheets.specs.ClaimSheet.{floorOf, termPoint, coefficientOf, termOf, termsOf}
-use Rattle.sheets.specs.ProofSheet.{scaleOf}
-use Rattle.claims.specs.ClaimChecks.{ClaimFacts}
 use Rattle.answers.specs.declared.searches.Found.{Found}
 use Rattle.answers.specs.declared.searches.Found.the-variants.{At, Nothing}
 use Rattle.answers.proofs.searches.Laws.{first-start, first-here, first-stays, first-next, first-inside, first-stop, all-right}
+use Rattle.points.specs.Lists.{table}
+use Rattle.points.specs.Points.{Exponents, exponents, samePoint, keepsSign}
+use Rattle.points.specs.declared.points.Point.{Point}
+use Rattle.points.proofs.Lists.{table-none, table-more}
+use Rattle.points.proofs.points.Laws.{same-eq, same-refl, apart-sym}
+use Rattle.keys.specs.Keys.{keyOf}
+use Rattle.keys.proofs.keys.Laws.{key-zeros}
+use Rattle.squares.specs.Sums.{Sum, coefficient}
+use Rattle.squares.specs.Targets.{lowered, worst}
+use Rattle.squares.proofs.Targets.{worst-kept, worst-negative, worst-positive, target-is, lowered-constant, lowered-other}
+use Rattle.squares.proofs.Sums.{coefficient-nil, coefficient-cons, coefficient-append}
+use Rattle.sheets.specs.Layout.{variables, termCount, ClaimRoom}
+use Rattle.sheets.specs.ClaimSheet.{floorOf, termPoint, coefficientOf, termOf, termsOf}
+use Rattle.sheets.specs.ProofSheet.{scaleOf}
 use Rattle.sheets.proofs.claim_sheet.Laws.{terms-table, term-point, term-coefficient}
+use Rattle.claims.specs.ClaimChecks.{ClaimFacts}
 use Rattle.claims.proofs.claim_checks.Laws.{points-differ}
-use Rattle.targets.specs.declared.targets.Aim.{Aim}
 use Rattle.targets.specs.Targets.{AimWithin, Targeted, aimOf, targetOf, hasKey, loweredBy, foundAt, coefficientWith, targetWith}
 use Rattle.targets.specs.Carried.{Carried}
+use Rattle.targets.specs.declared.targets.Aim.{Aim}
 use Rattle.targets.proofs.Carried.{term-carried, constant-carried, carried-same}
 
 -- ---- lowered_by: x is a coefficient

@@ -8,6 +8,7 @@ use lib.IntN.{ℤ}
 use lib.ListN.{length}
 use Rattle.integers.proofs.Integers.{fits-within}
 use Rattle.integers.proofs.words.Laws.{Bytes}
+use Rattle.bounds.specs.Bounds.{greatestWeight}
 use Rattle.points.specs.Points.{Exponents}
 use Rattle.squares.specs.Rows as Formal
 use Rattle.squares.specs.Rows.{slots}
@@ -16,13 +17,12 @@ use Rattle.sheets.specs.Layout.{variables, rowCount, shapeOf, proofLength}
 use Rattle.sheets.specs.ProofSheet.{scaleOf, tripleOf, rowOf, rowsOf, tripleFor, Narrow}
 use Rattle.sheets.specs.declared.proof_sheet.Triple.{Triple}
 use Rattle.writing.proofs.writing.Laws.{all-length, all-before, all-scale, all-read, sheet-read, row-again, sheet-again}
-use Rattle.bounds.specs.Bounds.{greatestWeight}
 use Rattle.checks.specs.ProofChecks.{Within, ProofFacts}
 use Rattle.targets.specs.Targets.{targetOf}
 use Rattle.targets.specs.declared.targets.Aim.{Aim}
 use Rattle.sharing.specs.Shifts.{shiftedRows, CheckedSheets}
-use Rattle.weighing.specs.Exact.{weightsFor, exactProof, AllWithin}
 use Rattle.sharing.proofs.shifts.Laws.{keeps-kind, rows-are, row-stays}
+use Rattle.weighing.specs.Exact.{weightsFor, exactProof, AllWithin}
 
 pub within-narrow : (x : Triple) → Within greatestWeight x → Narrow x
 within-narrow x w = record {

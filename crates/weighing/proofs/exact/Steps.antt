@@ -5,6 +5,7 @@ use Prim.Native.Nat.{ℕ, _+_, _≤_, _<_}
 use native.Mathlib.Omega.{arith}
 use lib.ListN.{length, take, drop, length-append}
 use lib.Seq.{take-length}
+use Rattle.bounds.specs.Bounds.{greatestWeight}
 use Rattle.squares.specs.Rows as Formal
 use Rattle.squares.specs.declared.rows.Weights.{Weights}
 use Rattle.sheets.specs.Layout.{rowCount, shapeOf, ProofRoom}
@@ -14,7 +15,6 @@ use Rattle.sheets.specs.declared.proof_sheet.Row.{Row}
 use Rattle.sheets.proofs.proof_sheet.Laws.{value-weights}
 use Rattle.writing.specs.Writing.{withWeights, withRows}
 use Rattle.writing.proofs.writing.Laws.{all-none, all-more, all-length, all-append}
-use Rattle.bounds.specs.Bounds.{greatestWeight}
 use Rattle.checks.specs.ProofChecks.{ProofFacts}
 use Rattle.targets.specs.Targets.{targetOf}
 use Rattle.targets.specs.declared.targets.Aim.{Aim}

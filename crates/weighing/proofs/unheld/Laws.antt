@@ -11,30 +11,30 @@ use lib.ListN.{length, replicate, length-replicate}
 use borrow.Author.Tests.{eq-eqb, ne-eqb, lt-ltb, le-ltb, eqb-true}
 use Rattle.integers.proofs.Integers.{abs-zero}
 use Rattle.integers.proofs.words.Laws.{Bytes}
-use Rattle.points.specs.Lists.{All}
-use Rattle.points.specs.Points.{Exponents, samePoint}
-use Rattle.squares.specs.Sums.{coefficient}
-use Rattle.squares.specs.Rows.{slots}
-use Rattle.points.proofs.points.Laws.{same-eq}
-use Rattle.points.proofs.Lists.{all-table}
-use Rattle.squares.proofs.Sums.{coefficient-none}
-use Rattle.squares.proofs.Targets.{target-zero, lowered-other}
-use Rattle.sheets.specs.Layout.{variables, termCount}
-use Rattle.sheets.specs.ClaimSheet.{termPoint, termOf, termsOf}
-use Rattle.sheets.proofs.claim_sheet.Laws.{terms-table, term-point, point-length}
-use Rattle.sheets.specs.ProofSheet.{rowsOf}
 use Rattle.answers.specs.Answers.{Passes, Short}
 use Rattle.answers.specs.declared.searches.Found.the-variants.{Nothing}
 use Rattle.answers.specs.declared.answers.Verdict.the-variants.{Accepted}
 use Rattle.answers.proofs.answers.Laws.{passes-at, passed-at, accepted-says, passed, short-accepted, short-at}
 use Rattle.answers.proofs.searches.Laws.{none-wrong, all-right}
-use Rattle.sharing.specs.Sharing.{count}
+use Rattle.points.specs.Lists.{All}
+use Rattle.points.specs.Points.{Exponents, samePoint}
+use Rattle.points.proofs.points.Laws.{same-eq}
+use Rattle.points.proofs.Lists.{all-table}
+use Rattle.squares.specs.Sums.{coefficient}
+use Rattle.squares.specs.Rows.{slots}
+use Rattle.squares.proofs.Sums.{coefficient-none}
+use Rattle.squares.proofs.Targets.{target-zero, lowered-other}
+use Rattle.sheets.specs.Layout.{variables, termCount}
+use Rattle.sheets.specs.ClaimSheet.{termPoint, termOf, termsOf}
+use Rattle.sheets.specs.ProofSheet.{rowsOf}
+use Rattle.sheets.proofs.claim_sheet.Laws.{terms-table, term-point, point-length}
 use Rattle.targets.specs.Targets.{targetOf}
 use Rattle.targets.specs.declared.targets.Aim.{Aim}
-use Rattle.sharing.specs.Shifts.{shiftedRows}
 use Rattle.targets.proofs.targets.Laws.{target-of}
-use Rattle.weighing.specs.Unheld.{pointFor, unheldAt, unheld, unheldAnswer}
+use Rattle.sharing.specs.Sharing.{count}
+use Rattle.sharing.specs.Shifts.{shiftedRows}
 use Rattle.sharing.proofs.shifts.Laws.{held-adds, unheld-adds}
+use Rattle.weighing.specs.Unheld.{pointFor, unheldAt, unheld, unheldAnswer}
 
 -- ---- point_for
 

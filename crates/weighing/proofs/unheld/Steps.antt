@@ -8,27 +8,28 @@ use lib.Dec.{eqb, ltb}
 use lib.IntN.{ℤ, natAbs}
 use lib.ListN.{replicate}
 use borrow.Author.Tests.{eq-eqb, lt-ltb, le-ltb, ltb-true}
-use Rattle.points.specs.Points.{Exponents, exponents, pointOf}
-use Rattle.keys.specs.Keys.{keyOf}
-use Rattle.squares.specs.Rows.{slots}
-use Rattle.points.specs.declared.points.Point.{Point}
-use Rattle.points.proofs.points.Laws.{exponents-of, zeros-point}
-use Rattle.sheets.specs.Layout.{variables, termCount, shapeOf}
-use Rattle.sheets.specs.declared.layout.Shape.{Shape}
-use Rattle.sheets.specs.ClaimSheet.{termPoint}
-use Rattle.sheets.specs.ProofSheet.{rowsOf}
+use Rattle.bounds.specs.Bounds.{mostVariables}
 use Rattle.answers.specs.Searches.{first}
-use Rattle.claims.specs.ClaimChecks.{ClaimFacts}
-use Rattle.checks.specs.ProofChecks.{ProofFacts}
 use Rattle.answers.specs.declared.searches.Found.the-variants.{At, Nothing}
 use Rattle.answers.proofs.searches.Laws.{first-stop, first-next, first-end}
+use Rattle.points.specs.Points.{Exponents, exponents, pointOf}
+use Rattle.points.specs.declared.points.Point.{Point}
+use Rattle.points.proofs.points.Laws.{exponents-of, zeros-point}
+use Rattle.keys.specs.Keys.{keyOf}
+use Rattle.squares.specs.Rows.{slots}
+use Rattle.sheets.specs.Layout.{variables, termCount, shapeOf}
+use Rattle.sheets.specs.ClaimSheet.{termPoint}
+use Rattle.sheets.specs.ProofSheet.{rowsOf}
+use Rattle.sheets.specs.declared.layout.Shape.{Shape}
+use Rattle.claims.specs.ClaimChecks.{ClaimFacts}
+use Rattle.checks.specs.ProofChecks.{ProofFacts}
 use Rattle.targets.specs.Carried.{Carried, CarriedKey}
-use Rattle.sharing.specs.Sharing.{count}
 use Rattle.targets.specs.Targets.{targetOf, Targeted}
 use Rattle.targets.specs.declared.targets.Aim.{Aim}
+use Rattle.targets.proofs.Carried.{term-carried, constant-carried}
+use Rattle.sharing.specs.Sharing.{count}
 use Rattle.sharing.specs.Slots.{slotsTo, HoldsKey, holdsPoint}
 use Rattle.sharing.specs.Shifts.{CheckedSheets}
-use Rattle.targets.proofs.Carried.{term-carried, constant-carried}
 use Rattle.sharing.proofs.slots.Laws.{point-held, point-unheld, all-slots}
 use Rattle.sharing.proofs.shifts.Laws.{proof-checked, targeted}
 use Rattle.weighing.specs.Unheld.{pointFor, unheldAt, unheld}
@@ -41,7 +42,8 @@ module _ (c : List ℕ) (n t i : ℕ) where
   unfolding pointFor
   point-term r er l = er ∙ rw (lt-ltb i t l)
 
-  pub point-constant : n ≤ 8 → t ≤ i → record { exps = replicate 8 0; n = n } ≡ pointOf (pointFor c n t i)
+  pub point-constant : n ≤ mostVariables → t ≤ i
+      → record { exps = replicate mostVariables 0; n = n } ≡ pointOf (pointFor c n t i)
   unfolding pointFor
   point-constant h l = rw (le-ltb i t l) (zeros-point n h)
 

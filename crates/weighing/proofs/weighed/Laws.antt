@@ -4,25 +4,25 @@ use mathlib.Core.List.{List}
 use Prim.Native.Nat.{ℕ, _<_}
 use lib.IntN.{ℤ}
 use Rattle.integers.proofs.words.Laws.{Bytes}
+use Rattle.bounds.specs.Bounds.{greatestWeight}
+use Rattle.answers.specs.Answers.{accepted, Passes, Short}
+use Rattle.answers.proofs.answers.Laws.{passes-then, then-on, short-then}
 use Rattle.points.specs.Lists.{All}
 use Rattle.points.specs.Points.{Exponents}
 use Rattle.squares.specs.Rows.{slots, Holds}
 use Rattle.squares.specs.Decomposition.{AddsUp}
 use Rattle.sheets.specs.Layout.{variables, rowCount}
 use Rattle.sheets.specs.ProofSheet.{tripleFor}
-use Rattle.answers.specs.Answers.{accepted, Passes, Short}
-use Rattle.bounds.specs.Bounds.{greatestWeight}
-use Rattle.answers.proofs.answers.Laws.{passes-then, then-on, short-then}
 use Rattle.checks.specs.ProofChecks.{Within}
 use Rattle.checks.proofs.proof_checks.Laws.{rows-counted}
 use Rattle.targets.specs.Targets.{targetOf}
 use Rattle.targets.specs.declared.targets.Aim.{Aim}
 use Rattle.sharing.specs.Shifts.{shiftedRow, shiftedRows}
+use Rattle.sharing.proofs.shifts.Laws.{rows-all, rows-each}
 use Rattle.judgements.proofs.judgements.Laws.{judged-passed, judged-accepted, judged-short}
 use Rattle.weighing.specs.Exact.{weightsFor, AllWithin}
 use Rattle.weighing.specs.Weighed.{weighedAnswer}
 use Rattle.weighing.proofs.unheld.Laws.{unheld-passes, unheld-passed, met-adds, adds-met, unheld-short}
-use Rattle.sharing.proofs.shifts.Laws.{rows-all, rows-each}
 
 -- ---- 16 to 19 are passed exactly where the weights are within the limit, every row holds, and they add up
 

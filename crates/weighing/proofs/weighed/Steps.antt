@@ -3,10 +3,8 @@ use mathlib.Core.Path.{_≡_, refl}
 use mathlib.Core.List.{List}
 use Prim.Native.Nat.{ℕ, suc}
 use lib.IntN.{ℤ}
-use Rattle.points.specs.Points.{Exponents}
-use Rattle.sheets.specs.Layout.{termCount, rowCount}
-use Rattle.answers.specs.Answers.{says}
 use Rattle.bounds.specs.Bounds.{greatestWeight}
+use Rattle.answers.specs.Answers.{says}
 use Rattle.answers.specs.Searches.{first}
 use Rattle.answers.specs.declared.answers.Sheet.the-variants.{Proof}
 use Rattle.answers.specs.declared.answers.Verdict.{Verdict}
@@ -14,6 +12,8 @@ use Rattle.answers.specs.declared.answers.Verdict.the-variants.{Accepted, Refus
 use Rattle.answers.specs.declared.searches.Found.{Found}
 use Rattle.answers.specs.declared.searches.Found.the-variants.{At, Nothing}
 use Rattle.answers.proofs.answers.Laws.{refused-at, passed-at, accepted-says, refused-says, then-refused, then-passed}
+use Rattle.points.specs.Points.{Exponents}
+use Rattle.sheets.specs.Layout.{termCount, rowCount}
 use Rattle.sharing.specs.Shifts.{shiftedRow}
 use Rattle.judgements.specs.Judgements.{firstsTo, judgedAnswer}
 use Rattle.weighing.specs.Unheld.{unheld, unheldAnswer}

@@ -1,5 +1,5 @@
-use Rattle.answers.specs.Answers.{accepted, says}
 use borrow.Author.Needs.{needs}
+use Rattle.answers.specs.Answers.{accepted, says}
 use Rattle.answers.proofs.answers.numbers_of.Statement.{statement}
 use Rattle.answers.proofs.answers.numbers_of.Tie as tie
 

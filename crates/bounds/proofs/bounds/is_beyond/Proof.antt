@@ -1,5 +1,5 @@
-use mir.Facts.{toZ-ofZ}
 use borrow.Author.Needs.{needs}
+use mir.Facts.{toZ-ofZ}
 use Rattle.bounds.proofs.bounds.Steps.{beyond-is}
 use Rattle.bounds.proofs.bounds.is_beyond.Statement.{statement}
 use Rattle.bounds.proofs.bounds.is_beyond.Tie as tie

@@ -1,6 +1,6 @@
+use borrow.Author.Needs.{needs}
 use mir.Facts.{toZ-ofZ}
 use Rattle.evaluation.proofs.evaluations.Laws.{refused-short}
-use borrow.Author.Needs.{needs}
 use Rattle.burmelox.proofs.exports.Steps.{given-value, refused-code, given-code, refused-value}
 use Rattle.burmelox.proofs.exports.burmelox_evaluate.Statement.{statement}
 use Rattle.burmelox.proofs.exports.burmelox_evaluate.Tie as tie

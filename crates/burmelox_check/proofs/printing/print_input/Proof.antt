@@ -1,5 +1,5 @@
-use Rattle.burmelox_check.proofs.printing.Laws.{part-counts}
 use borrow.Author.Needs.{needs}
+use Rattle.burmelox_check.proofs.printing.Laws.{part-counts}
 use Rattle.burmelox_check.proofs.printing.Steps.{input-written, prints-lines, rest-counts}
 use Rattle.burmelox_check.proofs.printing.print_input.Statement.{statement}
 use Rattle.burmelox_check.proofs.printing.print_input.Tie as tie

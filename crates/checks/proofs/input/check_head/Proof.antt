@@ -1,5 +1,5 @@
-use Rattle.claims.proofs.claim_checks.Laws.{claim-long}
 use borrow.Author.Needs.{needs}
+use Rattle.claims.proofs.claim_checks.Laws.{claim-long}
 use Rattle.checks.proofs.input.Steps.{head-claim, head-proof}
 use Rattle.checks.proofs.input.check_head.Statement.{statement}
 use Rattle.checks.proofs.input.check_head.Tie as tie

@@ -1,6 +1,6 @@
+use borrow.Author.Needs.{needs}
 use mir.Facts.{toZ-ofZ}
 use Rattle.checks.proofs.proof_checks.Steps.{beyond-p, beyond-q, beyond-r}
-use borrow.Author.Needs.{needs}
 use Rattle.checks.proofs.proof_checks.any_beyond.Statement.{statement}
 use Rattle.checks.proofs.proof_checks.any_beyond.Tie as tie
 

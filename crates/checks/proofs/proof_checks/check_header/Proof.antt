@@ -1,8 +1,8 @@
 use borrow.Author.Tests.{lt-ltb, le-ltb}
-use Rattle.checks.specs.ProofChecks.{headerAnswer}
+use borrow.Author.Needs.{needs}
 use Rattle.answers.proofs.answers.Laws.{refused-if, passed-if, tested, accepted-says, refused-says}
 use Rattle.sheets.proofs.layout.Laws.{length-other, length-same, proof-asked}
-use borrow.Author.Needs.{needs}
+use Rattle.checks.specs.ProofChecks.{headerAnswer}
 use Rattle.checks.proofs.proof_checks.check_header.Statement.{statement}
 use Rattle.checks.proofs.proof_checks.check_header.Tie as tie
 

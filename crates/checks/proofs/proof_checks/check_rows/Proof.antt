@@ -1,6 +1,6 @@
-use Rattle.checks.specs.ProofChecks.{rowsAnswer}
-use Rattle.answers.proofs.answers.Laws.{refused-at, passed-at, accepted-says, refused-says}
 use borrow.Author.Needs.{needs}
+use Rattle.answers.proofs.answers.Laws.{refused-at, passed-at, accepted-says, refused-says}
+use Rattle.checks.specs.ProofChecks.{rowsAnswer}
 use Rattle.checks.proofs.proof_checks.check_rows.Statement.{statement}
 use Rattle.checks.proofs.proof_checks.check_rows.Tie as tie
 

@@ -1,5 +1,5 @@
-use Rattle.checks.proofs.proof_checks.Steps.{v-high, w-judged}
 use borrow.Author.Needs.{needs}
+use Rattle.checks.proofs.proof_checks.Steps.{v-high, w-judged}
 use Rattle.checks.proofs.proof_checks.exponent_wrong.Statement.{statement}
 use Rattle.checks.proofs.proof_checks.exponent_wrong.Tie as tie
 

@@ -1,5 +1,5 @@
-use Rattle.checks.proofs.proof_checks.Steps.{header-other, header-one, header-rows, header-scaleless, header-scale}
 use borrow.Author.Needs.{needs}
+use Rattle.checks.proofs.proof_checks.Steps.{header-other, header-one, header-rows, header-scaleless, header-scale}
 use Rattle.checks.proofs.proof_checks.header_wrong.Statement.{statement}
 use Rattle.checks.proofs.proof_checks.header_wrong.Tie as tie
 

@@ -1,5 +1,5 @@
-use Rattle.checks.proofs.proof_checks.Steps.{midpoint-judged}
 use borrow.Author.Needs.{needs}
+use Rattle.checks.proofs.proof_checks.Steps.{midpoint-judged}
 use Rattle.checks.proofs.proof_checks.midpoint_wrong.Statement.{statement}
 use Rattle.checks.proofs.proof_checks.midpoint_wrong.Tie as tie
 

@@ -1,6 +1,6 @@
+use borrow.Author.Needs.{needs}
 use mir.Facts.{toZ-ofZ}
 use Rattle.checks.proofs.proof_checks.Steps.{q-not-zero, r-not-zero}
-use borrow.Author.Needs.{needs}
 use Rattle.checks.proofs.proof_checks.q_or_r.Statement.{statement}
 use Rattle.checks.proofs.proof_checks.q_or_r.Tie as tie
 

@@ -1,5 +1,5 @@
-use Rattle.checks.proofs.proof_checks.Steps.{weight-judged}
 use borrow.Author.Needs.{needs}
+use Rattle.checks.proofs.proof_checks.Steps.{weight-judged}
 use Rattle.checks.proofs.proof_checks.row_wrong.Statement.{statement}
 use Rattle.checks.proofs.proof_checks.row_wrong.Tie as tie
 

@@ -1,5 +1,5 @@
-use Rattle.checks.proofs.proof_checks.Steps.{unused-lone, unused-pair}
 use borrow.Author.Needs.{needs}
+use Rattle.checks.proofs.proof_checks.Steps.{unused-lone, unused-pair}
 use Rattle.checks.proofs.proof_checks.unused_wrong.Statement.{statement}
 use Rattle.checks.proofs.proof_checks.unused_wrong.Tie as tie
 

@@ -1,10 +1,10 @@
 use borrow.Author.Tests.{lt-ltb, le-ltb}
+use borrow.Author.Needs.{needs}
 use mir.Facts.{toZ-ofZ}
-use Rattle.claims.specs.ClaimChecks.{claimAnswer}
 use Rattle.answers.proofs.answers.Laws.{refused-if, passed-if, tested, refused-says}
 use Rattle.sheets.proofs.layout.Laws.{length-other, length-same, claim-asked}
+use Rattle.claims.specs.ClaimChecks.{claimAnswer}
 use Rattle.claims.proofs.claim_checks.Steps.{terms-room, floor-judged, terms-judged}
-use borrow.Author.Needs.{needs}
 use Rattle.claims.proofs.claim_checks.check_claim.Statement.{statement}
 use Rattle.claims.proofs.claim_checks.check_claim.Tie as tie
 

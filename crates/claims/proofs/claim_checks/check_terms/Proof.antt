@@ -1,6 +1,6 @@
-use Rattle.claims.specs.ClaimChecks.{termsAnswer}
-use Rattle.answers.proofs.answers.Laws.{refused-at, passed-at, accepted-says, refused-says}
 use borrow.Author.Needs.{needs}
+use Rattle.answers.proofs.answers.Laws.{refused-at, passed-at, accepted-says, refused-says}
+use Rattle.claims.specs.ClaimChecks.{termsAnswer}
 use Rattle.claims.proofs.claim_checks.check_terms.Statement.{statement}
 use Rattle.claims.proofs.claim_checks.check_terms.Tie as tie
 

@@ -1,6 +1,6 @@
+use borrow.Author.Needs.{needs}
 use mir.Facts.{toZ-ofZ}
 use Rattle.claims.proofs.claim_checks.Steps.{coefficient-zero, coefficient-else}
-use borrow.Author.Needs.{needs}
 use Rattle.claims.proofs.claim_checks.coefficient_wrong.Statement.{statement}
 use Rattle.claims.proofs.claim_checks.coefficient_wrong.Tie as tie
 

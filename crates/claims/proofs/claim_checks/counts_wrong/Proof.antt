@@ -1,5 +1,5 @@
-use Rattle.claims.proofs.claim_checks.Steps.{counts-none, counts-many, counts-terms}
 use borrow.Author.Needs.{needs}
+use Rattle.claims.proofs.claim_checks.Steps.{counts-none, counts-many, counts-terms}
 use Rattle.claims.proofs.claim_checks.counts_wrong.Statement.{statement}
 use Rattle.claims.proofs.claim_checks.counts_wrong.Tie as tie
 

@@ -1,5 +1,5 @@
-use Rattle.claims.proofs.claim_checks.Steps.{exponent-judged}
 use borrow.Author.Needs.{needs}
+use Rattle.claims.proofs.claim_checks.Steps.{exponent-judged}
 use Rattle.claims.proofs.claim_checks.exponent_wrong.Statement.{statement}
 use Rattle.claims.proofs.claim_checks.exponent_wrong.Tie as tie
 

@@ -1,10 +1,10 @@
-use borrow.Author.Needs.{needs}
-use Prim.Native.Nat.{_≤_, _-_}
 use mathlib.Core.Path.{_≡_}
-use Rattle.answers.specs.declared.searches.Found.the-variants.{Nothing}
+use Prim.Native.Nat.{_≤_, _-_}
+use borrow.Author.Needs.{needs}
 use Rattle.answers.specs.Searches.{first}
-use Rattle.claims.specs.ClaimChecks.{breaks}
+use Rattle.answers.specs.declared.searches.Found.the-variants.{Nothing}
 use Rattle.answers.proofs.searches.Laws.{first-start, first-stop, first-next, first-end}
+use Rattle.claims.specs.ClaimChecks.{breaks}
 use Rattle.claims.proofs.claim_checks.first_term.Statement.{statement}
 use Rattle.claims.proofs.claim_checks.first_term.Tie as tie
 

@@ -1,5 +1,5 @@
-use Rattle.claims.proofs.claim_checks.Steps.{header-counts, header-two, header-three}
 use borrow.Author.Needs.{needs}
+use Rattle.claims.proofs.claim_checks.Steps.{header-counts, header-two, header-three}
 use Rattle.claims.proofs.claim_checks.header_wrong.Statement.{statement}
 use Rattle.claims.proofs.claim_checks.header_wrong.Tie as tie
 

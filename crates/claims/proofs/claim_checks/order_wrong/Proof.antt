@@ -1,5 +1,5 @@
-use Rattle.claims.proofs.claim_checks.Steps.{order-first, order-later}
 use borrow.Author.Needs.{needs}
+use Rattle.claims.proofs.claim_checks.Steps.{order-first, order-later}
 use Rattle.claims.proofs.claim_checks.order_wrong.Statement.{statement}
 use Rattle.claims.proofs.claim_checks.order_wrong.Tie as tie
 

@@ -1,5 +1,5 @@
-use Rattle.claims.proofs.claim_checks.Laws.{claim-long}
 use borrow.Author.Needs.{needs}
+use Rattle.claims.proofs.claim_checks.Laws.{claim-long}
 use Rattle.evaluation.proofs.evaluations.Steps.{evaluates, floored, all-summed, claim-refused, terms-room, offsets-refused}
 use Rattle.evaluation.proofs.evaluations.evaluate.Statement.{statement}
 use Rattle.evaluation.proofs.evaluations.evaluate.Tie as tie

@@ -1,15 +1,15 @@
-use borrow.Author.Needs.{needs}
-use Prim.Native.Nat.{_*_, _-_, _≤_}
 use mathlib.Core.Path.{_≡_}
+use Prim.Native.Nat.{_*_, _-_, _≤_}
 use lib.IntN.{natAbs}
+use borrow.Author.Needs.{needs}
 use mir.Syntax.{w64}
 use mir.Val.{ofZ}
 use mir.Facts.{toZ-ofZ}
+use Rattle.bounds.specs.Bounds.{greatestValue}
 use Rattle.answers.specs.Searches.{first}
 use Rattle.answers.specs.declared.searches.Found.the-variants.{Nothing}
 use Rattle.answers.proofs.searches.Laws.{first-start}
 use Rattle.evaluation.specs.Evaluations.{tooLarge, sumTo}
-use Rattle.bounds.specs.Bounds.{greatestValue}
 use Rattle.evaluation.proofs.evaluations.Steps.{small-start, sum-next, sum-start, small-next, sum-fits, summed-end, summed-stop, none-next}
 use Rattle.evaluation.proofs.evaluations.summed.Statement.{statement}
 use Rattle.evaluation.proofs.evaluations.summed.Tie as tie

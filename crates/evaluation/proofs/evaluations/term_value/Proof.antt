@@ -1,5 +1,5 @@
-use mir.Facts.{toZ-ofZ}
 use borrow.Author.Needs.{needs}
+use mir.Facts.{toZ-ofZ}
 use Rattle.evaluation.proofs.evaluations.Steps.{term-read}
 use Rattle.evaluation.proofs.evaluations.term_value.Statement.{statement}
 use Rattle.evaluation.proofs.evaluations.term_value.Tie as tie

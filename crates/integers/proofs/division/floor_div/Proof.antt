@@ -1,5 +1,5 @@
-use Rattle.integers.proofs.division.Steps.{quot-fits, div-less-fits, div-less, div-more}
 use borrow.Author.Needs.{needs}
+use Rattle.integers.proofs.division.Steps.{quot-fits, div-less-fits, div-less, div-more}
 use Rattle.integers.proofs.division.floor_div.Statement.{statement}
 use Rattle.integers.proofs.division.floor_div.Tie as tie
 

@@ -1,6 +1,6 @@
+use borrow.Author.Needs.{needs}
 use Rattle.integers.proofs.Integers.{casts}
 use Rattle.integers.proofs.division.Steps.{quot-fits, sum-fits, rem-small, count-small, mod-fits, mod-less, mod-more}
-use borrow.Author.Needs.{needs}
 use Rattle.integers.proofs.division.floor_mod.Statement.{statement}
 use Rattle.integers.proofs.division.floor_mod.Tie as tie
 

@@ -1,6 +1,6 @@
+use borrow.Author.Needs.{needs}
 use mir.Facts.{toZ-ofZ}
 use Rattle.integers.proofs.division.Steps.{more-fits, share-more, share-least}
-use borrow.Author.Needs.{needs}
 use Rattle.integers.proofs.division.share.Statement.{statement}
 use Rattle.integers.proofs.division.share.Tie as tie
 

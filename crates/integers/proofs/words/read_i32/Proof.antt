@@ -1,6 +1,6 @@
-use Rattle.integers.proofs.words.Steps.{word-read, word-range}
-use mir.Facts.{toZ-ofZ}
 use borrow.Author.Needs.{needs}
+use mir.Facts.{toZ-ofZ}
+use Rattle.integers.proofs.words.Steps.{word-read, word-range}
 use Rattle.integers.proofs.words.read_i32.Statement.{statement}
 use Rattle.integers.proofs.words.read_i32.Tie as tie
 

@@ -1,5 +1,5 @@
-use Rattle.integers.specs.Words.{u32At}
 use borrow.Author.Needs.{needs}
+use Rattle.integers.specs.Words.{u32At}
 use Rattle.integers.proofs.words.read_u32.Statement.{statement}
 use Rattle.integers.proofs.words.read_u32.Tie as tie
 

@@ -1,5 +1,5 @@
-use Rattle.integers.proofs.words.Steps.{low-word, high-fits, high-word}
 use borrow.Author.Needs.{needs}
+use Rattle.integers.proofs.words.Steps.{low-word, high-fits, high-word}
 use Rattle.integers.proofs.words.signed.Statement.{statement}
 use Rattle.integers.proofs.words.signed.Tie as tie
 

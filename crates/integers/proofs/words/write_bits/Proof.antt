@@ -1,8 +1,8 @@
 use native.Mathlib.Omega.{arith}
 use native.Mathlib.Numerals.{towards-suc}
 use lib.ListN.{length-set}
-use Rattle.integers.specs.Words.{withBits}
 use borrow.Author.Needs.{needs}
+use Rattle.integers.specs.Words.{withBits}
 use Rattle.integers.proofs.words.write_bits.Statement.{statement}
 use Rattle.integers.proofs.words.write_bits.Tie as tie
 

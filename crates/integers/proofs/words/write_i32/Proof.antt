@@ -1,6 +1,6 @@
-use Rattle.integers.proofs.words.Steps.{bits-bound, word-written}
-use mir.Facts.{toZ-ofZ}
 use borrow.Author.Needs.{needs}
+use mir.Facts.{toZ-ofZ}
+use Rattle.integers.proofs.words.Steps.{bits-bound, word-written}
 use Rattle.integers.proofs.words.write_i32.Statement.{statement}
 use Rattle.integers.proofs.words.write_i32.Tie as tie
 

@@ -1,5 +1,5 @@
-use mir.Facts.{toZ-ofZ}
 use borrow.Author.Needs.{needs}
+use mir.Facts.{toZ-ofZ}
 use Rattle.judgements.proofs.judgements.Steps.{judged-lone, judged-pair}
 use Rattle.judgements.proofs.judgements.judge.Statement.{statement}
 use Rattle.judgements.proofs.judgements.judge.Tie as tie

@@ -1,5 +1,5 @@
-use mir.Facts.{toZ-ofZ}
 use borrow.Author.Needs.{needs}
+use mir.Facts.{toZ-ofZ}
 use Rattle.judgements.proofs.judgements.Steps.{lone-holds, lone-beyond, lone-negative}
 use Rattle.judgements.proofs.judgements.judge_lone.Statement.{statement}
 use Rattle.judgements.proofs.judgements.judge_lone.Tie as tie

@@ -1,5 +1,5 @@
-use mir.Facts.{toZ-ofZ}
 use borrow.Author.Needs.{needs}
+use mir.Facts.{toZ-ofZ}
 use Rattle.judgements.proofs.judgements.Steps.{pair-indefinite, pair-holds, pair-beyond, pair-negative-p, pair-negative-q, pair-within}
 use Rattle.judgements.proofs.judgements.judge_pair.Statement.{statement}
 use Rattle.judgements.proofs.judgements.judge_pair.Tie as tie

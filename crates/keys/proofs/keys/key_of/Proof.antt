@@ -1,13 +1,14 @@
-use borrow.Author.Needs.{needs}
-use Prim.Native.Nat.{_≤_, _<_, _^_, _-_, _*_}
 use mathlib.Core.Path.{_≡_}
-use lib.ListN.{length}
+use Prim.Native.Nat.{_≤_, _<_, _^_, _-_, _*_}
+use borrow.Author.Needs.{needs}
+use Rattle.bounds.specs.Bounds.{mostVariables}
+use Rattle.points.proofs.points.Laws.{Places}
 use Rattle.keys.proofs.keys.Steps.{from-next, from-end, times-fits, low-start, plus-fits, keyFrom, low-next, from-start}
 use Rattle.keys.proofs.keys.key_of.Statement.{statement}
 use Rattle.keys.proofs.keys.key_of.Tie as tie
 
 abbrev Inv-loop : tie.InvT-loop
-Inv-loop x i₀ key₀ i key = (i ≤ i₀) × (i₀ ≤ 8) × (length x ≡ 8) × (key ≡ keyFrom x i₀ i) × (key < 2 ^ (8 * (8 - i)))
+Inv-loop x i₀ key₀ i key = (i ≤ i₀) × (i₀ ≤ mostVariables) × Places x × (key ≡ keyFrom x i₀ i) × (key < 2 ^ (8 * (8 - i)))
 
 abbrev μ-loop : tie.MeasureT-loop
 μ-loop x i₀ key₀ i key = i

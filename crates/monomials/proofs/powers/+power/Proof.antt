@@ -1,14 +1,14 @@
-use borrow.Author.Needs.{needs}
-use mir.Facts.{toZ-ofZ}
-use Rattle.monomials.proofs.powers.Steps.{power-none, power-more}
 use Prim.Native.Nat.{ℕ, _<_}
+use borrow.Author.Needs.{needs}
 use borrow.Fn.Kinds.{In}
 use borrow.Fn.PlainCycle.{Measures, is, falls, and}
+use mir.Facts.{toZ-ofZ}
+use Rattle.monomials.proofs.powers.Steps.{power-none, power-more}
+use Rattle.monomials.proofs.powers.+power.{statement}
 use Rattle.monomials.proofs.powers.power.Reads as power
 use Rattle.monomials.proofs.powers.power.Kinds as power-kinds
 use Rattle.monomials.proofs.powers.+power.Lts-power as power-lts
 use Rattle.monomials.proofs.powers.product.Reads as product-reads
-use Rattle.monomials.proofs.powers.+power.{statement}
 use Rattle.monomials.proofs.powers.+power.Tie.{close}
 
 abbrev μ-power : Measures 0 power-kinds.ps ℕ

@@ -1,6 +1,6 @@
+use borrow.Author.Needs.{needs}
 use mir.Facts.{toZ-ofZ}
 use Rattle.monomials.proofs.powers.Steps.{large-large, large-zero, large-stays}
-use borrow.Author.Needs.{needs}
 use Rattle.monomials.proofs.powers.large_times.Statement.{statement}
 use Rattle.monomials.proofs.powers.large_times.Tie as tie
 

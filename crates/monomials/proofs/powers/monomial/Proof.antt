@@ -1,12 +1,12 @@
-use borrow.Author.Needs.{needs}
-use Prim.Native.Nat.{_≤_}
 use mathlib.Core.Path.{_≡_}
+use Prim.Native.Nat.{_≤_}
 use lib.ListN.{length}
+use borrow.Author.Needs.{needs}
 use mir.Facts.{toZ-ofZ}
 use Rattle.bounds.specs.Bounds.{mostVariables}
+use Rattle.points.proofs.points.Laws.{Places}
 use Rattle.monomials.specs.Powers.{within}
 use Rattle.monomials.proofs.powers.Steps.{From, from-start, from-next, from-end}
-use Rattle.points.proofs.points.Laws.{Places}
 use Rattle.monomials.proofs.powers.monomial.Statement.{statement}
 use Rattle.monomials.proofs.powers.monomial.Tie as tie
 

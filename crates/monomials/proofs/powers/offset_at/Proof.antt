@@ -1,10 +1,10 @@
 use native.Mathlib.Omega.{arith}
 use lib.IntN.{pos}
 use lib.ListN.{getD}
+use borrow.Author.Needs.{needs}
 use mir.Syntax.{w32, w64}
 use mir.Val.{SFits}
 use mir.Facts.{toZ-ofZ, sfits-widen}
-use borrow.Author.Needs.{needs}
 use Rattle.monomials.proofs.powers.offset_at.Statement.{statement}
 use Rattle.monomials.proofs.powers.offset_at.Tie as tie
 

@@ -1,6 +1,6 @@
+use borrow.Author.Needs.{needs}
 use mir.Facts.{toZ-ofZ}
 use Rattle.monomials.proofs.powers.Steps.{product-large, product-by-large, product-numbers}
-use borrow.Author.Needs.{needs}
 use Rattle.monomials.proofs.powers.product.Statement.{statement}
 use Rattle.monomials.proofs.powers.product.Tie as tie
 

@@ -1,6 +1,6 @@
+use borrow.Author.Needs.{needs}
 use mir.Facts.{toZ-ofZ}
 use Rattle.monomials.proofs.powers.Steps.{term-is}
-use borrow.Author.Needs.{needs}
 use Rattle.monomials.proofs.powers.term.Statement.{statement}
 use Rattle.monomials.proofs.powers.term.Tie as tie
 

@@ -1,6 +1,6 @@
+use borrow.Author.Needs.{needs}
 use mir.Facts.{toZ-ofZ}
 use Rattle.monomials.proofs.powers.Steps.{times-zero, times-large, times-fits, times-value}
-use borrow.Author.Needs.{needs}
 use Rattle.monomials.proofs.powers.times.Statement.{statement}
 use Rattle.monomials.proofs.powers.times.Tie as tie
 

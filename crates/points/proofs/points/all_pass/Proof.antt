@@ -1,5 +1,5 @@
-use borrow.Author.Needs.{needs}
 use Prim.Native.Nat.{_-_, _≤_}
+use borrow.Author.Needs.{needs}
 use Rattle.points.specs.Points.{passes}
 use Rattle.points.proofs.points.Laws.{Places}
 use Rattle.points.proofs.points.Steps.{Passed, passed-start, passed-next, pair-fewer, pair-stop, pair-end}

@@ -1,5 +1,5 @@
-use Rattle.points.proofs.points.Steps.{test-within}
 use borrow.Author.Needs.{needs}
+use Rattle.points.proofs.points.Steps.{test-within}
 use Rattle.points.proofs.points.exponents_within.Statement.{statement}
 use Rattle.points.proofs.points.exponents_within.Tie as tie
 

@@ -1,5 +1,5 @@
-use Rattle.points.proofs.points.Steps.{test-midpoint}
 use borrow.Author.Needs.{needs}
+use Rattle.points.proofs.points.Steps.{test-midpoint}
 use Rattle.points.proofs.points.has_midpoint.Statement.{statement}
 use Rattle.points.proofs.points.has_midpoint.Tie as tie
 

@@ -1,5 +1,5 @@
-use Rattle.points.proofs.points.Steps.{test-sign}
 use borrow.Author.Needs.{needs}
+use Rattle.points.proofs.points.Steps.{test-sign}
 use Rattle.points.proofs.points.keeps_sign.Statement.{statement}
 use Rattle.points.proofs.points.keeps_sign.Tie as tie
 

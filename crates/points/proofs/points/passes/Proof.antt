@@ -1,5 +1,5 @@
-use Rattle.points.proofs.points.Steps.{passes-equal, passes-sum, passes-even, passes-within}
 use borrow.Author.Needs.{needs}
+use Rattle.points.proofs.points.Steps.{passes-equal, passes-sum, passes-even, passes-within}
 use Rattle.points.proofs.points.passes.Statement.{statement}
 use Rattle.points.proofs.points.passes.Tie as tie
 

@@ -1,7 +1,7 @@
-use borrow.Author.Needs.{needs}
-use Prim.Native.Nat.{_+_, _-_, _≤_}
 use mathlib.Core.Path.{_≡_}
+use Prim.Native.Nat.{_+_, _-_, _≤_}
 use lib.ListN.{getD}
+use borrow.Author.Needs.{needs}
 use Rattle.points.specs.Lists.{table}
 use Rattle.points.specs.Points.{bytesAt}
 use Rattle.points.proofs.points.Steps.{filled-next, filled-end, filled-start, padded}

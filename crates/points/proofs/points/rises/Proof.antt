@@ -1,6 +1,6 @@
-use borrow.Author.Needs.{needs}
 use Prim.Native.Nat.{_-_, _≤_}
 use lib.Dec.{eqb}
+use borrow.Author.Needs.{needs}
 use Rattle.bounds.specs.Bounds.{mostVariables}
 use Rattle.points.proofs.points.Laws.{Places}
 use Rattle.points.proofs.points.Steps.{rises-end, rises-less, Passed, rises-next, rises-more, rises-start}

@@ -1,5 +1,5 @@
-use Rattle.points.proofs.points.Steps.{test-same}
 use borrow.Author.Needs.{needs}
+use Rattle.points.proofs.points.Steps.{test-same}
 use Rattle.points.proofs.points.same.Statement.{statement}
 use Rattle.points.proofs.points.same.Tie as tie
 

@@ -1,6 +1,6 @@
 use borrow.Author.Needs.{needs}
-use Rattle.report.specs.Reports.{acceptedText}
 use Rattle.text.proofs.text.Laws.{room-first}
+use Rattle.report.specs.Reports.{acceptedText}
 use Rattle.report.proofs.reports.Steps.{room-reportable, claim-reportable, rows-after, accepted-written, proof-reportable}
 use Rattle.report.proofs.reports.accepted_text.Statement.{statement}
 use Rattle.report.proofs.reports.accepted_text.Tie as tie

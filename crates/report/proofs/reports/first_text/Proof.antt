@@ -1,5 +1,5 @@
-use mir.Facts.{toZ-ofZ}
 use borrow.Author.Needs.{needs}
+use mir.Facts.{toZ-ofZ}
 use Rattle.report.proofs.reports.Steps.{first-feed, first-written, first-room}
 use Rattle.report.proofs.reports.first_text.Statement.{statement}
 use Rattle.report.proofs.reports.first_text.Tie as tie

@@ -1,6 +1,6 @@
-use Rattle.report.specs.Reports.{ended, refusedText}
-use Rattle.text.proofs.text.Laws.{room-first, room-then, written-then}
 use borrow.Author.Needs.{needs}
+use Rattle.text.proofs.text.Laws.{room-first, room-then, written-then}
+use Rattle.report.specs.Reports.{ended, refusedText}
 use Rattle.report.proofs.reports.refused_text.Statement.{statement}
 use Rattle.report.proofs.reports.refused_text.Tie as tie
 

@@ -1,5 +1,5 @@
-use borrow.Author.Needs.{needs}
 use Prim.Native.Nat.{_-_, _≤_}
+use borrow.Author.Needs.{needs}
 use Rattle.text.specs.Text.{Written}
 use Rattle.report.specs.Reports.{rowsText}
 use Rattle.report.proofs.reports.Steps.{next-room, rows-end, rows-start, rows-next}

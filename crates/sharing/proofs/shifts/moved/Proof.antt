@@ -1,5 +1,5 @@
-use mir.Facts.{toZ-ofZ}
 use borrow.Author.Needs.{needs}
+use mir.Facts.{toZ-ofZ}
 use Rattle.sharing.proofs.shifts.Steps.{error-fits, moved-is, moved-fits}
 use Rattle.sharing.proofs.shifts.moved.Statement.{statement}
 use Rattle.sharing.proofs.shifts.moved.Tie as tie

@@ -1,8 +1,8 @@
-use mir.Facts.{toZ-ofZ}
-use Rattle.sharing.proofs.shifts.Laws.{proof-checked, targeted}
 use borrow.Author.Needs.{needs}
-use Rattle.sharing.proofs.shifts.Steps.{row-here, held-small, held-some, shifted-is, own-small, key-here}
+use mir.Facts.{toZ-ofZ}
 use Rattle.integers.proofs.Integers.{back-small}
+use Rattle.sharing.proofs.shifts.Laws.{proof-checked, targeted}
+use Rattle.sharing.proofs.shifts.Steps.{row-here, held-small, held-some, shifted-is, own-small, key-here}
 use Rattle.sharing.proofs.shifts.shifted.Statement.{statement}
 use Rattle.sharing.proofs.shifts.shifted.Tie as tie
 

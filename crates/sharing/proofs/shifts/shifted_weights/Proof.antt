@@ -1,5 +1,5 @@
-use mir.Facts.{toZ-ofZ}
 use borrow.Author.Needs.{needs}
+use mir.Facts.{toZ-ofZ}
 use Rattle.sharing.proofs.shifts.Steps.{at-v-carried, lone-shifted, pair-shifted, q-held, r-held, at-w-carried, r-within, q-within, lone-held, lone-within, p-within, p-held, at-u-carried}
 use Rattle.sharing.proofs.shifts.shifted_weights.Statement.{statement}
 use Rattle.sharing.proofs.shifts.shifted_weights.Tie as tie

@@ -1,5 +1,5 @@
-use mir.Facts.{toZ-ofZ}
 use borrow.Author.Needs.{needs}
+use mir.Facts.{toZ-ofZ}
 use Rattle.sharing.proofs.slots.Steps.{rank-fits, held-is, scan-start}
 use Rattle.sharing.proofs.slots.held.Statement.{statement}
 use Rattle.sharing.proofs.slots.held.Tie as tie

@@ -1,5 +1,5 @@
-use Rattle.sheets.specs.ClaimSheet.{termPoint}
 use borrow.Author.Needs.{needs}
+use Rattle.sheets.specs.ClaimSheet.{termPoint}
 use Rattle.sheets.proofs.claim_sheet.Steps.{point-inside, point-late}
 use Rattle.sheets.proofs.claim_sheet.term_key.Statement.{statement}
 use Rattle.sheets.proofs.claim_sheet.term_key.Tie as tie

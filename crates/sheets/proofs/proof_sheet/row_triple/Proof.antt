@@ -1,5 +1,5 @@
-use mir.Facts.{toZ-ofZ}
 use borrow.Author.Needs.{needs}
+use mir.Facts.{toZ-ofZ}
 use Rattle.sheets.proofs.proof_sheet.Steps.{triple-read}
 use Rattle.sheets.proofs.proof_sheet.row_triple.Statement.{statement}
 use Rattle.sheets.proofs.proof_sheet.row_triple.Tie as tie

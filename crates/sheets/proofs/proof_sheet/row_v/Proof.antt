@@ -1,5 +1,5 @@
-use Rattle.sheets.specs.ProofSheet.{vOf}
 use borrow.Author.Needs.{needs}
+use Rattle.sheets.specs.ProofSheet.{vOf}
 use Rattle.sheets.proofs.proof_sheet.Steps.{v-inside}
 use Rattle.sheets.proofs.proof_sheet.row_v.Statement.{statement}
 use Rattle.sheets.proofs.proof_sheet.row_v.Tie as tie

@@ -1,5 +1,5 @@
-use Rattle.sheets.specs.ProofSheet.{wOf}
 use borrow.Author.Needs.{needs}
+use Rattle.sheets.specs.ProofSheet.{wOf}
 use Rattle.sheets.proofs.proof_sheet.Steps.{w-inside}
 use Rattle.sheets.proofs.proof_sheet.row_w.Statement.{statement}
 use Rattle.sheets.proofs.proof_sheet.row_w.Tie as tie

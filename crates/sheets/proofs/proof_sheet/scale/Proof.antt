@@ -1,5 +1,5 @@
-use Rattle.sheets.specs.ProofSheet.{scaleOf}
 use borrow.Author.Needs.{needs}
+use Rattle.sheets.specs.ProofSheet.{scaleOf}
 use Rattle.sheets.proofs.proof_sheet.scale.Statement.{statement}
 use Rattle.sheets.proofs.proof_sheet.scale.Tie as tie
 

@@ -1,6 +1,6 @@
+use borrow.Author.Needs.{needs}
 use mir.Facts.{toZ-ofZ}
 use Rattle.sheets.proofs.proof_sheet.Laws.{for-pair, for-lone}
-use borrow.Author.Needs.{needs}
 use Rattle.sheets.proofs.proof_sheet.triple_for.Statement.{statement}
 use Rattle.sheets.proofs.proof_sheet.triple_for.Tie as tie
 

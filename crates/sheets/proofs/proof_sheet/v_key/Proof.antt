@@ -1,5 +1,5 @@
-use Rattle.sheets.specs.ProofSheet.{vOf}
 use borrow.Author.Needs.{needs}
+use Rattle.sheets.specs.ProofSheet.{vOf}
 use Rattle.sheets.proofs.proof_sheet.Steps.{v-inside, v-late}
 use Rattle.sheets.proofs.proof_sheet.v_key.Statement.{statement}
 use Rattle.sheets.proofs.proof_sheet.v_key.Tie as tie

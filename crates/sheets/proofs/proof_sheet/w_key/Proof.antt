@@ -1,5 +1,5 @@
-use Rattle.sheets.specs.ProofSheet.{wOf}
 use borrow.Author.Needs.{needs}
+use Rattle.sheets.specs.ProofSheet.{wOf}
 use Rattle.sheets.proofs.proof_sheet.Steps.{w-late, w-inside}
 use Rattle.sheets.proofs.proof_sheet.w_key.Statement.{statement}
 use Rattle.sheets.proofs.proof_sheet.w_key.Tie as tie

@@ -1,5 +1,5 @@
-use mir.Facts.{toZ-ofZ}
 use borrow.Author.Needs.{needs}
+use mir.Facts.{toZ-ofZ}
 use Rattle.targets.proofs.targets.Steps.{aim-is}
 use Rattle.targets.proofs.targets.aim_of.Statement.{statement}
 use Rattle.targets.proofs.targets.aim_of.Tie as tie

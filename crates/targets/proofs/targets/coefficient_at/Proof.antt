@@ -1,5 +1,5 @@
-use mir.Facts.{toZ-ofZ}
 use borrow.Author.Needs.{needs}
+use mir.Facts.{toZ-ofZ}
 use Rattle.targets.proofs.targets.Steps.{found-inside, term-small, found-with, none-with}
 use Rattle.targets.proofs.targets.coefficient_at.Statement.{statement}
 use Rattle.targets.proofs.targets.coefficient_at.Tie as tie

@@ -1,5 +1,5 @@
-use mir.Facts.{toZ-ofZ}
 use borrow.Author.Needs.{needs}
+use mir.Facts.{toZ-ofZ}
 use Rattle.targets.proofs.targets.Steps.{scaled-small, product-is, product-fits}
 use Rattle.targets.proofs.targets.scaled.Statement.{statement}
 use Rattle.targets.proofs.targets.scaled.Tie as tie

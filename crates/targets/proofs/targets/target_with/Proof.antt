@@ -1,7 +1,7 @@
-use mir.Facts.{toZ-ofZ}
 use borrow.Author.Needs.{needs}
-use Rattle.targets.proofs.targets.Steps.{with-made}
+use mir.Facts.{toZ-ofZ}
 use Rattle.integers.proofs.Integers.{back-small}
+use Rattle.targets.proofs.targets.Steps.{with-made}
 use Rattle.targets.proofs.targets.target_with.Statement.{statement}
 use Rattle.targets.proofs.targets.target_with.Tie as tie
 

@@ -1,7 +1,7 @@
-use mir.Facts.{toZ-ofZ}
 use borrow.Author.Needs.{needs}
-use Rattle.targets.proofs.targets.Steps.{term-small, facts-here, room-here, term-inside, term-made}
+use mir.Facts.{toZ-ofZ}
 use Rattle.integers.proofs.Integers.{back-small}
+use Rattle.targets.proofs.targets.Steps.{term-small, facts-here, room-here, term-inside, term-made}
 use Rattle.targets.proofs.targets.term_target.Statement.{statement}
 use Rattle.targets.proofs.targets.term_target.Tie as tie
 

@@ -1,6 +1,6 @@
 use mir.Facts.{toZ-ofZ}
-use Rattle.targets.proofs.targets.Steps.{positive-is, positive-small, kept-is, negative-is, negated-fits}
 use Rattle.integers.proofs.Integers.{back-small}
+use Rattle.targets.proofs.targets.Steps.{positive-is, positive-small, kept-is, negative-is, negated-fits}
 use Rattle.targets.proofs.targets.worst.Statement.{statement}
 use Rattle.targets.proofs.targets.worst.Tie as tie
 

@@ -1,7 +1,7 @@
+use borrow.Author.Needs.{needs}
 use mir.Facts.{toZ-ofZ}
 use Rattle.text.specs.Lines.{acceptedLine}
 use Rattle.text.proofs.text.Laws.{room-first, room-then}
-use borrow.Author.Needs.{needs}
 use Rattle.text.proofs.lines.Steps.{scale-then}
 use Rattle.text.proofs.lines.accepted_line.Statement.{statement}
 use Rattle.text.proofs.lines.accepted_line.Tie as tie

@@ -1,7 +1,7 @@
+use borrow.Author.Needs.{needs}
 use mir.Facts.{toZ-ofZ}
 use Rattle.text.specs.Lines.{laterText}
 use Rattle.text.proofs.text.Laws.{room-first, numbered-back, numbered-room, numbered-then}
-use borrow.Author.Needs.{needs}
 use Rattle.text.proofs.lines.later_text.Statement.{statement}
 use Rattle.text.proofs.lines.later_text.Tie as tie
 

@@ -1,6 +1,6 @@
+use borrow.Author.Needs.{needs}
 use Rattle.text.specs.Lines.{refusedLine}
 use Rattle.text.proofs.text.Laws.{room-first, room-then, written-then}
-use borrow.Author.Needs.{needs}
 use Rattle.text.proofs.lines.refused_line.Statement.{statement}
 use Rattle.text.proofs.lines.refused_line.Tie as tie
 

@@ -1,7 +1,7 @@
+use borrow.Author.Needs.{needs}
 use mir.Facts.{toZ-ofZ}
 use Rattle.text.specs.Lines.{scaleText}
 use Rattle.text.proofs.text.Laws.{room-first, room-then, written-then, numbered-back}
-use borrow.Author.Needs.{needs}
 use Rattle.text.proofs.lines.scale_text.Statement.{statement}
 use Rattle.text.proofs.lines.scale_text.Tie as tie
 

@@ -1,7 +1,7 @@
+use borrow.Author.Needs.{needs}
 use mir.Facts.{toZ-ofZ}
 use Rattle.text.specs.Lines.{weightsText}
 use Rattle.text.proofs.text.Laws.{room-first}
-use borrow.Author.Needs.{needs}
 use Rattle.text.proofs.lines.Steps.{later-then, later-room}
 use Rattle.text.proofs.lines.weights_text.Statement.{statement}
 use Rattle.text.proofs.lines.weights_text.Tie as tie

@@ -1,13 +1,13 @@
-use borrow.Author.Needs.{needs}
 use Prim.Native.Nat.{ℕ, _<_}
+use borrow.Author.Needs.{needs}
 use borrow.Fn.Kinds.{In}
 use borrow.Fn.PlainCycle.{Measures, is, falls, and}
+use Rattle.text.proofs.text.+natural.{statement}
+use Rattle.text.proofs.text.Steps.{last-written, last-room, before-room, after-room, digits-written}
 use Rattle.text.proofs.text.natural.Reads as natural
 use Rattle.text.proofs.text.natural.Kinds as natural-kinds
 use Rattle.text.proofs.text.+natural.Lts-natural as natural-lts
 use Rattle.text.proofs.text.put_byte.Reads as put-byte-reads
-use Rattle.text.proofs.text.+natural.{statement}
-use Rattle.text.proofs.text.Steps.{last-written, last-room, before-room, after-room, digits-written}
 use Rattle.text.proofs.text.+natural.Tie.{close}
 
 abbrev μ-natural : Measures 1 natural-kinds.ps ℕ

@@ -1,6 +1,6 @@
+use borrow.Author.Needs.{needs}
 use Rattle.text.specs.Text.{counted}
 use Rattle.text.proofs.text.Laws.{room-first, room-then, written-then}
-use borrow.Author.Needs.{needs}
 use Rattle.text.proofs.text.counted.Statement.{statement}
 use Rattle.text.proofs.text.counted.Tie as tie
 

@@ -1,5 +1,5 @@
-use mir.Facts.{toZ-ofZ}
 use borrow.Author.Needs.{needs}
+use mir.Facts.{toZ-ofZ}
 use Rattle.text.proofs.text.Steps.{minus-written, minus-after, unsigned-room, unsigned-written, minus-room}
 use Rattle.text.proofs.text.integer.Statement.{statement}
 use Rattle.text.proofs.text.integer.Tie as tie

@@ -1,7 +1,7 @@
+use borrow.Author.Needs.{needs}
 use mir.Facts.{toZ-ofZ}
 use Rattle.text.specs.Text.{numbered}
 use Rattle.text.proofs.text.Laws.{room-first, room-then}
-use borrow.Author.Needs.{needs}
 use Rattle.text.proofs.text.Steps.{numbered-written}
 use Rattle.text.proofs.text.numbered.Statement.{statement}
 use Rattle.text.proofs.text.numbered.Tie as tie

@@ -1,8 +1,8 @@
-use borrow.Author.Needs.{needs}
-use Prim.Native.Nat.{_-_, _≤_}
 use mathlib.Core.Path.{_≡_}
+use Prim.Native.Nat.{_-_, _≤_}
 use lib.ListN.{length, take}
 use lib.Seq.{sets}
+use borrow.Author.Needs.{needs}
 use Rattle.text.proofs.text.Steps.{copied-end, copied-next}
 use Rattle.text.proofs.text.put_text.Statement.{statement}
 use Rattle.text.proofs.text.put_text.Tie as tie

@@ -1,15 +1,15 @@
-use borrow.Author.Needs.{needs}
-use Prim.Native.Nat.{suc, _≤_, _-_}
 use mathlib.Core.Path.{_≡_}
 use mathlib.Core.Bool.{false}
 use mathlib.Core.Logic.{⊎-elim}
+use Prim.Native.Nat.{suc, _≤_, _-_}
 use native.Mathlib.Omega.{arith}
 use lib.Dec.{eqb}
 use lib.IntN.{natAbs}
-use Rattle.keys.specs.Keys.{keyOf}
+use borrow.Author.Needs.{needs}
 use Rattle.answers.specs.Searches.{first}
 use Rattle.answers.specs.declared.searches.Found.the-variants.{Nothing}
 use Rattle.answers.proofs.searches.Laws.{first-start, first-next}
+use Rattle.keys.specs.Keys.{keyOf}
 use Rattle.targets.specs.Targets.{targetOf}
 use Rattle.sharing.specs.Slots.{holdsPoint}
 use Rattle.weighing.specs.Unheld.{pointFor, unheld}

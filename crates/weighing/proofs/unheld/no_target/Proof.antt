@@ -1,5 +1,5 @@
-use mir.Facts.{toZ-ofZ}
 use borrow.Author.Needs.{needs}
+use mir.Facts.{toZ-ofZ}
 use Rattle.weighing.proofs.unheld.Steps.{term-inside, point-of-term, no-target}
 use Rattle.weighing.proofs.unheld.no_target.Statement.{statement}
 use Rattle.weighing.proofs.unheld.no_target.Tie as tie

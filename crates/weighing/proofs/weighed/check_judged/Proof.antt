@@ -1,5 +1,5 @@
-use Rattle.judgements.proofs.judgements.Laws.{judged-is}
 use borrow.Author.Needs.{needs}
+use Rattle.judgements.proofs.judgements.Laws.{judged-is}
 use Rattle.weighing.proofs.weighed.check_judged.Statement.{statement}
 use Rattle.weighing.proofs.weighed.check_judged.Tie as tie
 

@@ -1,5 +1,5 @@
-use Rattle.judgements.proofs.judgements.Laws.{row-judged}
 use borrow.Author.Needs.{needs}
+use Rattle.judgements.proofs.judgements.Laws.{row-judged}
 use Rattle.weighing.proofs.weighed.judge_row.Statement.{statement}
 use Rattle.weighing.proofs.weighed.judge_row.Tie as tie
 

@@ -1,5 +1,5 @@
-use mir.Facts.{toZ-ofZ}
 use borrow.Author.Needs.{needs}
+use mir.Facts.{toZ-ofZ}
 use Rattle.writing.proofs.writing.Steps.{triple-written}
 use Rattle.writing.proofs.writing.write_triple.Statement.{statement}
 use Rattle.writing.proofs.writing.write_triple.Tie as tie

@@ -1,5 +1,5 @@
-use Rattle.points.proofs.points.Steps.{variables-are}
 use borrow.Author.Needs.{needs}
+use Rattle.points.proofs.points.Steps.{variables-are}
 use Rattle.points.proofs.points.Point.variables.Statement.{statement}
 use Rattle.points.proofs.points.Point.variables.Tie as tie
 
