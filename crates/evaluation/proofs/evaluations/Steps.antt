@@ -94,11 +94,11 @@ small-passes c n t x h =
 passes : (c : List ℕ) (x : List ℤ) → Evaluable c x → Passes (evaluationAnswer c x)
 unfolding evaluationAnswer
 passes c x e =
-    let tooLarge = tooLargeAnswer c (variables c) (termCount c) x in
+    let last = tooLargeAnswer c (variables c) (termCount c) x in
     let m : not (eqb (length x) (variables c)) ≡ false = rw (eq-eqb _ _ (e .counted)) in
     rw (
-      then-on (claimAnswer c) (refuseIf (not (eqb (length x) (variables c))) 20 tooLarge) (e .formed),
-      if-on _ 20 tooLarge m,
+      then-on (claimAnswer c) (refuseIf (not (eqb (length x) (variables c))) 20 last) (e .formed),
+      if-on _ 20 last m,
     )
     (small-passes c (variables c) (termCount c) x (e .small))
 
@@ -224,10 +224,10 @@ module _ (c : List ℕ) (x : List ℤ) (v : Verdict) (e : says v ≡ claimAnswer
         unfolding evaluationOf evaluationAnswer summed sumTo
         all-summed r d er =
             let w : not (eqb (length x) (variables c)) ≡ false = rw (← en, eq-eqb _ _ d) in
-            let tooLarge = tooLargeAnswer c (variables c) (termCount c) x in
+            let last = tooLargeAnswer c (variables c) (termCount c) x in
             rw (
-              then-on (claimAnswer c) (refuseIf (not (eqb (length x) (variables c))) 20 tooLarge) (passed v _ e j h),
-              if-on _ 20 tooLarge w,
+              then-on (claimAnswer c) (refuseIf (not (eqb (length x) (variables c))) 20 last) (passed v _ e j h),
+              if-on _ 20 last w,
               ← terms-table c n t en et,
               ← en,
               ← et,

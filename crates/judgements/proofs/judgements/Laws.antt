@@ -35,7 +35,7 @@ use Rattle.judgements.specs.declared.judgements.Firsts.{Firsts}
 use Rattle.judgements.specs.declared.judgements.Judgement.{Judgement}
 use Rattle.judgements.specs.declared.judgements.Judgement.the-variants.{Holds, Beyond, Negative, Indefinite}
 
--- ---- judge_all
+-- ---- all rows, one after another
 
 module _ (limit : ℕ) (row : ℕ → Row) where
   pub firsts-start : record { beyond = Nothing; negative = Nothing; indefinite = Nothing } ≡ firstsTo limit row 0
@@ -58,14 +58,6 @@ module _ (limit : ℕ) (row : ℕ → Row) where
   unfolding firstsTo noted judgedAs
   firsts-next i f g j ef ej eg = eg ∙ rw (ef, ej, kept-next 17 i, kept-next 18 i, kept-next 19 i)
 
--- ---- judge_row: row i of the shifted proof
-
-pub row-judged : (limit : ℕ) (row : Row) (a : Value.Row) (j : Judgement) → a ≡ byValue row
-    → j ≡ judgementOf limit (a .weights) → j ≡ judgementOf limit (row .weights)
-row-judged limit row a j ea ej = ej ∙ rw (value-weights _ a ea)
-
--- ---- judge_all and check_judged
-
 module _ (limit : ℕ) (row : ℕ → Row) (f : Firsts) where
   pub firsts-end : (i k : ℕ) → f ≡ firstsTo limit row i → k ≤ i → i ≤ k → f ≡ firstsTo limit row k
   firsts-end i k h l m = let q : i ≡ k = omega arith in rw q at h
@@ -73,6 +65,11 @@ module _ (limit : ℕ) (row : ℕ → Row) (f : Firsts) where
   pub judged-is : (k m : ℕ) (v : Verdict) → says v ≡ judgedAnswer f k → f ≡ firstsTo limit row k → k ≡ m
       → says v ≡ judgedAnswer (firstsTo limit row m) m
   judged-is k m v ev ef ek = ev ∙ rw (ef, ek)
+
+-- a row by value is judged as the row
+pub row-judged : (limit : ℕ) (row : Row) (a : Value.Row) (j : Judgement) → a ≡ byValue row
+    → j ≡ judgementOf limit (a .weights) → j ≡ judgementOf limit (row .weights)
+row-judged limit row a j ea ej = ej ∙ rw (value-weights _ a ea)
 
 -- ---- a row is judged to hold exactly where its weights are within the limit and it holds
 
