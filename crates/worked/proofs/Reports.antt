@@ -8,12 +8,12 @@ use Rattle.text.specs.Text.{digits, natural, integer, counted, numbered}
 use Rattle.text.specs.Lines.{scaleText, acceptedLine, laterText, weightsText, rowLine, refusedLine}
 use Rattle.report.specs.Reports.{ended, linesOf, rowText, rowsText, firstText, acceptedText, refusedText, reportable, reportText}
 use Rattle.worked.specs.Sheets.{joined, word, words, claimOf, proofOf, squareWith, square, squareProof}
-use Rattle.worked.specs.Reports.{cases, Worked}
+use Rattle.worked.specs.Reports.{atLimits, cases, Worked}
 
 pub worked : Worked
 unfolding
     u32At i32At floorOf scaleOf wordsAt tripleOf accepted refused blameless
     joined word words claimOf proofOf squareWith square squareProof digits natural integer counted numbered
     scaleText acceptedLine laterText weightsText rowLine refusedLine
-    ended linesOf rowText rowsText firstText acceptedText refusedText reportable reportText cases
+    ended linesOf rowText rowsText firstText acceptedText refusedText reportable reportText cases atLimits
 worked = refl

@@ -16,6 +16,17 @@ pub record Case : Type 0 where
   pub answer : Answer
   pub text : String
 
+-- a lone row, and numbers at the limits
+unfoldable pub atLimits : Case
+atLimits = record {
+  claim = claimOf 1 (negsuc (2 ^ 30 - 1)) [] [];
+  proof = proofOf 1 (pos (2 ^ 20)) 2 ((2 ∷ []) ∷ (2 ∷ []) ∷ (0 ∷ []) ∷ (2 ∷ []) ∷ [])
+      (pos 10 ∷ pos 0 ∷ pos 0 ∷ pos (2 ^ 30) ∷ pos 99 ∷ negsuc (2 ^ 30 - 1) ∷ []);
+  answer = accepted 2;
+  text =
+      "accepted rows 2 scale 1048576 floor -1073741824\nrow 0 p 10 q 0 r 0\nrow 1 p 1073741824 q 99 r -1073741824\n";
+}
+
 unfoldable pub cases : List Case
 cases =
     record {
@@ -24,15 +35,7 @@ cases =
       answer = accepted 1;
       text = "accepted rows 1 scale 1 floor 0\nrow 0 p 1 q 1 r -2\n";
     }
-    -- a lone row, and numbers at the limits
-    ∷ record {
-      claim = claimOf 1 (negsuc (2 ^ 30 - 1)) [] [];
-      proof = proofOf 1 (pos (2 ^ 20)) 2 ((2 ∷ []) ∷ (2 ∷ []) ∷ (0 ∷ []) ∷ (2 ∷ []) ∷ [])
-          (pos 10 ∷ pos 0 ∷ pos 0 ∷ pos (2 ^ 30) ∷ pos 99 ∷ negsuc (2 ^ 30 - 1) ∷ []);
-      answer = accepted 2;
-      text =
-          "accepted rows 2 scale 1048576 floor -1073741824\nrow 0 p 10 q 0 r 0\nrow 1 p 1073741824 q 99 r -1073741824\n";
-    }
+    ∷ atLimits
     ∷ record {
       claim = claimOf 1 (pos 0) [] [];
       proof = proofOf 1 (pos 1) 0 [] [];

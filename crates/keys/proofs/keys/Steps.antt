@@ -58,7 +58,8 @@ key-high s at m n b =
     rw (bytes-split s at m n, key-append (bytesAt s at m) (bytesAt s (at + m) n), bytes-length s at m)
     (digits-div (keyOf (bytesAt s (at + m) n)) low)
 
-pub key-here : (s : List ℕ) (at n eight : ℕ) → Bytes s → n ≤ mostVariables → 8 ≤ at + n → eight ≡ keyOf (bytesAt s (at + n - 8) 8)
+pub key-here : (s : List ℕ) (at n eight : ℕ) → Bytes s → n ≤ mostVariables → 8 ≤ at + n
+    → eight ≡ keyOf (bytesAt s (at + n - 8) 8)
     → eight / 2 ^ (64 - 8 * n) ≡ keyOf (bytesAt s at n)
 key-here s at n eight b h l e =
     let e₁ : 64 - 8 * n ≡ 8 * (8 - n) = omega arith in

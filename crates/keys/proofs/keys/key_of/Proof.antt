@@ -8,7 +8,8 @@ use Rattle.keys.proofs.keys.key_of.Statement.{statement}
 use Rattle.keys.proofs.keys.key_of.Tie as tie
 
 abbrev Inv-loop : tie.InvT-loop
-Inv-loop x i₀ key₀ i key = (i ≤ i₀) × (i₀ ≤ mostVariables) × Places x × (key ≡ keyFrom x i₀ i) × (key < 2 ^ (8 * (8 - i)))
+Inv-loop x i₀ key₀ i key = (i ≤ i₀) × (i₀ ≤ mostVariables) × Places x × (key ≡ keyFrom x i₀ i)
+    × (key < 2 ^ (8 * (8 - i)))
 
 abbrev μ-loop : tie.MeasureT-loop
 μ-loop x i₀ key₀ i key = i
