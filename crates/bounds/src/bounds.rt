@@ -1,4 +1,5 @@
-// The limits of document 01, each named once: `most` for what is counted, `greatest` for sizes.
+// The limits of document 01: `most` for what is counted, `greatest` for sizes. The definitions have the same names, and
+// a contract that compares the two is proved only where they agree.
 use integers::magnitudes::magnitude;
 ghost use mathlib.Core.Path.{_≡_};
 ghost use Rattle.bounds.specs.Bounds.{beyond};
@@ -11,13 +12,13 @@ pub const MOST_ROWS: usize = 256;
 
 pub const GREATEST_EXPONENT: u8 = 120;
 
-// 2^20
+// of the scale: 2^20
 pub const GREATEST_SCALE: u64 = 1048576;
 
-// 2^30
+// of the floor, coefficients and weights: 2^30
 pub const GREATEST_WEIGHT: u64 = 1073741824;
 
-// 2^56
+// of a term's value: 2^56
 pub const GREATEST_VALUE: u64 = 72057594037927936;
 
 // Whether a number is beyond ± a limit.

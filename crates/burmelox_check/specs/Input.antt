@@ -5,7 +5,7 @@ use Prim.Native.Nat.{ℕ}
 use lib.Dec.{leb}
 use lib.ListN.{length, take, drop}
 use Rattle.sheets.specs.Layout.{variables, termCount, claimLength}
-use Rattle.claims.specs.ClaimChecks.{headerRight}
+use Rattle.claims.specs.ClaimChecks.{claimHeaderRight}
 
 -- "A program reads at most 8,192 bytes of standard input"
 abbrev pub greatestInput : ℕ
@@ -17,7 +17,7 @@ saidLength input = claimLength (variables input) (termCount input)
 
 -- "the whole input is the claim if it is refused by 1 or 2 or is too short": it is neither
 unfoldable pub splits : List ℕ → Bool
-splits input = leb 8 (length input) && headerRight input && leb (saidLength input) (length input)
+splits input = leb 8 (length input) && claimHeaderRight input && leb (saidLength input) (length input)
 
 -- "the claim, as long as its header says, and directly after it the proof"
 unfoldable pub claimEnd : List ℕ → ℕ

@@ -18,8 +18,8 @@ use Rattle.checks.specs.declared.proof_checks.RowRule.{RowRule}
 use Rattle.checks.specs.declared.proof_checks.RowRule.the-variants.{Exponent, Midpoint, Unused, Weight}
 
 -- "Byte 0: n, as in the claim. Byte 1: zero. Bytes 2 and 3: k, rows, 0 to 256. Bytes 4 to 7: the scale S, 1 to 2^20"
-unfoldable pub headerRight : ℕ → ℕ → List ℕ → Bool
-headerRight limit n s =
+unfoldable pub proofHeaderRight : ℕ → ℕ → List ℕ → Bool
+proofHeaderRight limit n s =
     eqb (variables s) n && eqb (getD s 1 0) 0 && leb (rowCount s) limit
     && leb 1 (scaleOf s) && leb (scaleOf s) greatestScale
 
@@ -27,7 +27,7 @@ headerRight limit n s =
 unfoldable pub headerAnswer : ℕ → List ℕ → Answer
 headerAnswer n s =
     refuseIf (ltb (length s) 8) 8
-    (refuseIf (not (headerRight mostRows n s)) 9
+    (refuseIf (not (proofHeaderRight mostRows n s)) 9
     (refuseIf (not (eqb (length s) (proofLength (shapeOf s)))) 10
     (accepted 0)))
 
@@ -39,22 +39,22 @@ qOrR x = not (eqb (natAbs (x .q)) 0) || not (eqb (natAbs (x .r)) 0)
 unfoldable pub anyBeyond : ℕ → Triple → Bool
 anyBeyond limit x = beyond limit (x .p) || beyond limit (x .q) || beyond limit (x .r)
 
--- row i breaks a rule: "exponent over" the limit, "no whole midpoint", "lone row, q or r not zero", "proposed weight
+-- row i rowBreaks a rule: "exponent over" the limit, "no whole midpoint", "lone row, q or r not zero", "proposed weight
 -- beyond" the limit
-unfoldable pub breaks : RowRule → List ℕ → Shape → ℕ → Bool
-breaks (Exponent limit) s shape i =
+unfoldable pub rowBreaks : RowRule → List ℕ → Shape → ℕ → Bool
+rowBreaks (Exponent limit) s shape i =
     not (exponentsWithin limit (vOf s shape i)) || not (exponentsWithin limit (wOf s shape i))
-breaks Midpoint s shape i = not (hasMidpoint (vOf s shape i) (wOf s shape i))
-breaks Unused s shape i = samePoint (vOf s shape i) (wOf s shape i) && qOrR (tripleOf s shape i)
-breaks (Weight limit) s shape i = anyBeyond limit (tripleOf s shape i)
+rowBreaks Midpoint s shape i = not (hasMidpoint (vOf s shape i) (wOf s shape i))
+rowBreaks Unused s shape i = samePoint (vOf s shape i) (wOf s shape i) && qOrR (tripleOf s shape i)
+rowBreaks (Weight limit) s shape i = anyBeyond limit (tripleOf s shape i)
 
 -- 12 to 15
 unfoldable pub rowsAnswer : List ℕ → Shape → Answer
 rowsAnswer s shape =
-    refuseAt (first (breaks (Exponent greatestExponent) s shape) (shape .k)) 12
-    (refuseAt (first (breaks Midpoint s shape) (shape .k)) 13
-    (refuseAt (first (breaks Unused s shape) (shape .k)) 14
-    (refuseAt (first (breaks (Weight greatestWeight) s shape) (shape .k)) 15
+    refuseAt (first (rowBreaks (Exponent greatestExponent) s shape) (shape .k)) 12
+    (refuseAt (first (rowBreaks Midpoint s shape) (shape .k)) 13
+    (refuseAt (first (rowBreaks Unused s shape) (shape .k)) 14
+    (refuseAt (first (rowBreaks (Weight greatestWeight) s shape) (shape .k)) 15
     (accepted 0))))
 
 -- three numbers within ± a limit

@@ -28,7 +28,7 @@ ghost use lib.ListN.{length};
 ghost use Rattle.answers.specs.Answers.{says};
 ghost use Rattle.answers.specs.Searches.{first};
 ghost use Rattle.sheets.specs.Layout.{ProofRoom};
-ghost use Rattle.checks.specs.ProofChecks.{headerRight, headerAnswer, qOrR, anyBeyond, breaks, rowsAnswer};
+ghost use Rattle.checks.specs.ProofChecks.{proofHeaderRight, headerAnswer, qOrR, anyBeyond, rowBreaks, rowsAnswer};
 ghost use Rattle.checks.specs.declared.proof_checks.RowRule.the-variants.{Exponent, Midpoint, Unused, Weight};
 
 // What every row has to keep, with its limit.
@@ -46,7 +46,7 @@ pub enum RowRule {
 // 9: whether n is not the claim's, or byte 1, k or S is wrong.
 fn header_wrong(proof: &[u8], n: usize, limit: usize) -> bool
     requires { ⌜ 8 ≤ length (now proof) ⌝ }
-    ensures { λ r. ⌜ r ≡ not (headerRight limit n (now (proof .entry))) ⌝ }
+    ensures { λ r. ⌜ r ≡ not (proofHeaderRight limit n (now (proof .entry))) ⌝ }
 {
     if variables(proof) != n {
         return true;
@@ -83,7 +83,7 @@ pub fn check_header(proof: &[u8], n: usize) -> Verdict
 // 12: whether row i has an exponent over the limit.
 fn exponent_wrong(proof: &[u8], shape: Shape, i: usize, limit: u8) -> bool
     requires { ⌜ (ProofRoom (now proof) shape) × (i < shape .k) ⌝ }
-    ensures { λ r. ⌜ r ≡ breaks (Exponent limit) (now (proof .entry)) shape i ⌝ }
+    ensures { λ r. ⌜ r ≡ rowBreaks (Exponent limit) (now (proof .entry)) shape i ⌝ }
 {
     if exponents_within(row_v(proof, shape, i), limit) {
         return !exponents_within(row_w(proof, shape, i), limit);
@@ -94,7 +94,7 @@ fn exponent_wrong(proof: &[u8], shape: Shape, i: usize, limit: u8) -> bool
 // 13: whether row i has no whole midpoint.
 fn midpoint_wrong(proof: &[u8], shape: Shape, i: usize) -> bool
     requires { ⌜ (ProofRoom (now proof) shape) × (i < shape .k) ⌝ }
-    ensures { λ r. ⌜ r ≡ breaks Midpoint (now (proof .entry)) shape i ⌝ }
+    ensures { λ r. ⌜ r ≡ rowBreaks Midpoint (now (proof .entry)) shape i ⌝ }
 {
     !has_midpoint(row_v(proof, shape, i), row_w(proof, shape, i))
 }
@@ -112,7 +112,7 @@ fn q_or_r(x: Triple) -> bool
 // 14: whether row i is lone, and q or r is not zero.
 fn unused_wrong(proof: &[u8], shape: Shape, i: usize) -> bool
     requires { ⌜ (ProofRoom (now proof) shape) × (i < shape .k) ⌝ }
-    ensures { λ r. ⌜ r ≡ breaks Unused (now (proof .entry)) shape i ⌝ }
+    ensures { λ r. ⌜ r ≡ rowBreaks Unused (now (proof .entry)) shape i ⌝ }
 {
     if same(row_v(proof, shape, i), row_w(proof, shape, i)) {
         return q_or_r(row_triple(proof, shape, i));
@@ -133,10 +133,10 @@ pub fn any_beyond(x: Triple, limit: u64) -> bool
     is_beyond(x.r, limit)
 }
 
-// Whether row i breaks a rule.
+// Whether row i rowBreaks a rule.
 fn row_wrong(rule: RowRule, proof: &[u8], shape: Shape, i: usize) -> bool
     requires { ⌜ (ProofRoom (now proof) shape) × (i < shape .k) ⌝ }
-    ensures { λ r. ⌜ r ≡ breaks rule (now (proof .entry)) shape i ⌝ }
+    ensures { λ r. ⌜ r ≡ rowBreaks rule (now (proof .entry)) shape i ⌝ }
 {
     match rule {
         RowRule::Exponent(limit) => exponent_wrong(proof, shape, i, limit),
@@ -146,10 +146,10 @@ fn row_wrong(rule: RowRule, proof: &[u8], shape: Shape, i: usize) -> bool
     }
 }
 
-// The first row that breaks a rule.
+// The first row that rowBreaks a rule.
 fn first_row(rule: RowRule, proof: &[u8], shape: Shape) -> Found
     requires { ⌜ ProofRoom (now proof) shape ⌝ }
-    ensures { λ r. ⌜ r ≡ first (breaks rule (now (proof .entry)) shape) (shape .k) ⌝ }
+    ensures { λ r. ⌜ r ≡ first (rowBreaks rule (now (proof .entry)) shape) (shape .k) ⌝ }
 {
     let mut i = 0;
     while i < shape.k {

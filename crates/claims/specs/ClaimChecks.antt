@@ -20,28 +20,28 @@ unfoldable pub countsRight : List ℕ → Bool
 countsRight c = leb 1 (variables c) && leb (variables c) mostVariables && leb (termCount c) mostTerms
 
 -- "Bytes 2 and 3: zero"
-unfoldable pub headerRight : List ℕ → Bool
-headerRight c = countsRight c && eqb (getD c 2 0) 0 && eqb (getD c 3 0) 0
+unfoldable pub claimHeaderRight : List ℕ → Bool
+claimHeaderRight c = countsRight c && eqb (getD c 2 0) 0 && eqb (getD c 3 0) 0
 
--- term i breaks a rule: "coefficient zero or beyond", "exponent over" the limit, "point not above the one before"
-unfoldable pub breaks : TermRule → List ℕ → ℕ → ℕ → ℕ → Bool
-breaks (Coefficient limit) c n t i = eqb (natAbs (coefficientOf c n t i)) 0 || beyond limit (coefficientOf c n t i)
-breaks (Exponent limit) c n t i = not (exponentsWithin limit (termPoint c n i))
-breaks Order c n t i = ltb 0 i && not (risesTo (termPoint c n (i - 1)) (termPoint c n i))
+-- term i termBreaks a rule: "coefficient zero or beyond", "exponent over" the limit, "point not above the one before"
+unfoldable pub termBreaks : TermRule → List ℕ → ℕ → ℕ → ℕ → Bool
+termBreaks (Coefficient limit) c n t i = eqb (natAbs (coefficientOf c n t i)) 0 || beyond limit (coefficientOf c n t i)
+termBreaks (Exponent limit) c n t i = not (exponentsWithin limit (termPoint c n i))
+termBreaks Order c n t i = ltb 0 i && not (risesTo (termPoint c n (i - 1)) (termPoint c n i))
 
 -- 5 to 7
 unfoldable pub termsAnswer : List ℕ → ℕ → ℕ → Answer
 termsAnswer c n t =
-    refuseAt (first (breaks (Coefficient greatestWeight) c n t) t) 5
-    (refuseAt (first (breaks (Exponent greatestExponent) c n t) t) 6
-    (refuseAt (first (breaks Order c n t) t) 7
+    refuseAt (first (termBreaks (Coefficient greatestWeight) c n t) t) 5
+    (refuseAt (first (termBreaks (Exponent greatestExponent) c n t) t) 6
+    (refuseAt (first (termBreaks Order c n t) t) 7
     (accepted 0)))
 
 -- 1 to 7
 unfoldable pub claimAnswer : List ℕ → Answer
 claimAnswer c =
     refuseIf (ltb (length c) 8) 1
-    (refuseIf (not (headerRight c)) 2
+    (refuseIf (not (claimHeaderRight c)) 2
     (refuseIf (not (eqb (length c) (claimLength (variables c) (termCount c)))) 3
     (refuseIf (beyond greatestWeight (floorOf c)) 4
     (termsAnswer c (variables c) (termCount c)))))

@@ -23,7 +23,7 @@ ghost use lib.ListN.{length};
 ghost use Rattle.answers.specs.Answers.{says};
 ghost use Rattle.answers.specs.Searches.{first};
 ghost use Rattle.sheets.specs.Layout.{ClaimRoom};
-ghost use Rattle.claims.specs.ClaimChecks.{countsRight, headerRight, breaks, termsAnswer, claimAnswer};
+ghost use Rattle.claims.specs.ClaimChecks.{countsRight, claimHeaderRight, termBreaks, termsAnswer, claimAnswer};
 ghost use Rattle.claims.specs.declared.claim_checks.TermRule.the-variants.{Coefficient, Exponent, Order};
 
 // What every term has to keep, with its limit.
@@ -54,7 +54,7 @@ fn counts_wrong(claim: &[u8]) -> bool
 // 2: whether n, t or bytes 2 and 3 are wrong.
 pub fn header_wrong(claim: &[u8]) -> bool
     requires { ⌜ 8 ≤ length (now claim) ⌝ }
-    ensures { λ r. ⌜ r ≡ not (headerRight (now (claim .entry))) ⌝ }
+    ensures { λ r. ⌜ r ≡ not (claimHeaderRight (now (claim .entry))) ⌝ }
 {
     if counts_wrong(claim) {
         return true;
@@ -68,7 +68,7 @@ pub fn header_wrong(claim: &[u8]) -> bool
 // 5: whether coefficient i is zero or beyond the limit.
 fn coefficient_wrong(claim: &[u8], n: usize, t: usize, i: usize, limit: u64) -> bool
     requires { ⌜ (ClaimRoom (now claim) n t) × (i < t) ⌝ }
-    ensures { λ r. ⌜ r ≡ breaks (Coefficient limit) (now (claim .entry)) n t i ⌝ }
+    ensures { λ r. ⌜ r ≡ termBreaks (Coefficient limit) (now (claim .entry)) n t i ⌝ }
 {
     let x = coefficient(claim, n, t, i);
     if magnitude(x) == 0 {
@@ -80,7 +80,7 @@ fn coefficient_wrong(claim: &[u8], n: usize, t: usize, i: usize, limit: u64) -> 
 // 6: whether term i has an exponent over the limit.
 fn exponent_wrong(claim: &[u8], n: usize, t: usize, i: usize, limit: u8) -> bool
     requires { ⌜ (ClaimRoom (now claim) n t) × (i < t) ⌝ }
-    ensures { λ r. ⌜ r ≡ breaks (Exponent limit) (now (claim .entry)) n t i ⌝ }
+    ensures { λ r. ⌜ r ≡ termBreaks (Exponent limit) (now (claim .entry)) n t i ⌝ }
 {
     !exponents_within(term_point(claim, n, t, i), limit)
 }
@@ -88,7 +88,7 @@ fn exponent_wrong(claim: &[u8], n: usize, t: usize, i: usize, limit: u8) -> bool
 // 7: whether point i is not above the one before.
 fn order_wrong(claim: &[u8], n: usize, t: usize, i: usize) -> bool
     requires { ⌜ (ClaimRoom (now claim) n t) × (i < t) ⌝ }
-    ensures { λ r. ⌜ r ≡ breaks Order (now (claim .entry)) n t i ⌝ }
+    ensures { λ r. ⌜ r ≡ termBreaks Order (now (claim .entry)) n t i ⌝ }
 {
     if i == 0 {
         return false;
@@ -96,10 +96,10 @@ fn order_wrong(claim: &[u8], n: usize, t: usize, i: usize) -> bool
     !rises(term_point(claim, n, t, i - 1), term_point(claim, n, t, i))
 }
 
-// Whether term i breaks a rule.
+// Whether term i termBreaks a rule.
 fn term_wrong(rule: TermRule, claim: &[u8], n: usize, t: usize, i: usize) -> bool
     requires { ⌜ (ClaimRoom (now claim) n t) × (i < t) ⌝ }
-    ensures { λ r. ⌜ r ≡ breaks rule (now (claim .entry)) n t i ⌝ }
+    ensures { λ r. ⌜ r ≡ termBreaks rule (now (claim .entry)) n t i ⌝ }
 {
     match rule {
         TermRule::Coefficient(limit) => coefficient_wrong(claim, n, t, i, limit),
@@ -108,10 +108,10 @@ fn term_wrong(rule: TermRule, claim: &[u8], n: usize, t: usize, i: usize) -> boo
     }
 }
 
-// The first term that breaks a rule.
+// The first term that termBreaks a rule.
 fn first_term(rule: TermRule, claim: &[u8], n: usize, t: usize) -> Found
     requires { ⌜ ClaimRoom (now claim) n t ⌝ }
-    ensures { λ r. ⌜ r ≡ first (breaks rule (now (claim .entry)) n t) t ⌝ }
+    ensures { λ r. ⌜ r ≡ first (termBreaks rule (now (claim .entry)) n t) t ⌝ }
 {
     let mut i = 0;
     while i < t {

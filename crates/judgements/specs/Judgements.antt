@@ -1,4 +1,4 @@
--- Judgements: the rules 17 to 19 for a shifted row, and over all rows in the order of their numbers.
+-- Judgements: the rules 17 to 19 for a row, and over all rows in the order of their numbers.
 use mathlib.Core.Bool.{Bool, cond, _||_}
 use Prim.Native.Nat.{ℕ}
 use lib.Dec.{eqb}
@@ -49,8 +49,10 @@ numberOf Beyond = 17
 numberOf Negative = 18
 numberOf Indefinite = 19
 
--- ---- all rows, given by an index
+-- ---- all rows, given by an index. A row counts under the first rule that it breaks: 17 over any row comes before
+-- 18 over any, and 18 before 19, so that changes no answer.
 
+-- row i is judged by the rule of a number
 unfoldable pub judgedAs : ℕ → ℕ → (ℕ → Row) → ℕ → Bool
 judgedAs number limit row i = eqb (numberOf (judgementOf limit (row i .weights))) number
 
@@ -68,7 +70,7 @@ judgedAnswer f k = refuseAt (f .beyond) 17 (refuseAt (f .negative) 18 (refuseAt 
 
 -- ---- one row more, as the code goes over them
 
--- what was found before, or else index i where it is hit
+-- what was found before, or else i where row i counts
 unfoldable pub kept : Found → Bool → ℕ → Found
 kept (At j) hit i = At j
 kept Nothing hit i = cond hit (At i) Nothing

@@ -82,7 +82,7 @@ fn judge_lone(p: i64, limit: u64) -> Judgement
     Judgement::Holds
 }
 
-// The pair is let through; a lone row is judged by its slot.
+// A row by its weights: a pair goes on to its three rules, a lone row is judged by its one slot.
 pub fn judge(row: Row, limit: u64) -> Judgement
     requires { ⌜ limit ≤ greatestWeight ⌝ }
     ensures { λ o. ⌜ o ≡ judgementOf limit (row .weights) ⌝ }

@@ -47,10 +47,11 @@ risesTo [] w = false
 risesTo (a ∷ v) [] = false
 risesTo (a ∷ v) (b ∷ w) = cond (ltb a b) true (cond (ltb b a) false (risesTo v w))
 
--- "every v + w coordinate is even"
+-- half the sum of two exponents is whole
 unfoldable pub evenSum : ℕ → ℕ → Bool
 evenSum a b = eqb ((a + b) % 2) 0
 
+-- "every v + w coordinate is even", of points with as many variables
 unfoldable pub hasMidpoint : Exponents → Exponents → Bool
 hasMidpoint v w = everyPair evenSum v w
 
@@ -68,7 +69,7 @@ keepsSign α = every (λ e. eqb (e % 2) 0) α
 unfoldable pub exponentsWithin : ℕ → Exponents → Bool
 exponentsWithin limit α = every (λ e. leb e limit) α
 
--- ---- the same tests as the code has them, one for each of the four: the last two look at the first exponent alone
+-- ---- the same tests as the code has them; `Even` and `Within` look at the first point alone
 
 unfoldable pub passes : Test → ℕ → ℕ → Bool
 passes Equal a b = eqb a b

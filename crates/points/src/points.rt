@@ -6,7 +6,7 @@ ghost use lib.ListN.{length};
 ghost use Rattle.bounds.specs.Bounds.{mostVariables};
 ghost use Rattle.points.specs.Points.{exponents, pointOf, bytesAt, everyPair, passes, samePoint, risesTo, hasMidpoint, midpointOf, keepsSign, exponentsWithin};
 
-// The exponents of n variables, in the first n places; no point has more variables than places.
+// The exponents of n variables, in the first n places. Where n is over the number of places, all of them count.
 pub struct Point {
     pub exps: [u8; MOST_VARIABLES],
     pub n: usize,
@@ -50,7 +50,7 @@ pub enum Test {
     Within(u8),
 }
 
-// Whether two exponents pass a test; the last two look at the first alone.
+// Whether two exponents pass a test; `Even` and `Within` look at x alone.
 fn passes(test: Test, x: u8, y: u8) -> bool
     ensures { λ r. ⌜ r ≡ passes test x y ⌝ }
 {
@@ -118,6 +118,7 @@ pub fn rises(a: Point, b: Point) -> bool
     let n = fewer(a.variables(), b.variables());
     let x = a.exps;
     let y = b.exps;
+    // so many variables are still to be compared
     let mut left = n;
     while 0 < left {
         let i = n - left;
@@ -132,7 +133,7 @@ pub fn rises(a: Point, b: Point) -> bool
     false
 }
 
-// Half the sum of two exponents.
+// Half the sum of two exponents, which is a byte too.
 fn half(x: u8, y: u8) -> u8
     ensures { λ r. ⌜ r ≡ (x + y) / 2 ⌝ }
 {

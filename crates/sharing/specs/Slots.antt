@@ -29,10 +29,9 @@ holdsPoint s shape α i = ltb 0 (count α (slotsOf (rowOf s shape i)))
 pub record HoldsKey (s : List ℕ) (shape : Shape) (key i : ℕ) (answer : Bool) : Type 0 where
   pub holds : (α : Exponents) → Carried (shape .n) α → key ≡ keyOf α → answer ≡ holdsPoint s shape α i
 
--- ---- by keys, as the code counts: `held-at` of proofs/slots/Laws.antt shows that it is the same as at the point with
--- the key
+-- ---- tallies by keys, as the code counts: `held-at` of proofs/slots/Laws.antt shows that they are those at the point
 
--- a tally that leaves room for more
+-- a tally that leaves room for more: 768 slots of the greatest weight stay far below
 pub record Small (a : Tally) : Type 0 where
   pub sum-small : natAbs (a .sum) ≤ 2 ^ 42
   pub count-small : a .count ≤ 2 ^ 20

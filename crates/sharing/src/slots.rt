@@ -20,7 +20,7 @@ pub struct Tally {
     pub count: u32,
 }
 
-// The same of all rows, with the number of slots that come before one of them.
+// The same of all rows, with the number of slots there that come before one slot.
 pub struct Holding {
     pub sum: i64,
     pub count: u32,

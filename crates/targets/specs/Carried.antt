@@ -7,6 +7,7 @@ use Rattle.bounds.specs.Bounds.{greatestExponent}
 use Rattle.points.specs.Points.{Exponents, exponentsWithin}
 use Rattle.keys.specs.Keys.{keyOf}
 
+-- n exponents, none over the greatest
 pub record Carried (n : ℕ) (α : Exponents) : Type 0 where
   pub sized : length α ≡ n
   pub within : exponentsWithin greatestExponent α ≡ true

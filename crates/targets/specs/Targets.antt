@@ -21,8 +21,8 @@ use Rattle.targets.specs.declared.targets.Aim.{Aim}
 
 -- a floor and a scale that the sheets can hold
 pub record AimWithin (a : Aim) : Type 0 where
-  pub floor : natAbs (a .floor) ≤ greatestWeight
-  pub scale : a .scale ≤ greatestScale
+  pub floor-within : natAbs (a .floor) ≤ greatestWeight
+  pub scale-within : a .scale ≤ greatestScale
 
 -- the claim's floor and the proof's scale
 unfoldable pub aimOf : List ℕ → List ℕ → Aim
@@ -32,7 +32,7 @@ aimOf c s = record { floor = floorOf c; scale = scaleOf s }
 unfoldable pub targetOf : List ℕ → Aim → Exponents → ℤ
 targetOf c a α = target (a .scale) (lowered (variables c) (a .floor) (termsOf c)) α
 
--- a point that sheets can hold, with its key, beside a claim that passes 1 to 7
+-- a point that sheets can hold, with its key, beside a claim that passes 1 to 7 and an aim within its bounds
 pub record Targeted (c : List ℕ) (a : Aim) (α : Exponents) (key : ℕ) : Type 0 where
   pub claim : ClaimFacts c (variables c) (termCount c)
   pub aim : AimWithin a
@@ -46,12 +46,12 @@ unfoldable pub hasKey : List ℕ → ℕ → ℕ → ℕ → Bool
 hasKey c n key i = eqb key (keyOf (termPoint c n i))
 
 -- the coefficient of the term that was found, 0 where none was
-unfoldable pub foundAt : List ℕ → ℕ → ℕ → Found → ℤ
-foundAt c n t (At i) = coefficientOf c n t i
-foundAt c n t Nothing = pos 0
+unfoldable pub coefficientFound : List ℕ → ℕ → ℕ → Found → ℤ
+coefficientFound c n t (At i) = coefficientOf c n t i
+coefficientFound c n t Nothing = pos 0
 
 unfoldable pub coefficientWith : List ℕ → ℕ → ℕ → ℕ → ℤ
-coefficientWith c n t key = foundAt c n t (first (hasKey c n key) t)
+coefficientWith c n t key = coefficientFound c n t (first (hasKey c n key) t)
 
 -- a coefficient, with the floor taken from it where it is the constant's
 unfoldable pub loweredBy : Aim → ℕ → ℤ → ℤ

@@ -21,7 +21,7 @@ ghost use Rattle.sheets.specs.ClaimSheet.{termPoint};
 ghost use Rattle.claims.specs.ClaimChecks.{ClaimFacts};
 ghost use Rattle.targets.specs.Targets.{aimOf, AimWithin, Targeted, targetOf, hasKey, coefficientWith, loweredBy, targetWith};
 
-// What the weights are to aim at: the floor, and the scale.
+// What a target depends on besides the claim's terms: the floor, and the scale.
 pub struct Aim {
     pub floor: i64,
     pub scale: u64,
@@ -62,7 +62,7 @@ fn find_term(claim: &[u8], n: usize, t: usize, key: u64) -> Found
 }
 
 // The coefficient of the term that has a key, 0 where there is none.
-fn coefficient_at(claim: &[u8], n: usize, t: usize, key: u64) -> i64
+fn coefficient_with(claim: &[u8], n: usize, t: usize, key: u64) -> i64
     requires { ⌜ ClaimFacts (now claim) n t ⌝ }
     ensures { λ r. ⌜ (r ≡ coefficientWith (now (claim .entry)) n t key) × (natAbs r ≤ greatestWeight) ⌝ }
 {
@@ -120,7 +120,7 @@ pub fn target_at(claim: &[u8], aim: Aim, p: Point, key: u64) -> i64
 {
     let n = variables(claim);
     let t = term_count(claim);
-    target_with(aim, p, key, coefficient_at(claim, n, t, key))
+    target_with(aim, p, key, coefficient_with(claim, n, t, key))
 }
 
 // The target at the point of term i, with its key.

@@ -33,9 +33,10 @@ small-worked : map (λ (c : Case). formedAnswer (c .claim) (c .proof)) small ≡
 unfolding
     u32At i32At table bytesAt every everyPair samePoint risesTo evenSum hasMidpoint exponentsWithin accepted
     refused refuseIf refuseAt blameless andThen first beyond floorOf termPoint coefficientOf C.countsRight
-    C.headerRight C.breaks C.termsAnswer C.claimAnswer scaleOf vOf wOf wordsAt tripleOf P.headerRight
-    P.headerAnswer P.qOrR P.anyBeyond P.breaks P.rowsAnswer headAnswer formedAnswer joined word words claimOf
-    proofOf squareWith square squareProof claims proves twoTerms oneRow full manyPoints manyRows small
+    C.claimHeaderRight C.termBreaks C.termsAnswer C.claimAnswer scaleOf vOf wOf wordsAt tripleOf
+    P.proofHeaderRight P.headerAnswer P.qOrR P.anyBeyond P.rowBreaks P.rowsAnswer headAnswer formedAnswer joined
+    word words claimOf proofOf squareWith square squareProof claims proves twoTerms oneRow full manyPoints
+    manyRows small
 small-worked = refl
 
 -- ---- 256 rows
@@ -67,8 +68,8 @@ word-zero : (at : ℕ) → 520 ≤ at → i32At many at ≡ pos 0
 unfolding u32At i32At
 word-zero at h = rw (far at h, far (at + 1) (omega arith), far (at + 2) (omega arith), far (at + 3) (omega arith))
 
-weights-light : (i : ℕ) → P.breaks (R.Weight greatestWeight) many shape i ≡ false
-unfolding P.breaks P.anyBeyond beyond tripleOf wordsAt
+weights-light : (i : ℕ) → P.rowBreaks (R.Weight greatestWeight) many shape i ≡ false
+unfolding P.rowBreaks P.anyBeyond beyond tripleOf wordsAt
 weights-light i =
     rw (
       word-zero (tripleAt shape i) (omega arith),
@@ -76,16 +77,16 @@ weights-light i =
       word-zero (tripleAt shape i + 8) (omega arith),
     )
 
-exponents-low : Nothing ≡ first (P.breaks (R.Exponent greatestExponent) many shape) 256
-unfolding first P.breaks exponentsWithin every vOf wOf bytesAt table many manyRows manyPoints joined word
+exponents-low : Nothing ≡ first (P.rowBreaks (R.Exponent greatestExponent) many shape) 256
+unfolding first P.rowBreaks exponentsWithin every vOf wOf bytesAt table many manyRows manyPoints joined word
 exponents-low = refl
 
-midpoints-whole : Nothing ≡ first (P.breaks R.Midpoint many shape) 256
-unfolding first P.breaks hasMidpoint everyPair evenSum vOf wOf bytesAt table many manyRows manyPoints joined word
+midpoints-whole : Nothing ≡ first (P.rowBreaks R.Midpoint many shape) 256
+unfolding first P.rowBreaks hasMidpoint everyPair evenSum vOf wOf bytesAt table many manyRows manyPoints joined word
 midpoints-whole = refl
 
-none-lone : Nothing ≡ first (P.breaks R.Unused many shape) 256
-unfolding first P.breaks samePoint everyPair vOf wOf bytesAt table many manyRows manyPoints joined word
+none-lone : Nothing ≡ first (P.rowBreaks R.Unused many shape) 256
+unfolding first P.rowBreaks samePoint everyPair vOf wOf bytesAt table many manyRows manyPoints joined word
 none-lone = refl
 
 rows-right : says (Accepted 0) ≡ P.rowsAnswer many shape
@@ -98,14 +99,14 @@ rows-right =
 
 claim-right : says (Accepted 0) ≡ C.claimAnswer square
 unfolding
-    says accepted refuseIf refuseAt first C.claimAnswer C.termsAnswer C.countsRight C.headerRight C.breaks
-    floorOf termPoint coefficientOf i32At u32At bytesAt table beyond exponentsWithin every risesTo squareWith
-    square claimOf joined word words
+    says accepted refuseIf refuseAt first C.claimAnswer C.termsAnswer C.countsRight C.claimHeaderRight
+    C.termBreaks floorOf termPoint coefficientOf i32At u32At bytesAt table beyond exponentsWithin every risesTo
+    squareWith square claimOf joined word words
 claim-right = refl
 
 header-right : says (Accepted 0) ≡ P.headerAnswer 1 many
 unfolding
-    says accepted refuseIf P.headerAnswer P.headerRight scaleOf u32At many manyRows manyPoints joined word
+    says accepted refuseIf P.headerAnswer P.proofHeaderRight scaleOf u32At many manyRows manyPoints joined word
 header-right = refl
 
 head-right : says (Accepted 0) ≡ headAnswer square many

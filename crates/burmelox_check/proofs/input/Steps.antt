@@ -6,7 +6,7 @@ use Prim.Native.Nat.{ℕ, _+_, _<_, _≤_}
 use lib.ListN.{length}
 use borrow.Author.Tests.{le-leb, lt-leb, not-true, not-false}
 use Rattle.sheets.specs.Layout.{variables, termCount, place}
-use Rattle.claims.specs.ClaimChecks.{headerRight}
+use Rattle.claims.specs.ClaimChecks.{claimHeaderRight}
 use Rattle.burmelox_check.specs.Input.{saidLength, splits, claimEnd}
 
 module _ (input : List ℕ) where
@@ -14,15 +14,15 @@ module _ (input : List ℕ) where
   unfolding claimEnd splits
   end-short h = rw (lt-leb 8 (length input) h)
 
-  module _ (long : 8 ≤ length input) (wrong : Bool) (e : wrong ≡ not (headerRight input)) where
+  module _ (long : 8 ≤ length input) (wrong : Bool) (e : wrong ≡ not (claimHeaderRight input)) where
     pub end-wrong : wrong ≡ true → length input ≡ claimEnd input
     unfolding claimEnd splits
-    end-wrong h = rw (le-leb 8 (length input) long, not-true (headerRight input) (sym e ∙ h))
+    end-wrong h = rw (le-leb 8 (length input) long, not-true (claimHeaderRight input) (sym e ∙ h))
 
     module _ (h : wrong ≡ false) (end n t : ℕ) (ee : end ≡ place 8 t (n + 4)) (et : t ≡ termCount input)
         (en : n ≡ variables input) where
-      right : headerRight input ≡ true
-      right = not-false (headerRight input) (sym e ∙ h)
+      right : claimHeaderRight input ≡ true
+      right = not-false (claimHeaderRight input) (sym e ∙ h)
 
       is-said : saidLength input ≡ end
       unfolding saidLength

@@ -20,7 +20,7 @@ use Rattle.sheets.specs.Layout.{variables, rowCount, shapeOf, proofLength}
 use Rattle.sheets.specs.ProofSheet.{vOf, wOf, tripleOf}
 use Rattle.sheets.specs.declared.layout.Shape.{Shape}
 use Rattle.sheets.specs.declared.proof_sheet.Triple.{Triple}
-use Rattle.checks.specs.ProofChecks.{headerRight, headerAnswer, qOrR, anyBeyond, breaks, rowsAnswer, Within, HeaderFacts, ProofFacts}
+use Rattle.checks.specs.ProofChecks.{proofHeaderRight, headerAnswer, qOrR, anyBeyond, rowBreaks, rowsAnswer, Within, HeaderFacts, ProofFacts}
 use Rattle.checks.specs.declared.proof_checks.RowRule.the-variants.{Exponent, Midpoint, Unused, Weight}
 
 -- ---- what each check says that is passed
@@ -48,30 +48,30 @@ module _ (limit : ℕ) (x : Triple) where
       )
 
 module _ (s : List ℕ) (sh : Shape) (i : ℕ) where
-  ends-facts : breaks (Exponent greatestExponent) s sh i ≡ false
+  ends-facts : rowBreaks (Exponent greatestExponent) s sh i ≡ false
       → (exponentsWithin greatestExponent (vOf s sh i) ≡ true) × (exponentsWithin greatestExponent (wOf s sh i) ≡ true)
-  unfolding breaks
+  unfolding rowBreaks
   ends-facts h = let z = nor _ _ h in (not-false _ (z .0), not-false _ (z .1))
 
-  whole-fact : breaks Midpoint s sh i ≡ false → hasMidpoint (vOf s sh i) (wOf s sh i) ≡ true
-  unfolding breaks
+  whole-fact : rowBreaks Midpoint s sh i ≡ false → hasMidpoint (vOf s sh i) (wOf s sh i) ≡ true
+  unfolding rowBreaks
   whole-fact h = not-false _ h
 
-  unused-facts : breaks Unused s sh i ≡ false → samePoint (vOf s sh i) (wOf s sh i) ≡ true
+  unused-facts : rowBreaks Unused s sh i ≡ false → samePoint (vOf s sh i) (wOf s sh i) ≡ true
       → (tripleOf s sh i .q ≡ pos 0) × (tripleOf s sh i .r ≡ pos 0)
-  unfolding breaks qOrR
+  unfolding rowBreaks qOrR
   unused-facts h e =
       let z = nor _ _ (nand (samePoint (vOf s sh i) (wOf s sh i)) _ h e) in
       (abs-zero _ (eqb-true _ _ (not-false _ (z .0))), abs-zero _ (eqb-true _ _ (not-false _ (z .1))))
 
-  weights-fact : breaks (Weight greatestWeight) s sh i ≡ false → Within greatestWeight (tripleOf s sh i)
-  unfolding breaks
+  weights-fact : rowBreaks (Weight greatestWeight) s sh i ≡ false → Within greatestWeight (tripleOf s sh i)
+  unfolding rowBreaks
   weights-fact h = none-beyond greatestWeight _ h
 
 -- 8 to 10, beside a claim of n variables
 pub header-facts : (n : ℕ) (s : List ℕ) → 1 ≤ n → n ≤ mostVariables → Passes (headerAnswer n s)
     → (variables s ≡ n) × HeaderFacts s (shapeOf s)
-unfolding headerAnswer headerRight
+unfolding headerAnswer proofHeaderRight
 header-facts n s some few h =
     let p₈ = passes-if _ 8 _ refl h in
     let p₉ = passes-if _ 9 _ refl (p₈ .1) in

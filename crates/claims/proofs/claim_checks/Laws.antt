@@ -22,33 +22,33 @@ use Rattle.points.specs.Points.{samePoint, risesTo, exponentsWithin}
 use Rattle.points.proofs.points.Laws.{same-eq, rises-self, rises-trans}
 use Rattle.sheets.specs.Layout.{variables, termCount, ClaimRoom, claimLength}
 use Rattle.sheets.specs.ClaimSheet.{floorOf, termPoint, coefficientOf}
-use Rattle.claims.specs.ClaimChecks.{breaks, termsAnswer, claimAnswer, ClaimFacts, countsRight, headerRight}
+use Rattle.claims.specs.ClaimChecks.{termBreaks, termsAnswer, claimAnswer, ClaimFacts, countsRight, claimHeaderRight}
 use Rattle.claims.specs.declared.claim_checks.TermRule.the-variants.{Coefficient, Exponent, Order}
 
 -- ---- what each check says that is passed
 
 module _ (c : List ℕ) (n t i : ℕ) where
-  coefficient-fact : breaks (Coefficient greatestWeight) c n t i ≡ false
+  coefficient-fact : termBreaks (Coefficient greatestWeight) c n t i ≡ false
       → natAbs (coefficientOf c n t i) ≤ greatestWeight
-  unfolding breaks
+  unfolding termBreaks
   coefficient-fact h = within-bound greatestWeight _ (nor (eqb (natAbs (coefficientOf c n t i)) 0) _ h .1)
 
-  exponents-fact : breaks (Exponent greatestExponent) c n t i ≡ false
+  exponents-fact : termBreaks (Exponent greatestExponent) c n t i ≡ false
       → exponentsWithin greatestExponent (termPoint c n i) ≡ true
-  unfolding breaks
+  unfolding termBreaks
   exponents-fact h = not-false _ h
 
-  rising-fact : breaks Order c n t (suc i) ≡ false → risesTo (termPoint c n i) (termPoint c n (suc i)) ≡ true
-  unfolding breaks
+  rising-fact : termBreaks Order c n t (suc i) ≡ false → risesTo (termPoint c n i) (termPoint c n (suc i)) ≡ true
+  unfolding termBreaks
   rising-fact h =
       let e : suc i - 1 ≡ i = omega arith in
       let z = nand (ltb 0 (suc i)) _ h (lt-ltb 0 (suc i) (omega arith)) in
       rw e at (not-false (risesTo (termPoint c n (suc i - 1)) (termPoint c n (suc i))) z)
 
 -- a right header's counts, and room for the terms where the length is right too
-pub header-room : (c : List ℕ) → headerRight c ≡ true → length c ≡ claimLength (variables c) (termCount c)
+pub header-room : (c : List ℕ) → claimHeaderRight c ≡ true → length c ≡ claimLength (variables c) (termCount c)
     → (1 ≤ variables c) × ClaimRoom c (variables c) (termCount c)
-unfolding headerRight countsRight
+unfolding claimHeaderRight countsRight
 header-room c h sized =
     let a = and-eq-true-iff _ _ .0 h in
     let b = and-eq-true-iff _ _ .0 (a .0) in

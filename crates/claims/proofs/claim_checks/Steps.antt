@@ -19,7 +19,7 @@ use Rattle.points.proofs.points.Laws.{exponents-of}
 use Rattle.sheets.specs.Layout.{variables, termCount, place, ClaimRoom}
 use Rattle.sheets.specs.ClaimSheet.{floorOf, termPoint, coefficientOf}
 use Rattle.sheets.proofs.layout.Laws.{claim-asked}
-use Rattle.claims.specs.ClaimChecks.{countsRight, headerRight, breaks, termsAnswer}
+use Rattle.claims.specs.ClaimChecks.{countsRight, claimHeaderRight, termBreaks, termsAnswer}
 use Rattle.claims.specs.declared.claim_checks.TermRule.the-variants.{Coefficient, Exponent, Order}
 use Rattle.claims.proofs.claim_checks.Laws.{header-room}
 
@@ -40,20 +40,20 @@ module _ (c : List ℕ) (n : ℕ) (en : n ≡ variables c) where
     counts-terms q t et = rw (← en, ← et, le-leb 1 n p, le-leb n mostVariables q) (over mostTerms t)
 
 module _ (c : List ℕ) (r : Bool) (e : r ≡ not (countsRight c)) where
-  pub header-counts : r ≡ true → true ≡ not (headerRight c)
-  unfolding headerRight
+  pub header-counts : r ≡ true → true ≡ not (claimHeaderRight c)
+  unfolding claimHeaderRight
   header-counts h = rw (not-true (countsRight c) (sym e ∙ h))
 
   module _ (h : r ≡ false) where
     right : countsRight c ≡ true
     right = not-false _ (sym e ∙ h)
 
-    pub header-two : (getD c 2 0 ≡ 0 → ⊥) → true ≡ not (headerRight c)
-    unfolding headerRight
+    pub header-two : (getD c 2 0 ≡ 0 → ⊥) → true ≡ not (claimHeaderRight c)
+    unfolding claimHeaderRight
     header-two k = rw (right, ne-eqb (getD c 2 0) 0 k)
 
-    pub header-three : getD c 2 0 ≡ 0 → not (eqb (getD c 3 0) 0) ≡ not (headerRight c)
-    unfolding headerRight
+    pub header-three : getD c 2 0 ≡ 0 → not (eqb (getD c 3 0) 0) ≡ not (claimHeaderRight c)
+    unfolding claimHeaderRight
     header-three k = rw (right, eq-eqb (getD c 2 0) 0 k)
 
 -- ---- 5: z is the coefficient, z′ what the machine reads back of it
@@ -63,34 +63,34 @@ module _ (c : List ℕ) (n t i limit m : ℕ) (z z′ : ℤ)
   size : natAbs (coefficientOf c n t i) ≡ m
   size = sym (f ∙ ap natAbs (e ∙ h))
 
-  pub coefficient-zero : m ≡ 0 → true ≡ breaks (Coefficient limit) c n t i
-  unfolding breaks
+  pub coefficient-zero : m ≡ 0 → true ≡ termBreaks (Coefficient limit) c n t i
+  unfolding termBreaks
   coefficient-zero g = rw (size, eq-eqb m 0 g)
 
-  pub coefficient-else : (m ≡ 0 → ⊥) → (r : Bool) → r ≡ beyond limit z′ → r ≡ breaks (Coefficient limit) c n t i
-  unfolding breaks
+  pub coefficient-else : (m ≡ 0 → ⊥) → (r : Bool) → r ≡ beyond limit z′ → r ≡ termBreaks (Coefficient limit) c n t i
+  unfolding termBreaks
   coefficient-else g r k = rw (size, ne-eqb m 0 g) (k ∙ rw (e, h))
 
 -- ---- 6 and 7
 
 pub exponent-judged : (c : List ℕ) (n t i limit : ℕ) (p : Point) (r : Bool) → p ≡ pointOf (termPoint c n i)
-    → r ≡ exponentsWithin limit (exponents p) → not r ≡ breaks (Exponent limit) c n t i
-unfolding breaks
+    → r ≡ exponentsWithin limit (exponents p) → not r ≡ termBreaks (Exponent limit) c n t i
+unfolding termBreaks
 exponent-judged c n t i limit p r h e = rw (e, h, exponents-of (termPoint c n i))
 
-pub order-first : (c : List ℕ) (n t i : ℕ) → i ≡ 0 → false ≡ breaks Order c n t i
-unfolding breaks
+pub order-first : (c : List ℕ) (n t i : ℕ) → i ≡ 0 → false ≡ termBreaks Order c n t i
+unfolding termBreaks
 order-first c n t i h = rw (le-ltb 0 i (omega arith))
 
 pub order-later : (c : List ℕ) (n t i : ℕ) (p q : Point) (r : Bool) → (i ≡ 0 → ⊥) → p ≡ pointOf (termPoint c n (i - 1))
-    → q ≡ pointOf (termPoint c n i) → r ≡ risesTo (exponents p) (exponents q) → not r ≡ breaks Order c n t i
-unfolding breaks
+    → q ≡ pointOf (termPoint c n i) → r ≡ risesTo (exponents p) (exponents q) → not r ≡ termBreaks Order c n t i
+unfolding termBreaks
 order-later c n t i p q r h ep eq er =
     rw (er, ep, eq, exponents-of (termPoint c n (i - 1)), exponents-of (termPoint c n i), lt-ltb 0 i (pos-of-ne-zero h))
 
 -- ---- 3, 4, and room for the terms
 
-pub terms-room : (c : List ℕ) (r : Bool) (n t l : ℕ) → r ≡ not (headerRight c) → r ≡ false → n ≡ variables c
+pub terms-room : (c : List ℕ) (r : Bool) (n t l : ℕ) → r ≡ not (claimHeaderRight c) → r ≡ false → n ≡ variables c
     → t ≡ termCount c → l ≡ place 8 t (n + 4) → length c ≡ l → ClaimRoom c n t
 terms-room c r n t l e h en et el p =
     rw (en, et) (header-room c (not-false _ (sym e ∙ h)) (p ∙ claim-asked c n t l el en et) .1)

@@ -18,7 +18,7 @@ use Rattle.targets.specs.declared.targets.Aim.{Aim}
 pub aim-within : (c s : List ℕ) → natAbs (floorOf c) ≤ greatestWeight → scaleOf s ≤ greatestScale
     → AimWithin (aimOf c s)
 unfolding aimOf
-aim-within c s b S = record { floor = b; scale = S }
+aim-within c s b S = record { floor-within = b; scale-within = S }
 
 pub targets-are : (c s : List ℕ) (α : Exponents)
     → targetOf c (aimOf c s) α ≡ target (scaleOf s) (lowered (variables c) (floorOf c) (termsOf c)) α

@@ -38,7 +38,7 @@ use Rattle.sheets.specs.ProofSheet.{scaleOf}
 use Rattle.sheets.proofs.claim_sheet.Laws.{terms-table, term-point, term-coefficient}
 use Rattle.claims.specs.ClaimChecks.{ClaimFacts}
 use Rattle.claims.proofs.claim_checks.Laws.{points-differ}
-use Rattle.targets.specs.Targets.{AimWithin, Targeted, aimOf, targetOf, hasKey, loweredBy, foundAt, coefficientWith, targetWith}
+use Rattle.targets.specs.Targets.{AimWithin, Targeted, aimOf, targetOf, hasKey, loweredBy, coefficientFound, coefficientWith, targetWith}
 use Rattle.targets.specs.Carried.{Carried}
 use Rattle.targets.specs.declared.targets.Aim.{Aim}
 use Rattle.targets.proofs.Carried.{term-carried, constant-carried, carried-same}
@@ -50,11 +50,11 @@ difference-small x b hx hb = omega (arith, abs-add x (negℤ b), abs-neg b)
 
 module _ (x x′ : ℤ) (a : Aim) (key : ℕ) (hx : natAbs x ≤ greatestWeight) (ha : AimWithin a) (ex : x′ ≡ x) where
   floor-back : back (a .floor) ≡ a .floor
-  floor-back = toZ-ofZ (fits-within {w = w64} (a .floor) greatestWeight (ha .floor) (lit< tt))
+  floor-back = toZ-ofZ (fits-within {w = w64} (a .floor) greatestWeight (ha .floor-within) (lit< tt))
 
   pub lowered-fits : SFits w64 (x′ -ℤ back (a .floor))
   lowered-fits =
-      rw (ex, floor-back) (fits-within (x -ℤ a .floor) (2 ^ 31) (difference-small x (a .floor) hx (ha .floor))
+      rw (ex, floor-back) (fits-within (x -ℤ a .floor) (2 ^ 31) (difference-small x (a .floor) hx (ha .floor-within))
       (lit< tt))
 
   pub lowered-here : key ≡ 0 → back (x′ -ℤ back (a .floor)) ≡ loweredBy a key x
@@ -62,7 +62,7 @@ module _ (x x′ : ℤ) (a : Aim) (key : ℕ) (hx : natAbs x ≤ greatestWeight)
   lowered-here h = toZ-ofZ lowered-fits ∙ rw (ex, floor-back, eq-eqb key 0 h)
 
   pub constant-small : natAbs (back (x′ -ℤ back (a .floor))) ≤ 2 ^ 31
-  constant-small = rw (toZ-ofZ lowered-fits, ex, floor-back) (difference-small x (a .floor) hx (ha .floor))
+  constant-small = rw (toZ-ofZ lowered-fits, ex, floor-back) (difference-small x (a .floor) hx (ha .floor-within))
 
 module _ (x x′ : ℤ) (ex : x′ ≡ x) where
   pub lowered-elsewhere : (a : Aim) (key : ℕ) → (key ≡ 0 → ⊥) → x′ ≡ loweredBy a key x
@@ -125,11 +125,11 @@ pub key-tested : (c : List ℕ) (n i key k : ℕ) → k ≡ keyOf (termPoint c n
 unfolding hasKey
 key-tested c n i key k e = rw e
 
--- ---- coefficient_at: f is what was found
+-- ---- coefficient_with: f is what was found
 
 module _ (c : List ℕ) (n t key : ℕ) (f : Found) (ef : f ≡ first (hasKey c n key) t) where
   pub none-with : f ≡ Nothing → pos 0 ≡ coefficientWith c n t key
-  unfolding coefficientWith foundAt
+  unfolding coefficientWith coefficientFound
   none-with h = rw (← ef, h)
 
   module _ (i : ℕ) (h : f ≡ At i) where
@@ -137,7 +137,7 @@ module _ (c : List ℕ) (n t key : ℕ) (f : Found) (ef : f ≡ first (hasKey c 
     found-inside = first-inside (hasKey c n key) t i (sym ef ∙ h) .0
 
     pub found-with : (x x′ : ℤ) → x ≡ coefficientOf c n t i → x′ ≡ x → x′ ≡ coefficientWith c n t key
-    unfolding coefficientWith foundAt
+    unfolding coefficientWith coefficientFound
     found-with x x′ ex e = e ∙ ex ∙ rw (← ef, h)
 
 -- x is the coefficient of term i
@@ -177,15 +177,15 @@ module _ (c : List ℕ) (n t : ℕ) (facts : ClaimFacts c n t) (α : Exponents) 
       let q : α ≡ termPoint c n i = same-eq α (termPoint c n i) (sym (key-there i (omega arith)) ∙ f .1) in
       key-there m l ∙ rw q (points-differ c n t facts i m (f .0) l)
 
-  found-coefficient : (m : ℕ) → m ≤ t → foundAt c n t (first here m) ≡ coefficient α (terms m)
-  unfolding foundAt
+  found-coefficient : (m : ℕ) → m ≤ t → coefficientFound c n t (first here m) ≡ coefficient α (terms m)
+  unfolding coefficientFound
   found-coefficient zero l = rw (first-start here, table-none, coefficient-nil)
   found-coefficient (suc m) l =
       go (first here m) refl (here m) refl (found-coefficient m (omega arith)) ∙ sym (term-more m l)
     where
       go : (f : Found) → first here m ≡ f → (b : Bool) → here m ≡ b
-          → foundAt c n t (first here m) ≡ coefficient α (terms m)
-          → foundAt c n t (first here (suc m))
+          → coefficientFound c n t (first here m) ≡ coefficient α (terms m)
+          → coefficientFound c n t (first here (suc m))
           ≡ coefficient α (terms m) +ℤ cond (here m) (coefficientOf c n t m) (pos 0)
       go (At i) e b h ih =
           rw (first-stays here m i e, later i m l e, +ℤ-idr) (rw e at ih)
@@ -201,8 +201,8 @@ module _ (c : List ℕ) (n t : ℕ) (facts : ClaimFacts c n t) (α : Exponents) 
   coefficient-found = found-coefficient t (omega arith)
 
   term-there : (i : ℕ) → i < t → α ≡ termPoint c n i → coefficientOf c n t i ≡ coefficient α (terms t)
-  unfolding foundAt here
-  term-there i l e = ap (foundAt c n t) found ∙ found-coefficient t (omega arith)
+  unfolding coefficientFound here
+  term-there i l e = ap (coefficientFound c n t) found ∙ found-coefficient t (omega arith)
     where
       earlier : (j : ℕ) → j < i → here j ≡ false
       earlier j m = key-there j (omega arith) ∙ rw e (apart-sym _ _ (points-differ c n t facts j i m l))

@@ -4,12 +4,12 @@ use borrow.Author.Needs.{needs}
 use Rattle.answers.specs.Searches.{first}
 use Rattle.answers.specs.declared.searches.Found.the-variants.{Nothing}
 use Rattle.answers.proofs.searches.Laws.{first-start, first-stop, first-next, first-end}
-use Rattle.checks.specs.ProofChecks.{breaks}
+use Rattle.checks.specs.ProofChecks.{rowBreaks}
 use Rattle.checks.proofs.proof_checks.first_row.Statement.{statement}
 use Rattle.checks.proofs.proof_checks.first_row.Tie as tie
 
 abbrev Inv-loop : tie.InvT-loop
-Inv-loop rule proof shape i₀ i = (i ≤ shape .k) × (first (breaks rule proof shape) i ≡ Nothing)
+Inv-loop rule proof shape i₀ i = (i ≤ shape .k) × (first (rowBreaks rule proof shape) i ≡ Nothing)
 
 abbrev μ-loop : tie.MeasureT-loop
 μ-loop rule proof shape i₀ i = shape .k - i

@@ -4,12 +4,12 @@ use borrow.Author.Needs.{needs}
 use Rattle.answers.specs.Searches.{first}
 use Rattle.answers.specs.declared.searches.Found.the-variants.{Nothing}
 use Rattle.answers.proofs.searches.Laws.{first-start, first-stop, first-next, first-end}
-use Rattle.claims.specs.ClaimChecks.{breaks}
+use Rattle.claims.specs.ClaimChecks.{termBreaks}
 use Rattle.claims.proofs.claim_checks.first_term.Statement.{statement}
 use Rattle.claims.proofs.claim_checks.first_term.Tie as tie
 
 abbrev Inv-loop : tie.InvT-loop
-Inv-loop rule claim n t i₀ i = (i ≤ t) × (first (breaks rule claim n t) i ≡ Nothing)
+Inv-loop rule claim n t i₀ i = (i ≤ t) × (first (termBreaks rule claim n t) i ≡ Nothing)
 
 abbrev μ-loop : tie.MeasureT-loop
 μ-loop rule claim n t i₀ i = t - i

@@ -5,8 +5,8 @@ use Rattle.targets.proofs.targets.Steps.{facts-here, target-made}
 use Rattle.targets.proofs.targets.target_at.Statement.{statement}
 use Rattle.targets.proofs.targets.target_at.Tie as tie
 
-coefficient-at-requires : tie.Need-coefficient-at-requires
-coefficient-at-requires c κs = search (needs, facts-here)
+coefficient-with-requires : tie.Need-coefficient-with-requires
+coefficient-with-requires c κs = search (needs, facts-here)
 
 target-with-requires : tie.Need-target-with-requires
 target-with-requires c κs = search (needs, back-small, toZ-ofZ)
@@ -17,4 +17,4 @@ returns c = search (target-made, back-small, toZ-ofZ)
 pub target-at-spec : {M : Type 1} → statement M
 target-at-spec =
     tie.close
-    (tie.spec (λ c κs. search needs) (λ c κs. search needs) coefficient-at-requires target-with-requires returns)
+    (tie.spec (λ c κs. search needs) (λ c κs. search needs) coefficient-with-requires target-with-requires returns)
