@@ -11,7 +11,7 @@ use Rattle.squares.specs.Sums.{gathered, coefficient}
 use Rattle.squares.specs.Rows.{slotsAt}
 use Rattle.squares.specs.Targets.{lowered, worst, target}
 use Rattle.sheets.specs.ClaimSheet.{floorOf, termPoint, coefficientOf, termOf, termsOf}
-use Rattle.sheets.specs.ProofSheet.{scaleOf, vOf, wOf, wordsAt, tripleOf, weightsOf, rowOf, rowsOf, tripleFor}
+use Rattle.rows.specs.ProofSheet.{scaleOf, vOf, wOf, wordsAt, tripleOf, weightsOf, rowOf, rowsOf, tripleFor}
 use Rattle.writing.specs.Writing.{withTriple, withWeights, withRows}
 use Rattle.claims.specs.ClaimChecks as C
 use Rattle.checks.specs.ProofChecks as P

@@ -7,7 +7,7 @@ use lib.ListN.{length, replicate}
 use Rattle.answers.specs.Answers.{blameless, Passes}
 use Rattle.sheets.specs.Layout.{rowCount}
 use Rattle.sheets.specs.ClaimSheet.{floorOf}
-use Rattle.sheets.specs.ProofSheet.{scaleOf, tripleFor}
+use Rattle.rows.specs.ProofSheet.{scaleOf, tripleFor}
 use Rattle.weighing.specs.Exact.{weightsFor}
 use Rattle.judging.specs.Check.{targetsOf, checkAnswer, outputOf}
 use Rattle.text.specs.Lines.{acceptedLine}

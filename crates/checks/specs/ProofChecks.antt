@@ -11,9 +11,9 @@ use Rattle.answers.specs.Answers.{Answer, accepted, refuseIf, refuseAt}
 use Rattle.answers.specs.Searches.{first}
 use Rattle.points.specs.Points.{samePoint, hasMidpoint, exponentsWithin}
 use Rattle.sheets.specs.Layout.{variables, rowCount, shapeOf, proofLength, ProofRoom}
-use Rattle.sheets.specs.ProofSheet.{scaleOf, vOf, wOf, tripleOf}
 use Rattle.sheets.specs.declared.layout.Shape.{Shape}
-use Rattle.sheets.specs.declared.proof_sheet.Triple.{Triple}
+use Rattle.rows.specs.ProofSheet.{scaleOf, vOf, wOf, tripleOf}
+use Rattle.rows.specs.declared.proof_sheet.Triple.{Triple}
 use Rattle.checks.specs.declared.proof_checks.RowRule.{RowRule}
 use Rattle.checks.specs.declared.proof_checks.RowRule.the-variants.{Exponent, Midpoint, Unused, Weight}
 

@@ -12,7 +12,7 @@ use Rattle.answers.specs.declared.searches.Found.the-variants.{At, Nothing}
 use Rattle.squares.specs.Rows.{Row}
 use Rattle.squares.specs.declared.rows.Weights.{Weights}
 use Rattle.squares.specs.declared.rows.Weights.the-variants.{Pair, Lone}
-use Rattle.sheets.specs.declared.proof_sheet.Triple.{Triple}
+use Rattle.rows.specs.declared.proof_sheet.Triple.{Triple}
 use Rattle.checks.specs.ProofChecks.{anyBeyond}
 use Rattle.judgements.specs.declared.judgements.Firsts.{Firsts}
 use Rattle.judgements.specs.declared.judgements.Judgement.{Judgement}

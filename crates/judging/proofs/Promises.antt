@@ -19,8 +19,8 @@ use Rattle.squares.specs.Targets.{lowered, target}
 use Rattle.squares.proofs.Floor.{floor}
 use Rattle.sheets.specs.Layout.{variables, rowCount}
 use Rattle.sheets.specs.ClaimSheet.{floorOf, termsOf}
-use Rattle.sheets.specs.ProofSheet.{scaleOf, rowsOf}
 use Rattle.sheets.proofs.claim_sheet.Laws.{terms-sized}
+use Rattle.rows.specs.ProofSheet.{scaleOf, rowsOf}
 use Rattle.checks.specs.Input.{WellFormed}
 use Rattle.checks.proofs.input.Laws.{input-passes, input-formed, input-enough, input-short}
 use Rattle.targets.specs.Targets.{aimOf, targetOf}

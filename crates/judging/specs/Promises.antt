@@ -15,7 +15,7 @@ use Rattle.squares.specs.Rows.{Row, slots, Holds}
 use Rattle.squares.specs.Decomposition.{AddsUp}
 use Rattle.sheets.specs.Layout.{variables, rowCount}
 use Rattle.sheets.specs.ClaimSheet.{floorOf, termsOf}
-use Rattle.sheets.specs.ProofSheet.{rowsOf}
+use Rattle.rows.specs.ProofSheet.{rowsOf}
 use Rattle.checks.specs.Input.{WellFormed}
 use Rattle.sharing.specs.Shifts.{shiftedRows}
 use Rattle.weighing.specs.Exact.{exactProof, AllWithin}

@@ -8,9 +8,9 @@ use Rattle.bounds.specs.Bounds.{mostRows, mostVariables}
 use Rattle.answers.specs.Answers.{Answer, blameless}
 use Rattle.sheets.specs.Layout.{variables, proofLength}
 use Rattle.sheets.specs.ClaimSheet.{floorOf}
-use Rattle.sheets.specs.ProofSheet.{scaleOf, tripleOf}
 use Rattle.sheets.specs.declared.layout.Shape.{Shape}
-use Rattle.sheets.specs.declared.proof_sheet.Triple.{Triple}
+use Rattle.rows.specs.ProofSheet.{scaleOf, tripleOf}
+use Rattle.rows.specs.declared.proof_sheet.Triple.{Triple}
 use Rattle.text.specs.Text.{ascii}
 use Rattle.text.specs.Lines.{acceptedLine, rowLine, refusedLine}
 

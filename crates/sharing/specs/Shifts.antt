@@ -11,7 +11,7 @@ use Rattle.squares.specs.Rows.{Row, slots}
 use Rattle.squares.specs.declared.rows.Weights.{Weights}
 use Rattle.squares.specs.declared.rows.Weights.the-variants.{Pair, Lone}
 use Rattle.sheets.specs.Layout.{variables, termCount, rowCount, shapeOf}
-use Rattle.sheets.specs.ProofSheet.{vOf, wOf, rowOf, rowsOf}
+use Rattle.rows.specs.ProofSheet.{vOf, wOf, rowOf, rowsOf}
 use Rattle.claims.specs.ClaimChecks.{ClaimFacts}
 use Rattle.checks.specs.ProofChecks.{ProofFacts}
 use Rattle.targets.specs.Targets.{AimWithin}

@@ -10,8 +10,8 @@ use Rattle.points.specs.Points.{Exponents}
 use Rattle.keys.specs.Keys.{keyOf}
 use Rattle.squares.specs.Sums.{Sum}
 use Rattle.squares.specs.Rows.{slotsOf, slots}
-use Rattle.sheets.specs.ProofSheet.{rowOf}
 use Rattle.sheets.specs.declared.layout.Shape.{Shape}
+use Rattle.rows.specs.ProofSheet.{rowOf}
 use Rattle.targets.specs.Carried.{Carried}
 use Rattle.sharing.specs.Sharing.{count}
 use Rattle.sharing.specs.declared.slots.Holding.{Holding}

@@ -1,9 +1,9 @@
 // Slots of a proof sheet at one point, each time found by going over the rows.
 use integers::words::read_i32;
+use rows::proof_sheet::triple_place;
+use rows::proof_sheet::v_key;
+use rows::proof_sheet::w_key;
 use sheets::layout::Shape;
-use sheets::proof_sheet::triple_place;
-use sheets::proof_sheet::v_key;
-use sheets::proof_sheet::w_key;
 ghost use mathlib.Core.Path.{_≡_};
 ghost use Prim.Native.Nat.{_+_, _^_, _<_, _≤_};
 ghost use lib.IntN.{natAbs};

@@ -1,4 +1,3 @@
-// The claim sheet and the proof sheet: their layout and their fields.
+// The layout of both sheets, and the claim sheet's fields.
 pub mod claim_sheet;
 pub mod layout;
-pub mod proof_sheet;

@@ -14,7 +14,7 @@ use Rattle.keys.specs.Keys.{keyOf}
 use Rattle.squares.specs.Targets.{lowered, worst, target}
 use Rattle.sheets.specs.Layout.{variables, termCount}
 use Rattle.sheets.specs.ClaimSheet.{floorOf, termPoint, coefficientOf, termsOf}
-use Rattle.sheets.specs.ProofSheet.{scaleOf}
+use Rattle.rows.specs.ProofSheet.{scaleOf}
 use Rattle.claims.specs.ClaimChecks.{ClaimFacts}
 use Rattle.targets.specs.Carried.{Carried}
 use Rattle.targets.specs.declared.targets.Aim.{Aim}

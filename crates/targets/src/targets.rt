@@ -2,12 +2,12 @@
 use answers::searches::Found;
 use points::points::Point;
 use points::points::keeps_sign;
+use rows::proof_sheet::scale;
 use sheets::claim_sheet::coefficient;
 use sheets::claim_sheet::floor;
 use sheets::claim_sheet::term_count;
 use sheets::claim_sheet::term_key;
 use sheets::layout::variables;
-use sheets::proof_sheet::scale;
 ghost use mathlib.Core.Path.{_≡_};
 ghost use Prim.Native.Nat.{_^_, _<_, _≤_};
 ghost use lib.IntN.{pos, natAbs, _*ℤ_};

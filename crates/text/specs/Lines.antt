@@ -2,7 +2,7 @@
 use mathlib.Core.List.{List, _++_}
 use Prim.Native.Nat.{ℕ}
 use lib.IntN.{ℤ}
-use Rattle.sheets.specs.declared.proof_sheet.Triple.{Triple}
+use Rattle.rows.specs.declared.proof_sheet.Triple.{Triple}
 use Rattle.text.specs.Text.{ascii, counted, numbered}
 
 -- ` scale 1 floor 0`

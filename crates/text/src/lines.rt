@@ -1,7 +1,7 @@
 // The lines that the program prints, without their line feeds.
 use crate::text::counted;
 use crate::text::numbered;
-use sheets::proof_sheet::Triple;
+use rows::proof_sheet::Triple;
 ghost use Rattle.text.specs.Text.{Room, Written};
 ghost use Rattle.text.specs.Lines.{scaleText, acceptedLine, laterText, weightsText, rowLine, refusedLine};
 

@@ -7,7 +7,7 @@ use Rattle.bounds.specs.Bounds.{greatestWeight}
 use Rattle.points.specs.Points.{Exponents}
 use Rattle.squares.specs.declared.rows.Weights.{Weights}
 use Rattle.sheets.specs.Layout.{rowCount, shapeOf}
-use Rattle.sheets.specs.ProofSheet.{tripleFor}
+use Rattle.rows.specs.ProofSheet.{tripleFor}
 use Rattle.writing.specs.Writing.{withRows}
 use Rattle.checks.specs.ProofChecks.{Within}
 use Rattle.targets.specs.Targets.{targetOf}

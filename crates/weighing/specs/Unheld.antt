@@ -11,7 +11,7 @@ use Rattle.points.specs.Points.{Exponents}
 use Rattle.squares.specs.Rows.{slots}
 use Rattle.sheets.specs.Layout.{variables, termCount}
 use Rattle.sheets.specs.ClaimSheet.{termPoint}
-use Rattle.sheets.specs.ProofSheet.{rowsOf}
+use Rattle.rows.specs.ProofSheet.{rowsOf}
 use Rattle.sharing.specs.Sharing.{count}
 
 -- the point of term i in a claim of n variables and t terms, and after the terms the constant's

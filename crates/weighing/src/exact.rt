@@ -1,6 +1,6 @@
 // The exact proof: the proof sheet with its shifted weights, in the output.
+use rows::proof_sheet::shape_of;
 use sharing::shifts::shifted_row;
-use sheets::proof_sheet::shape_of;
 use targets::targets::Aim;
 use writing::writing::write_weights;
 ghost use mathlib.Core.Path.{_≡_};

@@ -20,8 +20,8 @@ use Rattle.points.specs.Lists.{table}
 use Rattle.points.specs.Points.{bytesAt, every, everyPair, samePoint, risesTo, evenSum, hasMidpoint, exponentsWithin}
 use Rattle.sheets.specs.Layout.{tripleAt}
 use Rattle.sheets.specs.ClaimSheet.{floorOf, termPoint, coefficientOf}
-use Rattle.sheets.specs.ProofSheet.{scaleOf, vOf, wOf, wordsAt, tripleOf}
 use Rattle.sheets.specs.declared.layout.Shape.{Shape}
+use Rattle.rows.specs.ProofSheet.{scaleOf, vOf, wOf, wordsAt, tripleOf}
 use Rattle.claims.specs.ClaimChecks as C
 use Rattle.checks.specs.ProofChecks as P
 use Rattle.checks.specs.Input.{headAnswer, formedAnswer}

@@ -3,7 +3,7 @@ use mathlib.Core.Path.{refl}
 use Rattle.integers.specs.Words.{u32At, i32At}
 use Rattle.answers.specs.Answers.{accepted, refused, blameless}
 use Rattle.sheets.specs.ClaimSheet.{floorOf}
-use Rattle.sheets.specs.ProofSheet.{scaleOf, wordsAt, tripleOf}
+use Rattle.rows.specs.ProofSheet.{scaleOf, wordsAt, tripleOf}
 use Rattle.text.specs.Text.{digits, natural, integer, counted, numbered}
 use Rattle.text.specs.Lines.{scaleText, acceptedLine, laterText, weightsText, rowLine, refusedLine}
 use Rattle.report.specs.Reports.{ended, linesOf, rowText, rowsText, firstText, acceptedText, refusedText, reportable, reportText}

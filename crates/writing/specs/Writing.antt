@@ -4,9 +4,9 @@ use Prim.Native.Nat.{ℕ, zero, suc, _+_}
 use Rattle.integers.specs.Words.{withI32}
 use Rattle.squares.specs.declared.rows.Weights.{Weights}
 use Rattle.sheets.specs.Layout.{tripleAt}
-use Rattle.sheets.specs.ProofSheet.{tripleFor}
 use Rattle.sheets.specs.declared.layout.Shape.{Shape}
-use Rattle.sheets.specs.declared.proof_sheet.Triple.{Triple}
+use Rattle.rows.specs.ProofSheet.{tripleFor}
+use Rattle.rows.specs.declared.proof_sheet.Triple.{Triple}
 
 -- the bytes with a triple from a place on
 unfoldable pub withTriple : List ℕ → ℕ → Triple → List ℕ

@@ -1,15 +1,15 @@
 // Weights written back into a proof sheet.
 use integers::words::write_i32;
+use rows::proof_sheet::Triple;
+use rows::proof_sheet::triple_for;
+use rows::proof_sheet::triple_place;
 use sheets::layout::Shape;
-use sheets::proof_sheet::Triple;
-use sheets::proof_sheet::triple_for;
-use sheets::proof_sheet::triple_place;
 use squares::rows::Weights;
 ghost use mathlib.Core.Path.{_≡_};
 ghost use Prim.Native.Nat.{_+_, _<_, _≤_};
 ghost use lib.ListN.{length};
 ghost use Rattle.sheets.specs.Layout.{ProofRoom};
-ghost use Rattle.sheets.specs.ProofSheet.{tripleFor, Narrow};
+ghost use Rattle.rows.specs.ProofSheet.{tripleFor, Narrow};
 ghost use Rattle.writing.specs.Writing.{withTriple, withWeights};
 
 // Three numbers from a place on. Their twelve bytes change, and no other.

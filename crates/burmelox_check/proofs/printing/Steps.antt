@@ -8,7 +8,7 @@ use lib.Seq.{take-all}
 use Rattle.answers.specs.Answers.{says, Passes}
 use Rattle.answers.specs.declared.answers.Verdict.{Verdict}
 use Rattle.sheets.specs.Layout.{rowCount, shapeOf, ProofRoom}
-use Rattle.sheets.specs.ProofSheet.{scaleOf, tripleOf, tripleFor}
+use Rattle.rows.specs.ProofSheet.{scaleOf, tripleOf, tripleFor}
 use Rattle.targets.specs.Targets.{aimOf}
 use Rattle.sharing.specs.Shifts.{CheckedSheets}
 use Rattle.sharing.proofs.shifts.Laws.{sheets-checked}

@@ -17,9 +17,9 @@ use Rattle.answers.proofs.answers.Laws.{passes-if, passes-at, short-accepted, s
 use Rattle.answers.proofs.searches.Laws.{none-wrong}
 use Rattle.points.specs.Points.{samePoint, hasMidpoint, exponentsWithin}
 use Rattle.sheets.specs.Layout.{variables, rowCount, shapeOf, proofLength}
-use Rattle.sheets.specs.ProofSheet.{vOf, wOf, tripleOf}
 use Rattle.sheets.specs.declared.layout.Shape.{Shape}
-use Rattle.sheets.specs.declared.proof_sheet.Triple.{Triple}
+use Rattle.rows.specs.ProofSheet.{vOf, wOf, tripleOf}
+use Rattle.rows.specs.declared.proof_sheet.Triple.{Triple}
 use Rattle.checks.specs.ProofChecks.{proofHeaderRight, headerAnswer, qOrR, anyBeyond, rowBreaks, rowsAnswer, Within, HeaderFacts, ProofFacts}
 use Rattle.checks.specs.declared.proof_checks.RowRule.the-variants.{Exponent, Midpoint, Unused, Weight}
 

@@ -13,9 +13,9 @@ use Rattle.points.specs.Points.{exponents, pointOf, samePoint, hasMidpoint, exp
 use Rattle.points.specs.declared.points.Point.{Point}
 use Rattle.points.proofs.points.Laws.{exponents-of}
 use Rattle.sheets.specs.Layout.{variables, rowCount}
-use Rattle.sheets.specs.ProofSheet.{scaleOf, vOf, wOf, tripleOf}
 use Rattle.sheets.specs.declared.layout.Shape.{Shape}
-use Rattle.sheets.specs.declared.proof_sheet.Triple.{Triple}
+use Rattle.rows.specs.ProofSheet.{scaleOf, vOf, wOf, tripleOf}
+use Rattle.rows.specs.declared.proof_sheet.Triple.{Triple}
 use Rattle.checks.specs.ProofChecks.{proofHeaderRight, qOrR, anyBeyond, rowBreaks}
 use Rattle.checks.specs.declared.proof_checks.RowRule.{RowRule}
 use Rattle.checks.specs.declared.proof_checks.RowRule.the-variants.{Exponent, Midpoint, Unused, Weight}

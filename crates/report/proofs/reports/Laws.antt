@@ -10,8 +10,8 @@ use Rattle.answers.specs.Answers.{Answer, accepted, blameless}
 use Rattle.answers.proofs.answers.Laws.{accepted-value, accepted-says, accepted-passes}
 use Rattle.sheets.specs.Layout.{ProofRoom}
 use Rattle.sheets.specs.ClaimSheet.{floorOf}
-use Rattle.sheets.specs.ProofSheet.{scaleOf, tripleOf}
-use Rattle.sheets.specs.declared.proof_sheet.Triple.{Triple}
+use Rattle.rows.specs.ProofSheet.{scaleOf, tripleOf}
+use Rattle.rows.specs.declared.proof_sheet.Triple.{Triple}
 use Rattle.text.specs.Lines.{acceptedLine}
 use Rattle.report.specs.Reports.{ended, linesOf, rowsText, shapeWith, firstText, acceptedText, refusedText, reportable, reportText}
 

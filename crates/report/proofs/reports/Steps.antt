@@ -21,11 +21,11 @@ use Rattle.answers.specs.declared.answers.Verdict.the-variants.{Accepted, Refus
 use Rattle.answers.proofs.answers.Laws.{failed, passed, accepted-value}
 use Rattle.sheets.specs.Layout.{variables, proofLength, ProofRoom}
 use Rattle.sheets.specs.ClaimSheet.{floorOf}
-use Rattle.sheets.specs.ProofSheet.{scaleOf, tripleOf}
 use Rattle.sheets.specs.declared.layout.Shape.{Shape}
-use Rattle.sheets.specs.declared.proof_sheet.Triple.{Triple}
 use Rattle.sheets.proofs.claim_sheet.Laws.{floor-fits}
-use Rattle.sheets.proofs.proof_sheet.Laws.{scale-bound, triple-narrow}
+use Rattle.rows.specs.ProofSheet.{scaleOf, tripleOf}
+use Rattle.rows.specs.declared.proof_sheet.Triple.{Triple}
+use Rattle.rows.proofs.proof_sheet.Laws.{scale-bound, triple-narrow}
 use Rattle.text.specs.Text.{Room, Written}
 use Rattle.text.specs.Lines.{acceptedLine, rowLine}
 use Rattle.text.proofs.text.Laws.{room-first, room-then, written-then}

@@ -18,9 +18,9 @@ use Rattle.squares.specs.declared.rows.Weights.{Weights}
 use Rattle.squares.specs.declared.rows.Weights.the-variants.{Pair, Lone}
 use Rattle.squares.proofs.rows.Laws.{slots-pair, slots-lone}
 use Rattle.sheets.specs.Layout.{variables, rowCount, shapeOf}
-use Rattle.sheets.specs.ProofSheet.{vOf, wOf, rowOf, rowsOf, Suits}
 use Rattle.sheets.specs.declared.layout.Shape.{Shape}
-use Rattle.sheets.proofs.proof_sheet.Laws.{row-placed, row-lone, row-pair, row-v, row-w, v-length, w-length, rows-table}
+use Rattle.rows.specs.ProofSheet.{vOf, wOf, rowOf, rowsOf, Suits}
+use Rattle.rows.proofs.proof_sheet.Laws.{row-placed, row-lone, row-pair, row-v, row-w, v-length, w-length, rows-table}
 use Rattle.checks.specs.ProofChecks.{ProofFacts}
 use Rattle.checks.specs.Input.{WellFormed}
 use Rattle.checks.proofs.input.Laws.{claim-formed, same-formed, proof-formed}

@@ -26,10 +26,10 @@ use Rattle.squares.specs.declared.rows.Weights.{Weights}
 use Rattle.squares.specs.declared.rows.Weights.the-variants.{Pair, Lone}
 use Rattle.squares.proofs.rows.Laws.{slots-pair, slots-lone}
 use Rattle.sheets.specs.Layout.{variables, rowCount, shapeOf, ProofRoom}
-use Rattle.sheets.specs.ProofSheet.{vOf, wOf, tripleOf, rowOf, rowsOf, byValue}
 use Rattle.sheets.specs.declared.layout.Shape.{Shape}
-use Rattle.sheets.specs.declared.proof_sheet.Row.{Row}
-use Rattle.sheets.proofs.proof_sheet.Laws.{lone-of, pair-of, row-v, row-w, value-v, value-w, value-weights, by-value}
+use Rattle.rows.specs.ProofSheet.{vOf, wOf, tripleOf, rowOf, rowsOf, byValue}
+use Rattle.rows.specs.declared.proof_sheet.Row.{Row}
+use Rattle.rows.proofs.proof_sheet.Laws.{lone-of, pair-of, row-v, row-w, value-v, value-w, value-weights, by-value}
 use Rattle.checks.specs.ProofChecks.{ProofFacts}
 use Rattle.targets.specs.Targets.{targetOf}
 use Rattle.targets.specs.Carried.{Carried}

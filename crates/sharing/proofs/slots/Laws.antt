@@ -24,9 +24,9 @@ use Rattle.squares.specs.Rows.{slotsOf, slots}
 use Rattle.squares.proofs.Sums.{coefficient-nil, coefficient-cons, gathered-none, gathered-more}
 use Rattle.squares.proofs.rows.Laws.{slots-pair, slots-lone}
 use Rattle.sheets.specs.Layout.{shapeOf}
-use Rattle.sheets.specs.ProofSheet.{vOf, wOf, tripleOf, rowOf, rowsOf}
 use Rattle.sheets.specs.declared.layout.Shape.{Shape}
-use Rattle.sheets.proofs.proof_sheet.Laws.{row-lone, row-pair, row-v, row-w, v-length, w-length, rows-table}
+use Rattle.rows.specs.ProofSheet.{vOf, wOf, tripleOf, rowOf, rowsOf}
+use Rattle.rows.proofs.proof_sheet.Laws.{row-lone, row-pair, row-v, row-w, v-length, w-length, rows-table}
 use Rattle.checks.specs.ProofChecks.{ProofFacts}
 use Rattle.targets.specs.Carried.{Carried}
 use Rattle.targets.proofs.Carried.{carried-same, carried-low}

@@ -24,9 +24,9 @@ use Rattle.squares.specs.Sums.{Sum}
 use Rattle.squares.specs.Rows.{slotsOf}
 use Rattle.squares.proofs.rows.Laws.{slots-pair, slots-lone}
 use Rattle.sheets.specs.Layout.{tripleAt}
-use Rattle.sheets.specs.ProofSheet.{vOf, wOf, tripleOf, rowOf}
 use Rattle.sheets.specs.declared.layout.Shape.{Shape}
-use Rattle.sheets.proofs.proof_sheet.Laws.{triple-inside, p-there, q-there, r-there, row-lone, row-pair, row-v, row-w}
+use Rattle.rows.specs.ProofSheet.{vOf, wOf, tripleOf, rowOf}
+use Rattle.rows.proofs.proof_sheet.Laws.{triple-inside, p-there, q-there, r-there, row-lone, row-pair, row-v, row-w}
 use Rattle.checks.specs.ProofChecks.{Within, ProofFacts}
 use Rattle.targets.specs.Carried.{Carried, CarriedKey}
 use Rattle.targets.proofs.Carried.{carried-same, carried-low}

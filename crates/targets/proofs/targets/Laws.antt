@@ -8,7 +8,7 @@ use Rattle.points.specs.Points.{Exponents}
 use Rattle.squares.specs.Targets.{lowered, target}
 use Rattle.sheets.specs.Layout.{variables}
 use Rattle.sheets.specs.ClaimSheet.{floorOf, termsOf}
-use Rattle.sheets.specs.ProofSheet.{scaleOf}
+use Rattle.rows.specs.ProofSheet.{scaleOf}
 use Rattle.targets.specs.Targets.{AimWithin, aimOf, targetOf}
 use Rattle.targets.specs.declared.targets.Aim.{Aim}
 

@@ -34,8 +34,8 @@ use Rattle.squares.proofs.Targets.{worst-kept, worst-negative, worst-positive, 
 use Rattle.squares.proofs.Sums.{coefficient-nil, coefficient-cons, coefficient-append}
 use Rattle.sheets.specs.Layout.{variables, termCount, ClaimRoom}
 use Rattle.sheets.specs.ClaimSheet.{floorOf, termPoint, coefficientOf, termOf, termsOf}
-use Rattle.sheets.specs.ProofSheet.{scaleOf}
 use Rattle.sheets.proofs.claim_sheet.Laws.{terms-table, term-point, term-coefficient}
+use Rattle.rows.specs.ProofSheet.{scaleOf}
 use Rattle.claims.specs.ClaimChecks.{ClaimFacts}
 use Rattle.claims.proofs.claim_checks.Laws.{points-differ}
 use Rattle.targets.specs.Targets.{AimWithin, Targeted, aimOf, targetOf, hasKey, loweredBy, coefficientFound, coefficientWith, targetWith}

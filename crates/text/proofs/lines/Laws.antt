@@ -7,7 +7,7 @@ use lib.ListN.{length, length-append}
 use mir.Syntax.{w32}
 use mir.Val.{SFits}
 use Rattle.integers.proofs.Integers.{ints, sizes}
-use Rattle.sheets.specs.declared.proof_sheet.Triple.{Triple}
+use Rattle.rows.specs.declared.proof_sheet.Triple.{Triple}
 use Rattle.text.specs.Text.{ascii, natural, integer, counted, numbered}
 use Rattle.text.specs.Lines.{scaleText, acceptedLine, laterText, weightsText, rowLine, refusedLine}
 use Rattle.text.proofs.text.Laws.{natural-short, integer-short}

@@ -14,8 +14,8 @@ use Rattle.squares.specs.Rows as Formal
 use Rattle.squares.specs.Rows.{slots}
 use Rattle.squares.specs.Decomposition.{AddsUp}
 use Rattle.sheets.specs.Layout.{variables, rowCount, shapeOf, proofLength}
-use Rattle.sheets.specs.ProofSheet.{scaleOf, tripleOf, rowOf, rowsOf, tripleFor, Narrow}
-use Rattle.sheets.specs.declared.proof_sheet.Triple.{Triple}
+use Rattle.rows.specs.ProofSheet.{scaleOf, tripleOf, rowOf, rowsOf, tripleFor, Narrow}
+use Rattle.rows.specs.declared.proof_sheet.Triple.{Triple}
 use Rattle.writing.proofs.writing.Laws.{all-length, all-before, all-scale, all-read, sheet-read, row-again, sheet-again}
 use Rattle.checks.specs.ProofChecks.{Within, ProofFacts}
 use Rattle.targets.specs.Targets.{targetOf}

@@ -9,10 +9,10 @@ use Rattle.bounds.specs.Bounds.{greatestWeight}
 use Rattle.squares.specs.Rows as Formal
 use Rattle.squares.specs.declared.rows.Weights.{Weights}
 use Rattle.sheets.specs.Layout.{rowCount, shapeOf, ProofRoom}
-use Rattle.sheets.specs.ProofSheet.{tripleFor, byValue, Narrow}
 use Rattle.sheets.specs.declared.layout.Shape.{Shape}
-use Rattle.sheets.specs.declared.proof_sheet.Row.{Row}
-use Rattle.sheets.proofs.proof_sheet.Laws.{value-weights}
+use Rattle.rows.specs.ProofSheet.{tripleFor, byValue, Narrow}
+use Rattle.rows.specs.declared.proof_sheet.Row.{Row}
+use Rattle.rows.proofs.proof_sheet.Laws.{value-weights}
 use Rattle.writing.specs.Writing.{withWeights, withRows}
 use Rattle.writing.proofs.writing.Laws.{all-none, all-more, all-length, all-append}
 use Rattle.checks.specs.ProofChecks.{ProofFacts}

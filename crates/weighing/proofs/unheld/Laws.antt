@@ -26,8 +26,8 @@ use Rattle.squares.proofs.Sums.{coefficient-none}
 use Rattle.squares.proofs.Targets.{target-zero, lowered-other}
 use Rattle.sheets.specs.Layout.{variables, termCount}
 use Rattle.sheets.specs.ClaimSheet.{termPoint, termOf, termsOf}
-use Rattle.sheets.specs.ProofSheet.{rowsOf}
 use Rattle.sheets.proofs.claim_sheet.Laws.{terms-table, term-point, point-length}
+use Rattle.rows.specs.ProofSheet.{rowsOf}
 use Rattle.targets.specs.Targets.{targetOf}
 use Rattle.targets.specs.declared.targets.Aim.{Aim}
 use Rattle.targets.proofs.targets.Laws.{target-of}

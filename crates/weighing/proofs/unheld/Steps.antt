@@ -19,8 +19,8 @@ use Rattle.keys.specs.Keys.{keyOf}
 use Rattle.squares.specs.Rows.{slots}
 use Rattle.sheets.specs.Layout.{variables, termCount, shapeOf}
 use Rattle.sheets.specs.ClaimSheet.{termPoint}
-use Rattle.sheets.specs.ProofSheet.{rowsOf}
 use Rattle.sheets.specs.declared.layout.Shape.{Shape}
+use Rattle.rows.specs.ProofSheet.{rowsOf}
 use Rattle.claims.specs.ClaimChecks.{ClaimFacts}
 use Rattle.checks.specs.ProofChecks.{ProofFacts}
 use Rattle.targets.specs.Carried.{Carried, CarriedKey}

@@ -12,7 +12,7 @@ use Rattle.points.specs.Points.{Exponents}
 use Rattle.squares.specs.Rows.{slots, Holds}
 use Rattle.squares.specs.Decomposition.{AddsUp}
 use Rattle.sheets.specs.Layout.{variables, rowCount}
-use Rattle.sheets.specs.ProofSheet.{tripleFor}
+use Rattle.rows.specs.ProofSheet.{tripleFor}
 use Rattle.checks.specs.ProofChecks.{Within}
 use Rattle.checks.proofs.proof_checks.Laws.{rows-counted}
 use Rattle.targets.specs.Targets.{targetOf}

@@ -18,10 +18,10 @@ use Rattle.points.proofs.Lists.{table-same}
 use Rattle.squares.specs.Rows.{Row}
 use Rattle.squares.specs.declared.rows.Weights.{Weights}
 use Rattle.sheets.specs.Layout.{shapeOf, place, tripleAt, proofLength, ProofRoom}
-use Rattle.sheets.specs.ProofSheet.{scaleOf, vOf, wOf, wordsAt, tripleOf, rowOf, rowsOf, tripleFor, Suits, Narrow}
 use Rattle.sheets.specs.declared.layout.Shape.{Shape}
-use Rattle.sheets.specs.declared.proof_sheet.Triple.{Triple}
-use Rattle.sheets.proofs.proof_sheet.Laws.{words-p, words-q, words-r, words-are, triple-at, scale-same, v-same, w-same, row-is, rows-table, suits-read, lone-again}
+use Rattle.rows.specs.ProofSheet.{scaleOf, vOf, wOf, wordsAt, tripleOf, rowOf, rowsOf, tripleFor, Suits, Narrow}
+use Rattle.rows.specs.declared.proof_sheet.Triple.{Triple}
+use Rattle.rows.proofs.proof_sheet.Laws.{words-p, words-q, words-r, words-are, triple-at, scale-same, v-same, w-same, row-is, rows-table, suits-read, lone-again}
 use Rattle.writing.specs.Writing.{withTriple, withWeights, withRows}
 
 -- ---- one triple

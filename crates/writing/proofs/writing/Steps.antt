@@ -5,8 +5,8 @@ use Prim.Native.Nat.{ℕ, _+_}
 use lib.IntN.{ℤ}
 use Rattle.integers.specs.Words.{withI32}
 use Rattle.squares.specs.declared.rows.Weights.{Weights}
-use Rattle.sheets.specs.ProofSheet.{tripleFor, Narrow}
-use Rattle.sheets.specs.declared.proof_sheet.Triple.{Triple}
+use Rattle.rows.specs.ProofSheet.{tripleFor, Narrow}
+use Rattle.rows.specs.declared.proof_sheet.Triple.{Triple}
 use Rattle.writing.specs.Writing.{withTriple}
 
 -- ---- write_triple and write_weights

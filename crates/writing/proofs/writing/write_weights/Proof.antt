@@ -1,5 +1,5 @@
 use borrow.Author.Needs.{needs}
-use Rattle.sheets.proofs.proof_sheet.Laws.{triple-inside}
+use Rattle.rows.proofs.proof_sheet.Laws.{triple-inside}
 use Rattle.writing.specs.Writing.{withWeights}
 use Rattle.writing.proofs.writing.Steps.{narrow-here}
 use Rattle.writing.proofs.writing.write_weights.Statement.{statement}
