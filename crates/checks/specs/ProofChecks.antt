@@ -39,7 +39,7 @@ qOrR x = not (eqb (natAbs (x .q)) 0) || not (eqb (natAbs (x .r)) 0)
 unfoldable pub anyBeyond : ℕ → Triple → Bool
 anyBeyond limit x = beyond limit (x .p) || beyond limit (x .q) || beyond limit (x .r)
 
--- row i rowBreaks a rule: "exponent over" the limit, "no whole midpoint", "lone row, q or r not zero", "proposed weight
+-- row i breaks a rule: "exponent over" the limit, "no whole midpoint", "lone row, q or r not zero", "proposed weight
 -- beyond" the limit
 unfoldable pub rowBreaks : RowRule → List ℕ → Shape → ℕ → Bool
 rowBreaks (Exponent limit) s shape i =

@@ -133,7 +133,7 @@ pub fn any_beyond(x: Triple, limit: u64) -> bool
     is_beyond(x.r, limit)
 }
 
-// Whether row i rowBreaks a rule.
+// Whether row i breaks a rule.
 fn row_wrong(rule: RowRule, proof: &[u8], shape: Shape, i: usize) -> bool
     requires { ⌜ (ProofRoom (now proof) shape) × (i < shape .k) ⌝ }
     ensures { λ r. ⌜ r ≡ rowBreaks rule (now (proof .entry)) shape i ⌝ }
@@ -146,7 +146,7 @@ fn row_wrong(rule: RowRule, proof: &[u8], shape: Shape, i: usize) -> bool
     }
 }
 
-// The first row that rowBreaks a rule.
+// The first row that breaks a rule.
 fn first_row(rule: RowRule, proof: &[u8], shape: Shape) -> Found
     requires { ⌜ ProofRoom (now proof) shape ⌝ }
     ensures { λ r. ⌜ r ≡ first (rowBreaks rule (now (proof .entry)) shape) (shape .k) ⌝ }

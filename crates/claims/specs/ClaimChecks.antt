@@ -23,7 +23,7 @@ countsRight c = leb 1 (variables c) && leb (variables c) mostVariables && leb (t
 unfoldable pub claimHeaderRight : List ℕ → Bool
 claimHeaderRight c = countsRight c && eqb (getD c 2 0) 0 && eqb (getD c 3 0) 0
 
--- term i termBreaks a rule: "coefficient zero or beyond", "exponent over" the limit, "point not above the one before"
+-- term i breaks a rule: "coefficient zero or beyond", "exponent over" the limit, "point not above the one before"
 unfoldable pub termBreaks : TermRule → List ℕ → ℕ → ℕ → ℕ → Bool
 termBreaks (Coefficient limit) c n t i = eqb (natAbs (coefficientOf c n t i)) 0 || beyond limit (coefficientOf c n t i)
 termBreaks (Exponent limit) c n t i = not (exponentsWithin limit (termPoint c n i))

@@ -96,7 +96,7 @@ fn order_wrong(claim: &[u8], n: usize, t: usize, i: usize) -> bool
     !rises(term_point(claim, n, t, i - 1), term_point(claim, n, t, i))
 }
 
-// Whether term i termBreaks a rule.
+// Whether term i breaks a rule.
 fn term_wrong(rule: TermRule, claim: &[u8], n: usize, t: usize, i: usize) -> bool
     requires { ⌜ (ClaimRoom (now claim) n t) × (i < t) ⌝ }
     ensures { λ r. ⌜ r ≡ termBreaks rule (now (claim .entry)) n t i ⌝ }
@@ -108,7 +108,7 @@ fn term_wrong(rule: TermRule, claim: &[u8], n: usize, t: usize, i: usize) -> boo
     }
 }
 
-// The first term that termBreaks a rule.
+// The first term that breaks a rule.
 fn first_term(rule: TermRule, claim: &[u8], n: usize, t: usize) -> Found
     requires { ⌜ ClaimRoom (now claim) n t ⌝ }
     ensures { λ r. ⌜ r ≡ first (termBreaks rule (now (claim .entry)) n t) t ⌝ }

@@ -38,9 +38,9 @@ module _ (c s : List ℕ) where
   abbrev τ : Exponents → ℤ
   τ = targetsOf c s
 
-  target-here : (α : Exponents) → τ α ≡ target (scaleOf s) (lowered (variables c) (floorOf c) (termsOf c)) α
+  targets-meant : (α : Exponents) → τ α ≡ target (scaleOf s) (lowered (variables c) (floorOf c) (termsOf c)) α
   unfolding targetsOf
-  target-here α = targets-are c s α
+  targets-meant α = targets-are c s α
 
   -- ---- what an acceptance says
 
@@ -79,7 +79,7 @@ module _ (c s : List ℕ) where
           sized = terms-sized c;
           placed = rw (own .same) at (rows-stay-placed τ s (own .proof));
           hold = d .hold;
-          adds-up = λ α l. d .adds-up α l ∙ target-here α;
+          adds-up = λ α l. d .adds-up α l ∙ targets-meant α;
         })
 
   -- ---- and what is accepted

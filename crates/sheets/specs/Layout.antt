@@ -29,8 +29,8 @@ coefficientAt n t i = place (place 8 t n) i 4
 abbrev pub claimLength : ℕ → ℕ → ℕ
 claimLength n t = place 8 t (n + 4)
 
--- ---- the proof: eight bytes, "then k rows, each two points v and w", "then k weight triples p, q, r, each signed
--- 32-bit"
+-- ---- the proof: eight bytes, "then k rows, each two points v and w",
+-- "then k weight triples p, q, r, each signed 32-bit"
 
 -- "Bytes 2 and 3: k, rows"
 abbrev pub rowCount : List ℕ → ℕ

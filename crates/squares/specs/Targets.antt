@@ -15,7 +15,7 @@ lowered n b f = (replicate n 0, negℤ b) ∷ f
 unfoldable pub worst : Bool → ℤ → ℤ
 worst keeps c = cond keeps c (negℤ (pos (natAbs c)))
 
--- "S times the coefficient of g if every exponent is even, else minus S times its absolute value. At a point outside
--- g it is 0."
+-- "S times the coefficient of g if every exponent is even, else minus S times its absolute value.
+-- At a point outside g it is 0."
 unfoldable pub target : ℕ → Sum → Exponents → ℤ
 target S g α = pos S *ℤ worst (keepsSign α) (coefficient α g)

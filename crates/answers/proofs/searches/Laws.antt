@@ -1,5 +1,5 @@
--- Laws of searches: the loop that looks for the first index at which something is wrong, and what it says of every
--- index.
+-- Laws of searches: the loop that looks for the first index at which something is wrong,
+-- and what it says of every index.
 use mathlib.Core.Path.{_≡_, refl, sym, _∙_}
 use mathlib.Core.Bool.{Bool, true, false}
 use mathlib.Core.Logic.{⊎-elim}

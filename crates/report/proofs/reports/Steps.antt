@@ -203,10 +203,10 @@ module _ (c s l o : List ℕ) (v : Verdict) (end : ℕ) where
   unfolding reportText
   refused-report x number index h en ei w = rw (failed v (says v) refl x h, ← en, ← ei) w
 
--- b is whether the sheets carry it
+-- b is whether the sheets have what the report prints
 module _ (c s l : List ℕ) (k : ℕ) (b : Bool) (e : b ≡ reportable c s k) where
-  pub carried : b ≡ true → reportable c s k ≡ true
-  carried t = sym e ∙ t
+  pub reported : b ≡ true → reportable c s k ≡ true
+  reported t = sym e ∙ t
 
   module _ (v : Verdict) (h : v ≡ Accepted k) where
     pub accepted-report : (o : List ℕ) (end : ℕ) → b ≡ true → Written l 0 (acceptedText c s k) o end

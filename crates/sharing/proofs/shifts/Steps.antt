@@ -174,9 +174,6 @@ module _ (c s : List ℕ) (t : Aim) (i : ℕ) (given : CheckedSheets c s t) (l :
   abbrev β : Exponents
   β = wOf s sh i
 
-  proof-here : ProofFacts s sh
-  proof-here = given .proof
-
   -- the weight x of the row's slot at p, shifted
   abbrev shiftedAt : Point → ℤ → ℤ
   shiftedAt p x =
@@ -249,13 +246,13 @@ module _ (c s : List ℕ) (t : Aim) (i : ℕ) (given : CheckedSheets c s t) (l :
       r-within r′ er = rw (er, ← (parts .3)) (given .proof .weights-within i l .r-within)
 
       β-off-α : samePoint β α ≡ false
-      β-off-α = w-off-v s sh i proof-here l (parts .0)
+      β-off-α = w-off-v s sh i (given .proof) l (parts .0)
 
       mid-off-α : samePoint (midpointOf α β) α ≡ false
-      mid-off-α = u-off-v s sh i proof-here l (parts .0)
+      mid-off-α = u-off-v s sh i (given .proof) l (parts .0)
 
       mid-off-β : samePoint (midpointOf α β) β ≡ false
-      mid-off-β = u-off-w s sh i proof-here l (parts .0)
+      mid-off-β = u-off-w s sh i (given .proof) l (parts .0)
 
       pair-held : (γ : Exponents) → 0 < count γ ((α, p) ∷ (β, q) ∷ (midpointOf α β, r) ∷ [])
           → Held γ

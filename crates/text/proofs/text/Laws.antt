@@ -13,16 +13,16 @@ use Rattle.text.specs.Text.{digits, natural, integer, numbered, Room, Wr
 
 -- ---- one text after another
 
-pub sets-append : (a b l : List ℕ) (at : ℕ) → sets (sets l at a) (at + length a) b ≡ sets l at (a ++ b)
-sets-append [] b l at = ap (λ (k : ℕ). sets l k b) (omega arith)
-sets-append (x ∷ a) b l at =
+pub sets-joined : (a b l : List ℕ) (at : ℕ) → sets (sets l at a) (at + length a) b ≡ sets l at (a ++ b)
+sets-joined [] b l at = ap (λ (k : ℕ). sets l k b) (omega arith)
+sets-joined (x ∷ a) b l at =
     let e : at + suc (length a) ≡ suc at + length a = omega arith in
-    rw e (sets-append a b (set l at x) (suc at))
+    rw e (sets-joined a b (set l at x) (suc at))
 
 pub written-then : {l m o : List ℕ} {at mid end : ℕ} (a b : List ℕ) → Written l at a m mid → Written m mid b o end
     → Written l at (a ++ b) o end
 written-then {l} {m} {o} {at} {mid} {end} a b p q = record {
-  bytes = q .bytes ∙ rw (p .bytes, p .ends) (sets-append a b l at);
+  bytes = q .bytes ∙ rw (p .bytes, p .ends) (sets-joined a b l at);
   ends = q .ends ∙ rw (p .ends, length-append a b) (omega arith);
   kept = q .kept ∙ p .kept;
   inside = q .inside;

@@ -11,7 +11,7 @@ use lib.Seq.{sets, length-sets, take-suc, take-all}
 use lib.Signed.{ltZ}
 use borrow.Author.Tests.{ltb-true}
 use Rattle.text.specs.Text.{natural, integer, numbered, Room, Written}
-use Rattle.text.proofs.text.Laws.{natural-before, natural-last, room-first, room-then, sets-append, written-then}
+use Rattle.text.proofs.text.Laws.{natural-before, natural-last, room-first, room-then, sets-joined, written-then}
 
 -- ---- one text after another
 
@@ -22,7 +22,7 @@ module _ (l o t : List ℕ) (at i : ℕ) (e : o ≡ sets l at (take i t)) where
       let n : i ≡ length (take i t) = omega (arith, length-take i t) in
       rw (add-one, take-suc t i 0 h, e)
       (ap (λ (k : ℕ). set (sets l at (take i t)) (at + k) (getD t i 0)) n
-      ∙ sets-append (take i t) (getD t i 0 ∷ []) l at)
+      ∙ sets-joined (take i t) (getD t i 0 ∷ []) l at)
 
   pub copied-end : length t ≤ i → Room l at t → Written l at t o (at + length t)
   copied-end h r =

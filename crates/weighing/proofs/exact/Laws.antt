@@ -16,7 +16,7 @@ use Rattle.squares.specs.Decomposition.{AddsUp}
 use Rattle.sheets.specs.Layout.{variables, rowCount, shapeOf, proofLength}
 use Rattle.rows.specs.ProofSheet.{scaleOf, tripleOf, rowOf, rowsOf, tripleFor, Narrow}
 use Rattle.rows.specs.declared.proof_sheet.Triple.{Triple}
-use Rattle.writing.proofs.writing.Laws.{all-length, all-before, all-scale, all-read, sheet-read, row-again, sheet-again}
+use Rattle.writing.proofs.writing.Laws.{rows-length, rows-before, rows-scale, rows-read, sheet-read, row-again, sheet-again}
 use Rattle.checks.specs.ProofChecks.{Within, ProofFacts}
 use Rattle.targets.specs.Targets.{targetOf}
 use Rattle.targets.specs.declared.targets.Aim.{Aim}
@@ -48,21 +48,21 @@ exact-rows c s t given w =
 module _ (τ : Exponents → ℤ) (s : List ℕ) where
   pub exact-length : length (exactProof τ s) ≡ length s
   unfolding exactProof
-  exact-length = all-length (weightsFor τ s) s (shapeOf s) (rowCount s)
+  exact-length = rows-length (weightsFor τ s) s (shapeOf s) (rowCount s)
 
   pub exact-variables : variables (exactProof τ s) ≡ variables s
   unfolding exactProof
-  exact-variables = all-before (weightsFor τ s) s (shapeOf s) (rowCount s) 0 (omega arith)
+  exact-variables = rows-before (weightsFor τ s) s (shapeOf s) (rowCount s) 0 (omega arith)
 
   pub exact-scale : scaleOf (exactProof τ s) ≡ scaleOf s
   unfolding exactProof
-  exact-scale = all-scale (weightsFor τ s) s (shapeOf s) (rowCount s)
+  exact-scale = rows-scale (weightsFor τ s) s (shapeOf s) (rowCount s)
 
   pub exact-weights : proofLength (shapeOf s) ≤ length s → AllWithin greatestWeight τ s
       → (i : ℕ) → i < rowCount s → tripleOf (exactProof τ s) (shapeOf s) i ≡ tripleFor (weightsFor τ s i)
   unfolding exactProof
   exact-weights r w i l =
-      all-read (weightsFor τ s) s (shapeOf s) (rowCount s) i l (omega arith) r
+      rows-read (weightsFor τ s) s (shapeOf s) (rowCount s) i l (omega arith) r
       (λ j m. within-narrow _ (w .within j m))
 
 -- ---- where the proposed weights add up, they stay, and so does the proof

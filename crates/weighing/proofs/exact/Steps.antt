@@ -14,7 +14,7 @@ use Rattle.rows.specs.ProofSheet.{tripleFor, byValue, Narrow}
 use Rattle.rows.specs.declared.proof_sheet.Row.{Row}
 use Rattle.rows.proofs.proof_sheet.Laws.{value-weights}
 use Rattle.writing.specs.Writing.{withWeights, withRows}
-use Rattle.writing.proofs.writing.Laws.{all-none, all-more, all-length, all-append}
+use Rattle.writing.proofs.writing.Laws.{rows-none, rows-more, rows-length, rows-append}
 use Rattle.checks.specs.ProofChecks.{ProofFacts}
 use Rattle.targets.specs.Targets.{targetOf}
 use Rattle.targets.specs.declared.targets.Aim.{Aim}
@@ -40,11 +40,11 @@ module _ (c s : List ℕ) (t : Aim) (given : CheckedSheets c s t) (sh : Shape) (
     room-kept l = record {
       few = proof-here .header .room .few;
       rows = proof-here .header .room .rows;
-      long = rw (e, all-length weights out₀ sh i) (omega (arith, proof-here .header .sized, l));
+      long = rw (e, rows-length weights out₀ sh i) (omega (arith, proof-here .header .sized, l));
     }
 
     pub length-kept : length out ≡ length out₀
-    length-kept = rw e (all-length weights out₀ sh i)
+    length-kept = rw e (rows-length weights out₀ sh i)
 
     module _ (row : Row) (a : Weights) (er : row ≡ byValue (shiftedRow (targetOf c t) s i)) (ea : a ≡ row .weights)
       where
@@ -56,13 +56,13 @@ module _ (c s : List ℕ) (t : Aim) (given : CheckedSheets c s t) (sh : Shape) (
         weights-narrow w l = rw weights-are (within-narrow _ (w .within i (rw es at l)))
 
         pub rows-next : (out′ : List ℕ) → out′ ≡ withWeights out sh i a → out′ ≡ withRows weights out₀ sh (i + 1)
-        rows-next out′ eo = eo ∙ rw (e, weights-are) (sym (all-more weights out₀ sh i))
+        rows-next out′ eo = eo ∙ rw (e, weights-are) (sym (rows-more weights out₀ sh i))
 
     pub rows-end : sh .k ≤ i → i ≤ sh .k → out ≡ withRows weights out₀ (shapeOf s) (rowCount s)
     rows-end l m = let q : i ≡ sh .k = omega arith in e ∙ rw (q, es)
 
 pub rows-start : (weights : ℕ → Weights) (out : List ℕ) (sh : Shape) → out ≡ withRows weights out sh 0
-rows-start weights out sh = sym (all-none weights out sh)
+rows-start weights out sh = sym (rows-none weights out sh)
 
 -- ---- write_exact: o is the output with the proof copied into it
 
@@ -79,5 +79,5 @@ module _ (c s out o : List ℕ) (t : Aim) (e : o ≡ take (length s) s ++ drop (
   unfolding exactProof
   exact-written o′ given eo =
       eo ∙ rw copied
-      (all-append (weightsFor (targetOf c t) s) s (shapeOf s) (drop (length s) out) (rowCount s) (omega arith)
+      (rows-append (weightsFor (targetOf c t) s) s (shapeOf s) (drop (length s) out) (rowCount s) (omega arith)
       (given .proof .header .room .long))

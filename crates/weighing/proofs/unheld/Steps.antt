@@ -62,13 +62,13 @@ pub no-target : (c : List ℕ) (a : Aim) (m : ℕ) (p : Point) (x x′ : ℤ) �
 no-target c a m p x x′ ex em e = rw (em, e, ex)
 
 module _ (c : List ℕ) (t i : ℕ) (et : t ≡ termCount c) (l : i < t) where
-  pub term-inside : i < termCount c
-  term-inside = rw et at l
+  pub term-counted : i < termCount c
+  term-counted = rw et at l
 
   pub point-of-term : (p : Point) → exponents p ≡ pointFor c (variables c) (termCount c) i
       → exponents p ≡ termPoint c (variables c) i
   unfolding pointFor
-  point-of-term p e = e ∙ rw (lt-ltb i (termCount c) term-inside)
+  point-of-term p e = e ∙ rw (lt-ltb i (termCount c) term-counted)
 
 -- ---- a point with no target, one that is held, and one that is neither
 

@@ -93,44 +93,44 @@ module _ (weights : ℕ → Weights) (s : List ℕ) (sh : Shape) where
   abbrev next : ℕ → Triple
   next i = tripleFor (weights i)
 
-  pub all-none : so 0 ≡ s
+  pub rows-none : so 0 ≡ s
   unfolding withRows
-  all-none = refl
+  rows-none = refl
 
-  pub all-more : (i : ℕ) → so (i + 1) ≡ withWeights (so i) sh i (weights i)
+  pub rows-more : (i : ℕ) → so (i + 1) ≡ withWeights (so i) sh i (weights i)
   unfolding withRows
-  all-more i = rw add-one
+  rows-more i = rw add-one
 
-  pub all-length : (i : ℕ) → length (so i) ≡ length s
+  pub rows-length : (i : ℕ) → length (so i) ≡ length s
   unfolding withRows withWeights
-  all-length zero = refl
-  all-length (suc i) = triple-length (so i) (tripleAt sh i) (next i) ∙ all-length i
+  rows-length zero = refl
+  rows-length (suc i) = triple-length (so i) (tripleAt sh i) (next i) ∙ rows-length i
 
   -- header and points stay
-  pub all-before : (i j : ℕ) → j < place 8 (sh .k) (2 * sh .n) → getD (so i) j 0 ≡ getD s j 0
+  pub rows-before : (i j : ℕ) → j < place 8 (sh .k) (2 * sh .n) → getD (so i) j 0 ≡ getD s j 0
   unfolding withRows withWeights
-  all-before zero j h = refl
-  all-before (suc i) j h = triple-before (so i) (tripleAt sh i) (next i) j (omega arith) ∙ all-before i j h
+  rows-before zero j h = refl
+  rows-before (suc i) j h = triple-before (so i) (tripleAt sh i) (next i) j (omega arith) ∙ rows-before i j h
 
-  pub all-scale : (i : ℕ) → scaleOf (so i) ≡ scaleOf s
-  all-scale i = scale-same (so i) s sh (all-before i)
+  pub rows-scale : (i : ℕ) → scaleOf (so i) ≡ scaleOf s
+  rows-scale i = scale-same (so i) s sh (rows-before i)
 
   -- and so does what comes after the proof
-  pub all-append : (l : List ℕ) (i : ℕ) → i ≤ sh .k → proofLength sh ≤ length s
+  pub rows-append : (l : List ℕ) (i : ℕ) → i ≤ sh .k → proofLength sh ≤ length s
       → withRows weights (s ++ l) sh i ≡ so i ++ l
   unfolding withRows withWeights
-  all-append l zero h r = refl
-  all-append l (suc i) h r =
-      rw (all-append l i (omega arith) r)
-      (triple-append (so i) (tripleAt sh i) (next i) l (rw all-length (omega (arith, mul-le-mul-right 12 h))))
+  rows-append l zero h r = refl
+  rows-append l (suc i) h r =
+      rw (rows-append l i (omega arith) r)
+      (triple-append (so i) (tripleAt sh i) (next i) l (rw rows-length (omega (arith, mul-le-mul-right 12 h))))
 
   -- each triple reads back
-  pub all-read : (i j : ℕ) → j < i → i ≤ sh .k → proofLength sh ≤ length s → ((j : ℕ) → j < sh .k → Narrow (next j))
+  pub rows-read : (i j : ℕ) → j < i → i ≤ sh .k → proofLength sh ≤ length s → ((j : ℕ) → j < sh .k → Narrow (next j))
       → tripleOf (so i) sh j ≡ next j
   unfolding withRows withWeights
-  all-read zero j h l r f = absurd (omega arith)
-  all-read (suc i) j h l r f =
-      triple-at (so (suc i)) sh j ∙ go (decLt j i) (λ g. sym (triple-at (so i) sh j) ∙ all-read i j g (omega arith) r f)
+  rows-read zero j h l r f = absurd (omega arith)
+  rows-read (suc i) j h l r f =
+      triple-at (so (suc i)) sh j ∙ go (decLt j i) (λ g. sym (triple-at (so i) sh j) ∙ rows-read i j g (omega arith) r f)
     where
       go : Dec (j < i) → (j < i → wordsAt (so i) (tripleAt sh j) ≡ next j)
           → wordsAt (withTriple (so i) (tripleAt sh i) (next i)) (tripleAt sh j) ≡ next j
@@ -139,15 +139,15 @@ module _ (weights : ℕ → Weights) (s : List ℕ) (sh : Shape) where
           ∙ below g
       go (no g) below =
           let q : j ≡ i = omega arith in
-          let room : tripleAt sh i + 12 ≤ length (so i) = rw all-length (omega (arith, mul-le-mul-right 12 l)) in
+          let room : tripleAt sh i + 12 ≤ length (so i) = rw rows-length (omega (arith, mul-le-mul-right 12 l)) in
           rw q (triple-reads (so i) (tripleAt sh i) (next i) room (f i l))
 
   -- weights written as they were give the same sheet, byte by byte
-  all-again : (i : ℕ) → Bytes s → ((j : ℕ) → j < i → next j ≡ tripleOf s sh j) → so i ≡ s
+  rows-again : (i : ℕ) → Bytes s → ((j : ℕ) → j < i → next j ≡ tripleOf s sh j) → so i ≡ s
   unfolding withRows withWeights
-  all-again zero b h = refl
-  all-again (suc i) b h =
-      rw (all-again i b (λ j l. h j (omega arith)), h i (omega arith), triple-at) (triple-again s (tripleAt sh i) b)
+  rows-again zero b h = refl
+  rows-again (suc i) b h =
+      rw (rows-again i b (λ j l. h j (omega arith)), h i (omega arith), triple-at) (triple-again s (tripleAt sh i) b)
 
 -- ---- rows
 
@@ -163,7 +163,7 @@ module _ (s : List ℕ) (sh : Shape) where
 
       pub sheet-again : (weights : ℕ → Weights) → Bytes s → ((i : ℕ) → i < sh .k → weights i ≡ rowOf s sh i .weights)
           → withRows weights s sh (sh .k) ≡ s
-      sheet-again weights b same = all-again weights s sh (sh .k) b (λ i l. ap tripleFor (same i l) ∙ row-again i l)
+      sheet-again weights b same = rows-again weights s sh (sh .k) b (λ i l. ap tripleFor (same i l) ∙ row-again i l)
 
   -- what is written reads back as the same rows with those weights
   module _ (weights : ℕ → Weights) (room : ProofRoom s sh)
@@ -176,7 +176,7 @@ module _ (s : List ℕ) (sh : Shape) where
     row i = record { v = vOf s sh i; w = wOf s sh i; weights = weights i }
 
     kept : (j : ℕ) → j < place 8 (sh .k) (2 * sh .n) → getD written j 0 ≡ getD s j 0
-    kept = all-before weights s sh (sh .k)
+    kept = rows-before weights s sh (sh .k)
 
     row-written : (i : ℕ) → i < sh .k → rowOf written sh i ≡ row i
     row-written i l =
@@ -184,7 +184,7 @@ module _ (s : List ℕ) (sh : Shape) where
           row-is,
           v-same written s sh kept i l,
           w-same written s sh kept i l,
-          all-read weights s sh (sh .k) i l (omega arith) (room .long) narrow,
+          rows-read weights s sh (sh .k) i l (omega arith) (room .long) narrow,
           suits-read (lone i) (weights i) (suits i l),
         )
 

@@ -1,5 +1,5 @@
 use borrow.Author.Needs.{needs}
-use Rattle.report.proofs.reports.Steps.{carried, accepted-room, empty-report, accepted-report, refused-report, refused-room}
+use Rattle.report.proofs.reports.Steps.{reported, accepted-room, empty-report, accepted-report, refused-report, refused-room}
 use Rattle.report.proofs.reports.report_text.Statement.{statement}
 use Rattle.report.proofs.reports.report_text.Tie as tie
 
@@ -10,7 +10,7 @@ returns : tie.Need-returns
 returns c = search refused-report
 
 accepted-text-requires : tie.Need-accepted-text-requires
-accepted-text-requires c κs = (search carried, search accepted-room)
+accepted-text-requires c κs = (search reported, search accepted-room)
 
 returns-2 : tie.Need-returns-2
 returns-2 c = search accepted-report

@@ -1,11 +1,11 @@
 use borrow.Author.Needs.{needs}
 use mir.Facts.{toZ-ofZ}
-use Rattle.weighing.proofs.unheld.Steps.{term-inside, point-of-term, no-target}
+use Rattle.weighing.proofs.unheld.Steps.{term-counted, point-of-term, no-target}
 use Rattle.weighing.proofs.unheld.no_target.Statement.{statement}
 use Rattle.weighing.proofs.unheld.no_target.Tie as tie
 
 term-target-requires : tie.Need-term-target-requires
-term-target-requires c κs = search (needs, term-inside, point-of-term)
+term-target-requires c κs = search (needs, term-counted, point-of-term)
 
 returns : tie.Need-returns
 returns c = search (no-target, toZ-ofZ)
