@@ -6,9 +6,7 @@ use lib.IntN.{ℤ, pos, _*ℤ_}
 use lib.Signed.{ltZ}
 use Rattle.bounds.specs.Bounds.{beyond}
 use Rattle.answers.specs.Answers.{Answer, accepted, refuseAt}
-use Rattle.answers.specs.Searches.{first}
-use Rattle.answers.specs.declared.searches.Found.{Found}
-use Rattle.answers.specs.declared.searches.Found.the-variants.{At, Nothing}
+use Rattle.answers.specs.Searches.{kept, first}
 use Rattle.squares.specs.Rows.{Row}
 use Rattle.squares.specs.declared.rows.Weights.{Weights}
 use Rattle.squares.specs.declared.rows.Weights.the-variants.{Pair, Lone}
@@ -69,11 +67,6 @@ unfoldable pub judgedAnswer : Firsts → ℕ → Answer
 judgedAnswer f k = refuseAt (f .beyond) 17 (refuseAt (f .negative) 18 (refuseAt (f .indefinite) 19 (accepted k)))
 
 -- ---- one row more, as the code goes over them
-
--- what was found before, or else i where row i counts
-unfoldable pub kept : Found → Bool → ℕ → Found
-kept (At j) hit i = At j
-kept Nothing hit i = cond hit (At i) Nothing
 
 unfoldable pub noted : Firsts → Judgement → ℕ → Firsts
 noted f j i = record {

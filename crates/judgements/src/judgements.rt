@@ -13,8 +13,9 @@ ghost use mathlib.Core.Bool.{true};
 ghost use Prim.Native.Nat.{_≤_};
 ghost use Rattle.bounds.specs.Bounds.{greatestWeight};
 ghost use Rattle.answers.specs.Answers.{says};
+ghost use Rattle.answers.specs.Searches.{kept};
 ghost use Rattle.checks.specs.ProofChecks.{Within};
-ghost use Rattle.judgements.specs.Judgements.{negative, indefinite, judgePair, judgeLone, judgementOf, kept, noted, judgedAnswer};
+ghost use Rattle.judgements.specs.Judgements.{negative, indefinite, judgePair, judgeLone, judgementOf, noted, judgedAnswer};
 
 // How a row is judged.
 pub enum Judgement {

@@ -11,7 +11,7 @@ use lib.Seq.{getD-append-add}
 use Rattle.integers.specs.Words.{u32At, i32At}
 use Rattle.bounds.specs.Bounds.{greatestExponent, greatestWeight, beyond}
 use Rattle.answers.specs.Answers.{says, accepted, refused, refuseIf, refuseAt, blameless, andThen}
-use Rattle.answers.specs.Searches.{first}
+use Rattle.answers.specs.Searches.{kept, first}
 use Rattle.answers.specs.declared.answers.Verdict.the-variants.{Accepted}
 use Rattle.answers.specs.declared.searches.Found.the-variants.{Nothing}
 use Rattle.answers.proofs.answers.Laws.{passed-at, then-passed}
@@ -32,7 +32,7 @@ use Rattle.worked.specs.Checks.{Case, claims, proves, full, manyPoints, 
 small-worked : map (λ (c : Case). formedAnswer (c .claim) (c .proof)) small ≡ map (λ (c : Case). c .answer) small
 unfolding
     u32At i32At table bytesAt every everyPair samePoint risesTo evenSum hasMidpoint exponentsWithin accepted
-    refused refuseIf refuseAt blameless andThen first beyond floorOf termPoint coefficientOf C.countsRight
+    refused refuseIf refuseAt blameless andThen kept first beyond floorOf termPoint coefficientOf C.countsRight
     C.claimHeaderRight C.termBreaks C.termsAnswer C.claimAnswer scaleOf vOf wOf wordsAt tripleOf
     P.proofHeaderRight P.headerAnswer P.qOrR P.anyBeyond P.rowBreaks P.rowsAnswer headAnswer formedAnswer joined
     word words claimOf proofOf squareWith square squareProof claims proves twoTerms oneRow full manyPoints
@@ -78,15 +78,16 @@ weights-light i =
     )
 
 exponents-low : Nothing ≡ first (P.rowBreaks (R.Exponent greatestExponent) many shape) 256
-unfolding first P.rowBreaks exponentsWithin every vOf wOf bytesAt table many manyRows manyPoints joined word
+unfolding first kept P.rowBreaks exponentsWithin every vOf wOf bytesAt table many manyRows manyPoints joined word
 exponents-low = refl
 
 midpoints-whole : Nothing ≡ first (P.rowBreaks R.Midpoint many shape) 256
-unfolding first P.rowBreaks hasMidpoint everyPair evenSum vOf wOf bytesAt table many manyRows manyPoints joined word
+unfolding
+    first kept P.rowBreaks hasMidpoint everyPair evenSum vOf wOf bytesAt table many manyRows manyPoints joined word
 midpoints-whole = refl
 
 none-lone : Nothing ≡ first (P.rowBreaks R.Unused many shape) 256
-unfolding first P.rowBreaks samePoint everyPair vOf wOf bytesAt table many manyRows manyPoints joined word
+unfolding first kept P.rowBreaks samePoint everyPair vOf wOf bytesAt table many manyRows manyPoints joined word
 none-lone = refl
 
 rows-right : says (Accepted 0) ≡ P.rowsAnswer many shape
@@ -99,7 +100,7 @@ rows-right =
 
 claim-right : says (Accepted 0) ≡ C.claimAnswer square
 unfolding
-    says accepted refuseIf refuseAt first C.claimAnswer C.termsAnswer C.countsRight C.claimHeaderRight
+    says accepted refuseIf refuseAt kept first C.claimAnswer C.termsAnswer C.countsRight C.claimHeaderRight
     C.termBreaks floorOf termPoint coefficientOf i32At u32At bytesAt table beyond exponentsWithin every risesTo
     squareWith square claimOf joined word words
 claim-right = refl

@@ -3,7 +3,7 @@ use mathlib.Core.Path.{refl}
 use Rattle.integers.specs.Words.{u32At, i32At}
 use Rattle.bounds.specs.Bounds.{beyond}
 use Rattle.answers.specs.Answers.{accepted, refused, refuseIf, refuseAt, blameless, andThen}
-use Rattle.answers.specs.Searches.{first}
+use Rattle.answers.specs.Searches.{kept, first}
 use Rattle.points.specs.Lists.{table}
 use Rattle.points.specs.Points.{bytesAt, every, risesTo, exponentsWithin}
 use Rattle.monomials.specs.Powers.{powerOf, monomialOf}
@@ -18,6 +18,6 @@ pub worked : Worked
 unfolding
     u32At i32At table bytesAt every risesTo exponentsWithin powerOf monomialOf value floorOf termPoint
     coefficientOf termOf termsOf accepted refused refuseIf refuseAt blameless andThen beyond joined word words
-    claimOf twoTerms squareWith square countsRight claimHeaderRight termBreaks termsAnswer claimAnswer first
+    claimOf twoTerms squareWith square countsRight claimHeaderRight termBreaks termsAnswer claimAnswer kept first
     toldBy termValue tooLarge tooLargeAnswer evaluationAnswer evaluationOf at oneAt least greatest cases
 worked = refl

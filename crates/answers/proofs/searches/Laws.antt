@@ -9,22 +9,41 @@ use native.Mathlib.Nat.{eq-or-lt-of-le, le-of-suc-le-suc}
 use native.Mathlib.Numerals.{add-one}
 use native.Mathlib.Omega.{arith}
 use Rattle.integers.proofs.Tests.{never}
-use Rattle.answers.specs.Searches.{first}
+use Rattle.answers.specs.Searches.{kept, first}
 use Rattle.answers.specs.declared.searches.Found.{Found}
 use Rattle.answers.specs.declared.searches.Found.the-variants.{At, Nothing}
+
+-- one index more: what was found is kept
+module _ (f : Found) (i : ℕ) where
+  pub kept-found : (j : ℕ) → f ≡ At j → f ≡ kept f true i
+  unfolding kept
+  kept-found j h = rw h
+
+  pub kept-none : f ≡ Nothing → At i ≡ kept f true i
+  unfolding kept
+  kept-none h = rw h
+
+pub kept-past : (f : Found) (i : ℕ) → kept f false i ≡ f
+unfolding kept
+kept-past (At j) i = refl
+kept-past Nothing i = refl
 
 module _ (wrong : ℕ → Bool) where
   pub first-start : first wrong 0 ≡ Nothing
   unfolding first
   first-start = refl
 
-  pub first-here : (i : ℕ) → first wrong i ≡ Nothing → wrong i ≡ true → first wrong (suc i) ≡ At i
+  pub first-more : (i : ℕ) → first wrong (suc i) ≡ kept (first wrong i) (wrong i) i
   unfolding first
-  first-here i h k = simp (first, h, k)
+  first-more i = refl
+
+  pub first-here : (i : ℕ) → first wrong i ≡ Nothing → wrong i ≡ true → first wrong (suc i) ≡ At i
+  unfolding kept
+  first-here i h k = rw (first-more, h, k)
 
   pub first-stays : (n i : ℕ) → first wrong n ≡ At i → first wrong (suc n) ≡ At i
-  unfolding first
-  first-stays n i h = simp (first, h)
+  unfolding kept
+  first-stays n i h = rw (first-more, h)
 
   first-found : (n i : ℕ) → i < n → first wrong i ≡ Nothing → wrong i ≡ true → first wrong n ≡ At i
   first-found n i l h k = le-ind (λ m. first wrong m ≡ At i) (first-here i h k) (λ m _. first-stays m i) n l
@@ -36,15 +55,15 @@ module _ (wrong : ℕ → Bool) where
 
   pub first-next : (i : ℕ) (r : Bool) → first wrong i ≡ Nothing → r ≡ wrong i → r ≡ false
       → first wrong (i + 1) ≡ Nothing
-  unfolding first
-  first-next i r h e k = rw add-one (simp (first, h, sym e ∙ k))
+  unfolding kept
+  first-next i r h e k = rw (add-one, first-more, h, sym e ∙ k)
 
   pub first-end : (n i : ℕ) → n ≤ i → i ≤ n → first wrong i ≡ Nothing → Nothing ≡ first wrong n
   first-end n i l m h = let q : i ≡ n = omega arith in sym (rw q at h)
 
 -- where nothing is wrong at any index below n there is none
 pub all-right : (wrong : ℕ → Bool) (n : ℕ) → ((i : ℕ) → i < n → wrong i ≡ false) → Nothing ≡ first wrong n
-unfolding first
+unfolding first kept
 all-right wrong zero h = refl
 all-right wrong (suc n) h = rw (← all-right wrong n (λ i l. h i (omega arith)), h n (omega arith))
 

@@ -16,10 +16,9 @@ use Rattle.answers.specs.Answers.{says, accepted, Passes, Short}
 use Rattle.answers.specs.Searches.{first}
 use Rattle.answers.specs.declared.answers.Verdict.{Verdict}
 use Rattle.answers.specs.declared.answers.Verdict.the-variants.{Accepted}
-use Rattle.answers.specs.declared.searches.Found.{Found}
-use Rattle.answers.specs.declared.searches.Found.the-variants.{At, Nothing}
+use Rattle.answers.specs.declared.searches.Found.the-variants.{Nothing}
 use Rattle.answers.proofs.answers.Laws.{passes-at, passed-at, accepted-says, short-accepted, short-at}
-use Rattle.answers.proofs.searches.Laws.{first-start, first-here, first-stays, first-next, none-wrong, all-right}
+use Rattle.answers.proofs.searches.Laws.{first-start, first-more, none-wrong, all-right}
 use Rattle.squares.specs.Rows.{Row}
 use Rattle.squares.specs.Rows as Formal
 use Rattle.squares.specs.declared.rows.Weights.{Weights}
@@ -30,7 +29,7 @@ use Rattle.rows.specs.declared.proof_sheet.Row as Value
 use Rattle.rows.proofs.proof_sheet.Laws.{for-lone, for-pair, value-weights}
 use Rattle.checks.specs.ProofChecks.{anyBeyond, Within}
 use Rattle.checks.proofs.proof_checks.Laws.{none-beyond, within-none}
-use Rattle.judgements.specs.Judgements.{negative, indefinite, judgePair, judgeLone, judgementOf, numberOf, judgedAs, kept, noted, firstsTo, judgedAnswer}
+use Rattle.judgements.specs.Judgements.{negative, indefinite, judgePair, judgeLone, judgementOf, numberOf, judgedAs, noted, firstsTo, judgedAnswer}
 use Rattle.judgements.specs.declared.judgements.Firsts.{Firsts}
 use Rattle.judgements.specs.declared.judgements.Judgement.{Judgement}
 use Rattle.judgements.specs.declared.judgements.Judgement.the-variants.{Holds, Beyond, Negative, Indefinite}
@@ -42,21 +41,10 @@ module _ (limit : ℕ) (row : ℕ → Row) where
   unfolding firstsTo
   firsts-start = rw (first-start, first-start, first-start)
 
-  kept-next : (number i : ℕ) → kept (first (judgedAs number limit row) i) (judgedAs number limit row i) i
-      ≡ first (judgedAs number limit row) (i + 1)
-  unfolding kept
-  kept-next number i = go (first (judgedAs number limit row) i) (judgedAs number limit row i) refl refl
-    where
-      go : (f : Found) (b : Bool) → first (judgedAs number limit row) i ≡ f → judgedAs number limit row i ≡ b
-          → kept f b i ≡ first (judgedAs number limit row) (i + 1)
-      go (At j) b h k = rw add-one (sym (first-stays _ i j h))
-      go Nothing true h k = rw add-one (sym (first-here _ i h k))
-      go Nothing false h k = sym (first-next _ i false h (sym k) refl)
-
   pub firsts-next : (i : ℕ) (f g : Firsts) (j : Judgement) → f ≡ firstsTo limit row i
       → j ≡ judgementOf limit (row i .weights) → g ≡ noted f j i → g ≡ firstsTo limit row (i + 1)
   unfolding firstsTo noted judgedAs
-  firsts-next i f g j ef ej eg = eg ∙ rw (ef, ej, kept-next 17 i, kept-next 18 i, kept-next 19 i)
+  firsts-next i f g j ef ej eg = eg ∙ rw (ef, ej, add-one, first-more, first-more, first-more)
 
 module _ (limit : ℕ) (row : ℕ → Row) (f : Firsts) where
   pub firsts-end : (i k : ℕ) → f ≡ firstsTo limit row i → k ≤ i → i ≤ k → f ≡ firstsTo limit row k

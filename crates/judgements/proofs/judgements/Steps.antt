@@ -13,11 +13,13 @@ use mir.Facts.{toZ-ofZ}
 use Rattle.integers.proofs.Integers.{back, abs-mul, fits-within}
 use Rattle.bounds.specs.Bounds.{beyond, greatestWeight}
 use Rattle.answers.specs.Answers.{says}
+use Rattle.answers.specs.Searches.{kept}
 use Rattle.answers.specs.declared.answers.Sheet.the-variants.{Proof}
 use Rattle.answers.specs.declared.answers.Verdict.the-variants.{Accepted, Refused}
 use Rattle.answers.specs.declared.searches.Found.{Found}
 use Rattle.answers.specs.declared.searches.Found.the-variants.{At, Nothing}
 use Rattle.answers.proofs.answers.Laws.{refused-at, passed-at, accepted-says, refused-says}
+use Rattle.answers.proofs.searches.Laws.{kept-past}
 use Rattle.squares.specs.Rows as Formal
 use Rattle.squares.specs.declared.rows.Weights.{Weights}
 use Rattle.squares.specs.declared.rows.Weights.the-variants.{Pair, Lone}
@@ -27,7 +29,7 @@ use Rattle.rows.specs.declared.proof_sheet.Row as Value
 use Rattle.rows.proofs.proof_sheet.Laws.{for-lone}
 use Rattle.checks.specs.ProofChecks.{anyBeyond, Within}
 use Rattle.checks.proofs.proof_checks.Laws.{none-beyond}
-use Rattle.judgements.specs.Judgements.{negative, indefinite, judgePair, judgeLone, judgementOf, numberOf, kept, noted, judgedAnswer}
+use Rattle.judgements.specs.Judgements.{negative, indefinite, judgePair, judgeLone, judgementOf, numberOf, noted, judgedAnswer}
 use Rattle.judgements.specs.declared.judgements.Firsts.{Firsts}
 use Rattle.judgements.specs.declared.judgements.Judgement.{Judgement}
 use Rattle.judgements.specs.declared.judgements.Judgement.the-variants.{Holds, Beyond, Negative, Indefinite}
@@ -145,22 +147,7 @@ pub judged-pair : (limit : ℕ) (a : Weights) (row : Value.Row) (p p′ q q′ r
 unfolding judgementOf
 judged-pair limit a row p p′ q q′ r r′ o eo ea er ep eq er′ = eo ∙ rw (ep, eq, er′, ← er, ea)
 
--- ---- keep and note
-
-module _ (f : Found) (i : ℕ) where
-  pub keep-found : (j : ℕ) → f ≡ At j → f ≡ kept f true i
-  unfolding kept
-  keep-found j h = rw h
-
-  pub keep-none : f ≡ Nothing → At i ≡ kept f true i
-  unfolding kept
-  keep-none h = rw h
-
--- what is not hit stays
-kept-past : (f : Found) (i : ℕ) → kept f false i ≡ f
-unfolding kept
-kept-past (At j) i = refl
-kept-past Nothing i = refl
+-- ---- note
 
 pub noted-holds : (f : Firsts) (j : Judgement) (i : ℕ) → j ≡ Holds → f ≡ noted f j i
 unfolding noted numberOf

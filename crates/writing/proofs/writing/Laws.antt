@@ -130,7 +130,8 @@ module _ (weights : ℕ → Weights) (s : List ℕ) (sh : Shape) where
   unfolding withRows withWeights
   rows-read zero j h l r f = absurd (omega arith)
   rows-read (suc i) j h l r f =
-      triple-at (so (suc i)) sh j ∙ go (decLt j i) (λ g. sym (triple-at (so i) sh j) ∙ rows-read i j g (omega arith) r f)
+      triple-at (so (suc i)) sh j
+      ∙ go (decLt j i) (λ g. sym (triple-at (so i) sh j) ∙ rows-read i j g (omega arith) r f)
     where
       go : Dec (j < i) → (j < i → wordsAt (so i) (tripleAt sh j) ≡ next j)
           → wordsAt (withTriple (so i) (tripleAt sh i) (next i)) (tripleAt sh j) ≡ next j
