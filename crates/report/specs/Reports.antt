@@ -51,7 +51,7 @@ reportable c s k =
     leb 8 (length c) && leb 8 (length s) && leb (variables s) mostVariables && leb k mostRows
     && leb (proofLength (shapeWith s k)) (length s)
 
--- the report of what a verdict says; an acceptance that the sheets do not carry, which is no check's verdict, has none
+-- the report of what a verdict says; an acceptance of more than the sheets have, which is no check's verdict, has none
 unfoldable pub reportText : List ℕ → List ℕ → Answer → List ℕ
 reportText c s answer =
     cond (blameless answer)

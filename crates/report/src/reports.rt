@@ -109,8 +109,8 @@ fn reportable(claim: &[u8], proof: &[u8], k: usize) -> bool
     proof_length(Shape { n, k }) <= proof.len()
 }
 
-// The report of a verdict on a claim, with its exact proof where it is accepted; the answer is where the text ends. An
-// acceptance that the sheets do not carry, which is no check's verdict, has no text.
+// The report of a verdict on a claim, with its exact proof where it is accepted; the answer is where the text ends.
+// An acceptance of more than the sheets have, which is no check's verdict, has no text.
 pub fn report_text(claim: &[u8], proof: &[u8], verdict: Verdict, out: &mut [u8; LONGEST]) -> usize
     ensures { λ r. ⌜ Written (now (out .entry)) 0 (reportText (now (claim .entry)) (now (proof .entry)) (says verdict))
         (now (out .exit)) r ⌝ }
