@@ -15,6 +15,21 @@ use Rattle.answers.specs.declared.searches.Found.the-variants.{At, Nothi
 pub data Blamed : Type 0 where
   none claim proof output offsets range limits page profile buffer table site : Blamed
 
+-- the number of each sheet, in the order in which document 01 names them; 0 where none is at fault
+abbrev pub sheetNumber : Blamed → ℕ
+sheetNumber none = 0
+sheetNumber claim = 1
+sheetNumber proof = 2
+sheetNumber output = 3
+sheetNumber offsets = 4
+sheetNumber range = 5
+sheetNumber limits = 6
+sheetNumber page = 7
+sheetNumber profile = 8
+sheetNumber buffer = 9
+sheetNumber table = 10
+sheetNumber site = 11
+
 -- the number of a refusal (0 where accepted), the sheet at fault, and the refusal's index (k where accepted)
 pub record Answer : Type 0 where
   pub number : ℕ

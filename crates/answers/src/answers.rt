@@ -1,6 +1,6 @@
 // Verdicts: accepted with the number of rows, or refused with the sheet at fault.
 ghost use mathlib.Core.Path.{_≡_};
-ghost use Rattle.answers.specs.Answers.{says};
+ghost use Rattle.answers.specs.Answers.{sheetNumber, says};
 
 // The sheet at fault, with the refusal's number and index.
 pub enum Sheet {
@@ -22,32 +22,79 @@ pub enum Verdict {
     Refused(Sheet),
 }
 
-// A verdict's two numbers: the refusal's number and its index, or 0 and k where it is accepted.
+// A verdict in numbers: the sheet at fault, the refusal's number and its index, or 0, 0 and k where it is accepted.
 pub struct Numbers {
+    pub sheet: u32,
     pub number: u32,
     pub value: usize,
 }
 
 pub fn numbers_of(verdict: Verdict) -> Numbers
-    ensures { λ r. ⌜ (r .number ≡ says verdict .number) × (r .value ≡ says verdict .value) ⌝ }
+    ensures { λ r. ⌜ (r .sheet ≡ sheetNumber (says verdict .blamed)) × (r .number ≡ says verdict .number)
+        × (r .value ≡ says verdict .value) ⌝ }
 {
     match verdict {
         Verdict::Accepted(k) => Numbers {
+            sheet: 0,
             number: 0,
             value: k,
         },
         Verdict::Refused(sheet) => match sheet {
-            Sheet::Claim(number, value) => Numbers { number, value },
-            Sheet::Proof(number, value) => Numbers { number, value },
-            Sheet::Output(number, value) => Numbers { number, value },
-            Sheet::Offsets(number, value) => Numbers { number, value },
-            Sheet::Range(number, value) => Numbers { number, value },
-            Sheet::Limits(number, value) => Numbers { number, value },
-            Sheet::Page(number, value) => Numbers { number, value },
-            Sheet::Profile(number, value) => Numbers { number, value },
-            Sheet::Buffer(number, value) => Numbers { number, value },
-            Sheet::Table(number, value) => Numbers { number, value },
-            Sheet::Site(number, value) => Numbers { number, value },
+            Sheet::Claim(number, value) => Numbers {
+                sheet: 1,
+                number,
+                value,
+            },
+            Sheet::Proof(number, value) => Numbers {
+                sheet: 2,
+                number,
+                value,
+            },
+            Sheet::Output(number, value) => Numbers {
+                sheet: 3,
+                number,
+                value,
+            },
+            Sheet::Offsets(number, value) => Numbers {
+                sheet: 4,
+                number,
+                value,
+            },
+            Sheet::Range(number, value) => Numbers {
+                sheet: 5,
+                number,
+                value,
+            },
+            Sheet::Limits(number, value) => Numbers {
+                sheet: 6,
+                number,
+                value,
+            },
+            Sheet::Page(number, value) => Numbers {
+                sheet: 7,
+                number,
+                value,
+            },
+            Sheet::Profile(number, value) => Numbers {
+                sheet: 8,
+                number,
+                value,
+            },
+            Sheet::Buffer(number, value) => Numbers {
+                sheet: 9,
+                number,
+                value,
+            },
+            Sheet::Table(number, value) => Numbers {
+                sheet: 10,
+                number,
+                value,
+            },
+            Sheet::Site(number, value) => Numbers {
+                sheet: 11,
+                number,
+                value,
+            },
         },
     }
 }

@@ -1,7 +1,8 @@
--- The steps of an evaluation: the sum of the terms, 21 at the first that is too large, and the promises.
+-- The steps of an evaluation: the sum of the terms, and 21 at the first that is too large.
 use mathlib.Core.Path.{_≡_, refl, sym, _∙_, ap, subst}
 use mathlib.Core.Bool.{Bool, true, false, not, cond}
 use mathlib.Core.List.{List, [], _∷_}
+use mathlib.Core.Logic.{_↔_}
 use Prim.Native.Nat.{ℕ, suc, _+_, _*_, _<_, _≤_}
 use native.Mathlib.Numerals.{add-one}
 use native.Mathlib.Omega.{arith}
@@ -41,7 +42,7 @@ use Rattle.sheets.specs.ClaimSheet.{termPoint, coefficientOf, termOf, termsOf}
 use Rattle.sheets.proofs.claim_sheet.Laws.{terms-table, term-point, term-coefficient}
 use Rattle.claims.specs.ClaimChecks.{claimAnswer}
 use Rattle.claims.proofs.claim_checks.Laws.{claim-passed}
-use Rattle.judging.proofs.Promises.{floor-kept}
+use Rattle.evaluation.proofs.Promises.{promised-value, promised-floored}
 use Rattle.evaluation.specs.Evaluations as Spec
 use Rattle.evaluation.specs.Evaluations.{refusal, tells, toldBy, termValue, tooLarge, tooLargeAnswer, sumTo, summed, evaluationAnswer, evaluationOf, Evaluable, Evaluates, Floored}
 use Rattle.evaluation.specs.declared.evaluations.Evaluation.{Evaluation}
@@ -56,67 +57,6 @@ told-refused x a z e = rw (← e, failed (Verdicts.Refused x) _ refl x refl)
 told-value : (a : Answer) (z : ℤ) → Passes a → tells (Value z) ≡ toldBy a z
 unfolding tells toldBy
 told-value a z h = rw h
-
--- a value is told only where every check is passed, and it is the one meant
-value-told : (a : Answer) (y z : ℤ) → toldBy a z ≡ Spec.value y → Passes a × (y ≡ z)
-unfolding toldBy
-value-told a y z h = go (blameless a) refl h
-  where
-    go : (b : Bool) → blameless a ≡ b → cond b (Spec.value z) (refusal a) ≡ Spec.value y → Passes a × (y ≡ z)
-    go true e k = (e, cc)
-    go false e k = never (cc)
-
--- ---- a value that is given, and when one is given
-
-value-given : (c : List ℕ) (x : List ℤ) (z : ℤ) → evaluationOf c x ≡ Spec.value z → z ≡ valueAt x (termsOf c)
-unfolding evaluationOf
-value-given c x z h = value-told _ z _ h .1
-
-evaluable : (c : List ℕ) (x : List ℤ) → Passes (evaluationAnswer c x) → Evaluable c x
-unfolding evaluationAnswer tooLargeAnswer tooLarge
-evaluable c x h =
-    let p = passes-then _ _ h in
-    let q = passes-if _ 20 _ refl (p .1) in
-    let r = passes-at _ 21 _ refl (q .1) in
-    record {
-      formed = p .0;
-      counted = eqb-true _ _ (not-false _ (q .0));
-      small = λ i l. within-bound _ _ (none-wrong _ _ (r .0) i l);
-    }
-
-small-passes : (c : List ℕ) (n t : ℕ) (x : List ℤ) → ((i : ℕ) → i < t → natAbs (termValue c n t x i) ≤ greatestValue)
-    → Passes (tooLargeAnswer c n t x)
-unfolding tooLargeAnswer tooLarge
-small-passes c n t x h =
-    let f = all-right (tooLarge c n t x) t (λ i l. bound-within _ _ (h i l)) in
-    rw (at-on _ 21 (accepted 0) (sym f)) (accepted-passes _ 0 refl)
-
-passes : (c : List ℕ) (x : List ℤ) → Evaluable c x → Passes (evaluationAnswer c x)
-unfolding evaluationAnswer
-passes c x e =
-    let last = tooLargeAnswer c (variables c) (termCount c) x in
-    let m : not (eqb (length x) (variables c)) ≡ false = rw (eq-eqb _ _ (e .counted)) in
-    rw (
-      then-on (claimAnswer c) (refuseIf (not (eqb (length x) (variables c))) 20 last) (e .formed),
-      if-on _ 20 last m,
-    )
-    (small-passes c (variables c) (termCount c) x (e .small))
-
-module _ (c : List ℕ) (x : List ℤ) (r : Evaluation) (h : tells r ≡ evaluationOf c x) where
-  pub evaluates : Evaluates c x r
-  unfolding evaluationOf tells
-  evaluates = record {
-    given = λ e. h ∙ sym (told-value _ _ (passes c x e));
-    exact = λ z q. (let t = value-told _ z _ (sym h ∙ q) in (evaluable c x (t .0), t .1));
-  }
-
-  -- the joint to the check
-  pub floored : Floored c x r
-  floored = record {
-    floored = λ s out k e z q.
-        let given = value-given c x z (sym h ∙ q) in
-        (given, rw given (floor-kept c s (length out) (accepted-passes _ k e) x));
-  }
 
 -- ---- the sum of the first terms
 
@@ -233,3 +173,14 @@ module _ (c : List ℕ) (x : List ℤ) (v : Verdict) (e : says v ≡ claimAnswer
               ← et,
             )
             er
+
+-- evaluate's promises: r is the evaluation
+module _ (c : List ℕ) (x : List ℤ) (r : Evaluation) (h : tells r ≡ evaluationOf c x) where
+  gives : (z : ℤ) → (tells r ≡ Spec.value z) ↔ (evaluationOf c x ≡ Spec.value z)
+  gives z = (λ e. sym h ∙ e, λ e. h ∙ e)
+
+  abbrev Given : ℤ → Type 0
+  Given z = tells r ≡ Spec.value z
+
+  pub answered : (tells r ≡ evaluationOf c x) × (Evaluates c x Given × Floored c x Given)
+  answered = (h, (promised-value c x _ gives, promised-floored c x _ gives))

@@ -1,16 +1,17 @@
 -- The steps of the whole check.
 use mathlib.Core.Path.{_≡_, sym, _∙_}
-use mathlib.Core.Bool.{true≢false}
+use mathlib.Core.Logic.{_↔_}
 use mathlib.Core.List.{List, _++_}
 use Prim.Native.Nat.{ℕ, _≤_}
 use native.Mathlib.Omega.{arith}
 use lib.ListN.{length, drop}
 use Rattle.integers.proofs.words.Laws.{Bytes}
-use Rattle.answers.specs.Answers.{says, Passes}
+use Rattle.answers.specs.Answers.{accepted, says, Passes}
 use Rattle.answers.specs.declared.answers.Sheet.{Sheet}
 use Rattle.answers.specs.declared.answers.Verdict.{Verdict}
 use Rattle.answers.specs.declared.answers.Verdict.the-variants.{Accepted, Refused}
 use Rattle.answers.proofs.answers.Laws.{then-refused, then-passed, passed, failed, accepted-passes}
+use Rattle.sheets.specs.Layout.{rowCount}
 use Rattle.checks.specs.Input.{WellFormed}
 use Rattle.checks.specs.Input.{inputAnswer}
 use Rattle.checks.proofs.input.Laws.{input-formed}
@@ -21,8 +22,8 @@ use Rattle.sharing.proofs.shifts.Laws.{sheets-checked}
 use Rattle.weighing.specs.Weighed.{weighedAnswer}
 use Rattle.weighing.specs.Exact.{Writable, exactProof}
 use Rattle.judging.specs.Check.{targetsOf, checkAnswer, outputOf}
-use Rattle.judging.specs.Promises.{Decides, Floors, Keeps}
-use Rattle.judging.proofs.Promises.{decision, floor-kept, exact-accepted, exact-bytes, accepted-formed, accepted-enough, accepted-within}
+use Rattle.judging.specs.Promises.{Decides, Reads, Floors, Keeps}
+use Rattle.judging.proofs.Promises.{accepted-formed, accepted-enough, accepted-within, accepted-rows, promised-decision, promised-floor, promised-rows, promised-exact}
 
 -- ---- what decide and check read of well-formed sheets: a is the aim that was read
 
@@ -64,23 +65,29 @@ module _ (c s : List ℕ) (room : ℕ) (v : Verdict) (e : says v ≡ inputAnswer
 -- ---- check: v is the verdict, o the output afterwards
 
 module _ (c s out : List ℕ) (v : Verdict) (e : says v ≡ checkAnswer c s (length out)) where
-  pub check-decides : Decides c s out v
-  check-decides = record { decides = λ f l. rw e (decision c s (length out) f l) }
+  accepts : Passes (says v) ↔ Passes (checkAnswer c s (length out))
+  accepts = (λ h. rw e at h, λ h. rw e h)
 
-  pub check-floors : Floors c v
-  check-floors = record { floors = λ k h. floor-kept c s (length out) (accepted-passes _ k (sym e ∙ h)) }
+  carries-rows : (says v ≡ accepted (rowCount s)) ↔ Passes (checkAnswer c s (length out))
+  carries-rows = (λ h. accepted-passes _ _ (sym e ∙ h), λ h. e ∙ accepted-rows c s (length out) h)
+
+  pub check-decides : Decides c s out (says v ≡ accepted (rowCount s))
+  check-decides = promised-decision c s out _ carries-rows
+
+  pub check-floors : Floors c (Passes (says v))
+  check-floors = promised-floor c s out _ accepts
+
+  module _ (o : List ℕ) (eo : o ≡ outputOf c s out) where
+    pub check-reads : Reads c s (Passes (says v)) o
+    check-reads = promised-rows c s out _ accepts o eo
+
+    pub check-keeps : Bytes s → Keeps c s out (says v ≡ accepted (rowCount s)) o
+    check-keeps = promised-exact c s out _ carries-rows o eo
 
   module _ (x : Sheet) (h : v ≡ Refused x) where
     pub refused-output : out ≡ outputOf c s out
     unfolding outputOf
     refused-output = rw (failed v _ e x h)
-
-    pub refused-keeps : (o : List ℕ) → Keeps c s out v o
-    refused-keeps o = record {
-      keeps = λ f l d.
-          let q = accepted-passes _ _ (exact-accepted c s f d (length out) l) in
-          absurd (true≢false (sym q ∙ failed v _ e x h));
-    }
 
   module _ (k : ℕ) (h : v ≡ Accepted k) where
     passes : Passes (checkAnswer c s (length out))
@@ -104,14 +111,6 @@ module _ (c s out : List ℕ) (v : Verdict) (e : says v ≡ checkAnswer c s (len
         room = accepted-enough c s (length out) passes;
       }
 
-      module _ (o : List ℕ) (eo : o ≡ exactProof (targetOf c a) s ++ drop (length s) out) where
-        pub accepted-output : o ≡ outputOf c s out
-        unfolding outputOf targetsOf
-        accepted-output = rw passes (rw ea at eo)
-
-        pub accepted-keeps : Bytes s → Keeps c s out v o
-        unfolding targetsOf
-        accepted-keeps y = record {
-          keeps = λ f l d.
-              (e ∙ exact-accepted c s f d (length out) l, (rw ea at eo) ∙ rw (exact-bytes c s f d y));
-        }
+      pub accepted-output : (o : List ℕ) → o ≡ exactProof (targetOf c a) s ++ drop (length s) out → o ≡ outputOf c s out
+      unfolding outputOf targetsOf
+      accepted-output o eo = rw passes (rw ea at eo)

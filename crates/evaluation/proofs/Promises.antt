@@ -1,0 +1,86 @@
+-- The promises of an evaluation, from what it tells.
+use mathlib.Core.Path.{_≡_, refl, sym}
+use mathlib.Core.Bool.{Bool, true, false, not, cond}
+use mathlib.Core.List.{List}
+use mathlib.Core.Logic.{_↔_}
+use Prim.Native.Nat.{ℕ, _<_, _≤_}
+use lib.Dec.{eqb}
+use lib.IntN.{ℤ, natAbs}
+use lib.ListN.{length}
+use borrow.Author.Tests.{eq-eqb, eqb-true, not-false}
+use Rattle.integers.proofs.Tests.{never}
+use Rattle.bounds.specs.Bounds.{greatestValue}
+use Rattle.bounds.proofs.bounds.Laws.{within-bound, bound-within}
+use Rattle.answers.specs.Answers.{Answer, accepted, refuseIf, blameless, Passes}
+use Rattle.answers.proofs.answers.Laws.{passes-if, passes-at, passes-then, then-on, if-on, at-on, accepted-passes}
+use Rattle.answers.proofs.searches.Laws.{none-wrong, all-right}
+use Rattle.sheets.specs.Layout.{variables, termCount}
+use Rattle.sheets.specs.ClaimSheet.{termsOf}
+use Rattle.claims.specs.ClaimChecks.{claimAnswer}
+use Rattle.judging.proofs.Promises.{floor-kept}
+use Rattle.evaluation.specs.Evaluations as Spec
+use Rattle.evaluation.specs.Evaluations.{refusal, toldBy, termValue, tooLarge, tooLargeAnswer, evaluationAnswer, evaluationOf, Evaluable, Evaluates, Floored}
+
+-- a value is told only where every check is passed, and it is the one meant
+value-told : (a : Answer) (y z : ℤ) → toldBy a z ≡ Spec.value y → Passes a × (y ≡ z)
+unfolding toldBy
+value-told a y z h = go (blameless a) refl h
+  where
+    go : (b : Bool) → blameless a ≡ b → cond b (Spec.value z) (refusal a) ≡ Spec.value y → Passes a × (y ≡ z)
+    go true e k = (e, cc)
+    go false e k = never (cc)
+
+told-passed : (a : Answer) (z : ℤ) → Passes a → toldBy a z ≡ Spec.value z
+unfolding toldBy
+told-passed a z h = rw h
+
+-- ---- when a value is given
+
+evaluable : (c : List ℕ) (x : List ℤ) → Passes (evaluationAnswer c x) → Evaluable c x
+unfolding evaluationAnswer tooLargeAnswer tooLarge
+evaluable c x h =
+    let p = passes-then _ _ h in
+    let q = passes-if _ 20 _ refl (p .1) in
+    let r = passes-at _ 21 _ refl (q .1) in
+    record {
+      formed = p .0;
+      counted = eqb-true _ _ (not-false _ (q .0));
+      small = λ i l. within-bound _ _ (none-wrong _ _ (r .0) i l);
+    }
+
+small-passes : (c : List ℕ) (n t : ℕ) (x : List ℤ) → ((i : ℕ) → i < t → natAbs (termValue c n t x i) ≤ greatestValue)
+    → Passes (tooLargeAnswer c n t x)
+unfolding tooLargeAnswer tooLarge
+small-passes c n t x h =
+    let f = all-right (tooLarge c n t x) t (λ i l. bound-within _ _ (h i l)) in
+    rw (at-on _ 21 (accepted 0) (sym f)) (accepted-passes _ 0 refl)
+
+passes : (c : List ℕ) (x : List ℤ) → Evaluable c x → Passes (evaluationAnswer c x)
+unfolding evaluationAnswer
+passes c x e =
+    let last = tooLargeAnswer c (variables c) (termCount c) x in
+    let m : not (eqb (length x) (variables c)) ≡ false = rw (eq-eqb _ _ (e .counted)) in
+    rw (
+      then-on (claimAnswer c) (refuseIf (not (eqb (length x) (variables c))) 20 last) (e .formed),
+      if-on _ 20 last m,
+    )
+    (small-passes c (variables c) (termCount c) x (e .small))
+
+-- ---- the promises, for whatever `Gives` is to say that a value is given
+
+module _ (c : List ℕ) (x : List ℤ) (Gives : ℤ → Type 0)
+    (meant : (z : ℤ) → Gives z ↔ (evaluationOf c x ≡ Spec.value z)) where
+  pub promised-value : Evaluates c x Gives
+  unfolding evaluationOf
+  promised-value = record {
+    given = λ e. meant _ .1 (told-passed _ _ (passes c x e));
+    exact = λ z q. let t = value-told _ z _ (meant z .0 q) in (evaluable c x (t .0), t .1);
+  }
+
+  -- the joint to the check
+  pub promised-floored : Floored c x Gives
+  promised-floored = record {
+    floored = λ s out h z q.
+        let given = promised-value .exact z q .1 in
+        (given, rw given (floor-kept c s (length out) h x));
+  }
