@@ -1,20 +1,51 @@
--- Answers as one number, for callers in other languages.
-use mathlib.Core.Bool.{cond}
-use Prim.Native.Nat.{ℕ, _+_, _*_}
+-- Answers as one number, for callers in other languages, and what these callers are promised.
+use mathlib.Core.Path.{_≡_}
+use mathlib.Core.Logic.{_↔_}
+use Prim.Native.Nat.{ℕ, _+_, _*_, _/_, _%_, _<_, _^_}
 use lib.IntN.{ℤ}
-use Rattle.answers.specs.Answers.{Answer, blameless}
+use Rattle.answers.specs.Answers.{Answer, sheetNumber, Passes}
 use Rattle.evaluation.specs.Evaluations.{Told, value, refusal}
 
--- k for an acceptance, number × 65,536 + index for a refusal
+-- sheet × 2^32 + number × 2^16 + index; k for an acceptance, which has no sheet and no number
 unfoldable pub codeOf : Answer → ℕ
-codeOf answer = cond (blameless answer) (answer .value) (answer .number * 65536 + answer .value)
+codeOf answer = sheetNumber (answer .blamed) * 2 ^ 32 + answer .number * 2 ^ 16 + answer .value
 
--- 0 for a value
-unfoldable pub toldCode : Told → ℕ
-toldCode (value z) = 0
-toldCode (refusal answer) = codeOf answer
+-- ---- what the macros of include/burmelox.h read from an answer
+
+-- BURMELOX_SHEET
+unfoldable pub sheetIn : ℕ → ℕ
+sheetIn r = r / 2 ^ 32
+
+-- BURMELOX_NUMBER
+unfoldable pub numberIn : ℕ → ℕ
+numberIn r = r / 2 ^ 16 % 2 ^ 16
+
+-- BURMELOX_INDEX
+unfoldable pub indexIn : ℕ → ℕ
+indexIn r = r % 2 ^ 16
+
+-- BURMELOX_ACCEPTED
+abbrev pub Accepted : ℕ → Type 0
+Accepted r = r < 2 ^ 16
+
+-- the macros read back what the checks answer
+pub record Coded (answer : Answer) (r : ℕ) : Type 0 where
+  pub accepted : Accepted r ↔ Passes answer
+  pub sheet : sheetIn r ≡ sheetNumber (answer .blamed)
+  pub number : numberIn r ≡ answer .number
+  pub index : indexIn r ≡ answer .value
+
+-- ---- evaluations: r is the answer, `before` and `after` are what stands behind the pointer
 
 -- the value that is stored, or what stood there before
 unfoldable pub toldValue : Told → ℤ → ℤ
 toldValue (value z) before = z
 toldValue (refusal answer) before = before
+
+-- the answer is 0, and z was stored
+abbrev pub Stores : ℕ → ℤ → ℤ → Type 0
+Stores r after z = (r ≡ 0) × (after ≡ z)
+
+-- any other answer leaves the value
+pub record Leaves (r : ℕ) (before after : ℤ) : Type 0 where
+  pub leaves : (r ≡ 0 → ⊥) → after ≡ before

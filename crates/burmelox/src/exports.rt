@@ -7,17 +7,19 @@ use judging::check::check;
 ghost use mathlib.Core.Path.{_≡_};
 ghost use lib.ListN.{length};
 ghost use Rattle.answers.specs.Answers.{says, Short};
+ghost use Rattle.sheets.specs.Layout.{rowCount};
 ghost use Rattle.judging.specs.Check.{checkAnswer, outputOf};
-ghost use Rattle.evaluation.specs.Evaluations.{evaluationOf};
-ghost use Rattle.burmelox.specs.Exports.{codeOf, toldCode, toldValue};
+ghost use Rattle.judging.specs.Promises.{Decides, Reads, Floors, Keeps};
+ghost use Rattle.evaluation.specs.Evaluations.{evaluationAnswer, evaluationOf, Evaluates, Floored};
+ghost use Rattle.burmelox.specs.Exports.{codeOf, Accepted, Coded, toldValue, Stores, Leaves};
 
-// k for an acceptance, number × 65,536 + index for a refusal.
+// k for an acceptance, sheet × 2^32 + number × 2^16 + index for a refusal.
 fn code(verdict: Verdict) -> u64
     requires { ⌜ Short (says verdict) ⌝ }
     ensures { λ r. ⌜ r ≡ codeOf (says verdict) ⌝ }
 {
     let said = numbers_of(verdict);
-    said.number as u64 * 65536 + said.value as u64
+    said.sheet as u64 * 4294967296 + said.number as u64 * 65536 + said.value as u64
 }
 
 // Checks a claim and its proof, and writes the exact proof into the output where they are accepted.
@@ -25,8 +27,15 @@ fn code(verdict: Verdict) -> u64
 pub extern "C" fn burmelox_check(claim: &[u8], proof: &[u8], output: &mut [u8]) -> u64
     ensures code { λ r. ⌜ r
         ≡ codeOf (checkAnswer (now (claim .entry)) (now (proof .entry)) (length (now (output .entry)))) ⌝ }
+    ensures answer { λ r. ⌜ Coded
+        (checkAnswer (now (claim .entry)) (now (proof .entry)) (length (now (output .entry)))) r ⌝ }
     ensures written { λ r. ⌜ now (output .exit)
         ≡ outputOf (now (claim .entry)) (now (proof .entry)) (now (output .entry)) ⌝ }
+    ensures decision { λ r. ⌜ Decides (now (claim .entry)) (now (proof .entry)) (now (output .entry)) (Accepted r) ⌝ }
+    ensures reads { λ r. ⌜ Reads (now (claim .entry)) (now (proof .entry)) (Accepted r) (now (output .exit)) ⌝ }
+    ensures floors { λ r. ⌜ Floors (now (claim .entry)) (Accepted r) ⌝ }
+    ensures exact { λ r. ⌜ Keeps (now (claim .entry)) (now (proof .entry)) (now (output .entry))
+        (r ≡ rowCount (now (proof .entry))) (now (output .exit)) ⌝ }
 {
     code(check(claim, proof, output))
 }
@@ -34,9 +43,13 @@ pub extern "C" fn burmelox_check(claim: &[u8], proof: &[u8], output: &mut [u8]) 
 // Evaluates a claim's polynomial: 0 and the value, or the refusal's code and the value as it was.
 #[no_mangle]
 pub extern "C" fn burmelox_evaluate(claim: &[u8], offsets: &[i32], value: &mut i64) -> u64
-    ensures code { λ r. ⌜ r ≡ toldCode (evaluationOf (now (claim .entry)) (now (offsets .entry))) ⌝ }
+    ensures code { λ r. ⌜ r ≡ codeOf (evaluationAnswer (now (claim .entry)) (now (offsets .entry))) ⌝ }
+    ensures answer { λ r. ⌜ Coded (evaluationAnswer (now (claim .entry)) (now (offsets .entry))) r ⌝ }
     ensures written { λ r. ⌜ now (value .exit)
         ≡ toldValue (evaluationOf (now (claim .entry)) (now (offsets .entry))) (now (value .entry)) ⌝ }
+    ensures kept { λ r. ⌜ Leaves r (now (value .entry)) (now (value .exit)) ⌝ }
+    ensures exact { λ r. ⌜ Evaluates (now (claim .entry)) (now (offsets .entry)) (Stores r (now (value .exit))) ⌝ }
+    ensures floored { λ r. ⌜ Floored (now (claim .entry)) (now (offsets .entry)) (Stores r (now (value .exit))) ⌝ }
 {
     match evaluate(claim, offsets) {
         Evaluation::Refused(sheet) => code(Verdict::Refused(sheet)),

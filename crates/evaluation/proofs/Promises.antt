@@ -1,6 +1,6 @@
 -- The promises of an evaluation, from what it tells.
 use mathlib.Core.Path.{_≡_, refl, sym}
-use mathlib.Core.Bool.{Bool, true, false, not, cond}
+use mathlib.Core.Bool.{false, not}
 use mathlib.Core.List.{List}
 use mathlib.Core.Logic.{_↔_}
 use Prim.Native.Nat.{ℕ, _<_, _≤_}
@@ -8,10 +8,9 @@ use lib.Dec.{eqb}
 use lib.IntN.{ℤ, natAbs}
 use lib.ListN.{length}
 use borrow.Author.Tests.{eq-eqb, eqb-true, not-false}
-use Rattle.integers.proofs.Tests.{never}
 use Rattle.bounds.specs.Bounds.{greatestValue}
 use Rattle.bounds.proofs.bounds.Laws.{within-bound, bound-within}
-use Rattle.answers.specs.Answers.{Answer, accepted, refuseIf, blameless, Passes}
+use Rattle.answers.specs.Answers.{accepted, refuseIf, Passes}
 use Rattle.answers.proofs.answers.Laws.{passes-if, passes-at, passes-then, then-on, if-on, at-on, accepted-passes}
 use Rattle.answers.proofs.searches.Laws.{none-wrong, all-right}
 use Rattle.sheets.specs.Layout.{variables, termCount}
@@ -19,20 +18,8 @@ use Rattle.sheets.specs.ClaimSheet.{termsOf}
 use Rattle.claims.specs.ClaimChecks.{claimAnswer}
 use Rattle.judging.proofs.Promises.{floor-kept}
 use Rattle.evaluation.specs.Evaluations as Spec
-use Rattle.evaluation.specs.Evaluations.{refusal, toldBy, termValue, tooLarge, tooLargeAnswer, evaluationAnswer, evaluationOf, Evaluable, Evaluates, Floored}
-
--- a value is told only where every check is passed, and it is the one meant
-value-told : (a : Answer) (y z : ℤ) → toldBy a z ≡ Spec.value y → Passes a × (y ≡ z)
-unfolding toldBy
-value-told a y z h = go (blameless a) refl h
-  where
-    go : (b : Bool) → blameless a ≡ b → cond b (Spec.value z) (refusal a) ≡ Spec.value y → Passes a × (y ≡ z)
-    go true e k = (e, cc)
-    go false e k = never (cc)
-
-told-passed : (a : Answer) (z : ℤ) → Passes a → toldBy a z ≡ Spec.value z
-unfolding toldBy
-told-passed a z h = rw h
+use Rattle.evaluation.specs.Evaluations.{termValue, tooLarge, tooLargeAnswer, evaluationAnswer, evaluationOf, Evaluable, Evaluates, Floored}
+use Rattle.evaluation.proofs.evaluations.Laws.{told-passed, value-told}
 
 -- ---- when a value is given
 
@@ -74,7 +61,7 @@ module _ (c : List ℕ) (x : List ℤ) (Gives : ℤ → Type 0)
   unfolding evaluationOf
   promised-value = record {
     given = λ e. meant _ .1 (told-passed _ _ (passes c x e));
-    exact = λ z q. let t = value-told _ z _ (meant z .0 q) in (evaluable c x (t .0), t .1);
+    exact = λ z q. let t = value-told _ _ z (meant z .0 q) in (evaluable c x (t .0), t .1);
   }
 
   -- the joint to the check

@@ -1,61 +1,159 @@
 -- The steps of the exported functions.
-use mathlib.Core.Path.{_≡_, refl, _∙_}
-use mathlib.Core.Bool.{Bool, true, false, cond}
+use mathlib.Core.Path.{_≡_, refl, sym, _∙_, ap}
+use mathlib.Core.Bool.{Bool, true, false}
 use mathlib.Core.List.{List}
-use Prim.Native.Nat.{ℕ, _+_, _*_}
+use mathlib.Core.Logic.{_↔_}
+use Prim.Native.Nat.{ℕ, _+_, _*_, _<_, _^_}
 use native.Mathlib.Omega.{arith}
 use lib.IntN.{ℤ}
+use lib.ListN.{length}
 use Rattle.integers.proofs.words.Laws.{Bytes}
-use Rattle.answers.specs.Answers.{says, blameless, Short}
+use Rattle.answers.specs.Answers.{Answer, sheetNumber, accepted, says, blameless, Passes, Short}
 use Rattle.answers.specs.declared.answers.Sheet.{Sheet}
 use Rattle.answers.specs.declared.answers.Verdict.{Verdict}
 use Rattle.answers.specs.declared.answers.Verdict.the-variants as Verdicts
-use Rattle.answers.proofs.answers.Laws.{accepted-number}
-use Rattle.judging.specs.Check.{checkAnswer}
-use Rattle.judging.proofs.Promises.{check-short}
-use Rattle.evaluation.specs.Evaluations.{tells, evaluationOf}
+use Rattle.answers.proofs.answers.Laws.{accepted-passes, failed, accepted-numbers, sheet-few, passed-sheet, sheet-passed}
+use Rattle.sheets.specs.Layout.{rowCount}
+use Rattle.checks.proofs.proof_checks.Laws.{rows-counted}
+use Rattle.judging.specs.Check.{checkAnswer, outputOf}
+use Rattle.judging.specs.Promises.{Decides, Reads, Floors, Keeps}
+use Rattle.judging.proofs.Promises.{accepted-rows, check-short, promised-decision, promised-rows, promised-floor, promised-exact}
+use Rattle.evaluation.specs.Evaluations.{value, tells, evaluationAnswer, evaluationOf, Evaluates, Floored}
 use Rattle.evaluation.specs.declared.evaluations.Evaluation.{Evaluation}
 use Rattle.evaluation.specs.declared.evaluations.Evaluation.the-variants.{Value, Refused}
-use Rattle.evaluation.proofs.evaluations.Laws.{tells-value, tells-refusal}
-use Rattle.burmelox.specs.Exports.{codeOf, toldCode, toldValue}
+use Rattle.evaluation.proofs.Promises.{promised-value, promised-floored}
+use Rattle.evaluation.proofs.evaluations.Laws.{evaluation-short, evaluation-passed, passed-value, failed-refusal, value-passed, tells-value, tells-refusal}
+use Rattle.burmelox.specs.Exports.{codeOf, sheetIn, numberIn, indexIn, Accepted, Coded, toldValue, Stores, Leaves}
 
--- ---- code: m and i are the verdict's numbers
+-- ---- code: x, m and i are the verdict's numbers
 
-pub code-is : (v : Verdict) (m i : ℕ) → m ≡ says v .number → i ≡ says v .value → m * 65536 + i ≡ codeOf (says v)
-unfolding codeOf
-code-is v m i em ei = rw (em, ei) (go (blameless (says v)) refl)
-  where
-    go : (b : Bool) → blameless (says v) ≡ b
-        → says v .number * 65536 + says v .value ≡ cond b (says v .value) (says v .number * 65536 + says v .value)
-    go true e = rw (accepted-number v e) (omega arith)
-    go false e = refl
+module _ (v : Verdict) (x m : ℕ) (ex : x ≡ sheetNumber (says v .blamed)) (em : m ≡ says v .number) where
+  pub sheet-fits : Short (says v) → x * 4294967296 + m * 65536 < 2 ^ 64
+  sheet-fits h = rw (ex, em) (omega (arith, sheet-few (says v .blamed), h .number-short))
 
--- ---- burmelox_check: v is the verdict
+  module _ (i : ℕ) (ei : i ≡ says v .value) where
+    pub code-fits : Short (says v) → x * 4294967296 + m * 65536 + i < 2 ^ 64
+    code-fits h = rw (ex, em, ei) (omega (arith, sheet-few (says v .blamed), h .number-short, h .value-short))
 
-module _ (c s : List ℕ) (room : ℕ) (v : Verdict) (e : says v ≡ checkAnswer c s room) where
-  pub checked-short : Bytes c → Bytes s → Short (says v)
-  checked-short bc bs = rw e (check-short c s room bc bs)
+    pub code-is : x * 4294967296 + m * 65536 + i ≡ codeOf (says v)
+    unfolding codeOf
+    code-is = rw (ex, em, ei)
 
-  pub checked-code : (r : ℕ) → r ≡ codeOf (says v) → r ≡ codeOf (checkAnswer c s room)
-  checked-code r er = er ∙ rw e
+-- ---- the macros read back what was put in: r is the code of an answer
 
--- ---- burmelox_evaluate: t is the evaluation
+module _ (a : Answer) (r : ℕ) (e : r ≡ codeOf a) where
+  accepted-code : (k : ℕ) → a ≡ accepted k → r ≡ k
+  unfolding codeOf
+  accepted-code k q =
+      let n = accepted-numbers a k q in
+      omega (arith, e, passed-sheet a (accepted-passes a k q), n .0, n .1)
+
+  below-passed : Accepted r → Passes a
+  unfolding codeOf
+  below-passed l = sheet-passed a (omega (arith, l, e))
+
+  -- k is what an acceptance carries
+  module _ (short : Short a) (k : ℕ) (carried : Passes a → a ≡ accepted k) where
+    coded : Coded a r
+    unfolding codeOf sheetIn numberIn indexIn
+    coded = record {
+      accepted = (
+        below-passed,
+        λ q. omega (arith, accepted-code k (carried q), accepted-numbers a k (carried q) .1, short .value-short),
+      );
+      sheet = omega (arith, e, short .number-short, short .value-short);
+      number = omega (arith, e, short .number-short, short .value-short);
+      index = omega (arith, e, short .number-short, short .value-short);
+    }
+
+    counted : k < 65536 → (r ≡ k) ↔ Passes a
+    counted l = (λ q. below-passed (omega (arith, q, l)), λ q. accepted-code k (carried q))
+
+-- ---- burmelox_check: v is the verdict, r its code, o the output afterwards
+
+module _ (c s out : List ℕ) (v : Verdict) (e : says v ≡ checkAnswer c s (length out)) (bc : Bytes c) (bs : Bytes s) where
+  pub checked-short : Short (says v)
+  checked-short = rw e (check-short c s (length out) bc bs)
+
+  module _ (r : ℕ) (er : r ≡ codeOf (says v)) where
+    abbrev answer : Answer
+    answer = checkAnswer c s (length out)
+
+    pub check-code : r ≡ codeOf answer
+    check-code = er ∙ ap codeOf e
+
+    pub check-coded : Coded answer r
+    check-coded =
+        coded answer r check-code (check-short c s (length out) bc bs) (rowCount s) (accepted-rows c s (length out))
+
+    rows-coded : (r ≡ rowCount s) ↔ Passes answer
+    rows-coded =
+        counted answer r check-code (check-short c s (length out) bc bs) (rowCount s) (accepted-rows c s (length out))
+        (rows-counted s bs)
+
+    pub check-decides : Decides c s out (Accepted r)
+    check-decides = promised-decision c s out _ (check-coded .accepted)
+
+    pub check-floors : Floors c (Accepted r)
+    check-floors = promised-floor c s out _ (check-coded .accepted)
+
+    module _ (o : List ℕ) (eo : o ≡ outputOf c s out) where
+      pub check-reads : Reads c s (Accepted r) o
+      check-reads = promised-rows c s out _ (check-coded .accepted) o eo
+
+      pub check-keeps : Keeps c s out (r ≡ rowCount s) o
+      check-keeps = promised-exact c s out _ rows-coded o eo bs
+
+-- ---- burmelox_evaluate: t is the evaluation, r the answer, `after` what is stored
 
 module _ (c : List ℕ) (x : List ℤ) (t : Evaluation) (e : tells t ≡ evaluationOf c x) where
   module _ (sheet : Sheet) (h : t ≡ Refused sheet) where
-    pub refused-code : (r : ℕ) → r ≡ codeOf (says (Verdicts.Refused sheet)) → r ≡ toldCode (evaluationOf c x)
-    unfolding toldCode
-    refused-code r er = rw (tells-refusal c x t e sheet h) er
+    pub refused-short : Bytes c → Short (says (Verdicts.Refused sheet))
+    refused-short b = rw (tells-refusal c x t e sheet h) (evaluation-short c x b)
+
+    pub refused-code : (r : ℕ) → r ≡ codeOf (says (Verdicts.Refused sheet)) → r ≡ codeOf (evaluationAnswer c x)
+    refused-code r er = er ∙ ap codeOf (tells-refusal c x t e sheet h)
 
     pub refused-value : (z : ℤ) → z ≡ toldValue (evaluationOf c x) z
     unfolding toldValue
-    refused-value z = rw (tells-refusal c x t e sheet h)
+    refused-value z =
+        let q = tells-refusal c x t e sheet h in
+        rw (failed-refusal c x (failed (Verdicts.Refused sheet) _ q sheet refl))
 
   module _ (z : ℤ) (h : t ≡ Value z) where
-    pub given-code : 0 ≡ toldCode (evaluationOf c x)
-    unfolding toldCode
-    given-code = rw (tells-value c x t e z h)
+    pub given-code : 0 ≡ codeOf (evaluationAnswer c x)
+    given-code =
+        sym (accepted-code _ _ refl 0 (evaluation-passed c x (value-passed c x z (tells-value c x t e z h))))
 
     pub given-value : (z′ before : ℤ) → z′ ≡ z → z′ ≡ toldValue (evaluationOf c x) before
     unfolding toldValue
     given-value z′ before ez = rw (tells-value c x t e z h) ez
+
+module _ (c : List ℕ) (x : List ℤ) (bc : Bytes c) (r : ℕ) (before after : ℤ) (er : r ≡ codeOf (evaluationAnswer c x))
+    (ev : after ≡ toldValue (evaluationOf c x) before) where
+  evaluation-coded : Coded (evaluationAnswer c x) r
+  evaluation-coded = coded (evaluationAnswer c x) r er (evaluation-short c x bc) 0 (evaluation-passed c x)
+
+  zero-coded : (r ≡ 0) ↔ Passes (evaluationAnswer c x)
+  zero-coded = counted (evaluationAnswer c x) r er (evaluation-short c x bc) 0 (evaluation-passed c x) (omega arith)
+
+  leaves : Leaves r before after
+  unfolding toldValue
+  leaves = record { leaves = λ n. go (blameless (evaluationAnswer c x)) refl n }
+    where
+      go : (b : Bool) → blameless (evaluationAnswer c x) ≡ b → (r ≡ 0 → ⊥) → after ≡ before
+      go true q n = absurd (n (zero-coded .1 q))
+      go false q n = ev ∙ rw (failed-refusal c x q)
+
+  stores : (z : ℤ) → Stores r after z ↔ (evaluationOf c x ≡ value z)
+  unfolding toldValue
+  stores z = (
+    λ q. let g = passed-value c x (zero-coded .0 (q .0)) in g ∙ ap value (sym (rw g at ev) ∙ q .1),
+    λ q. (zero-coded .1 (value-passed c x z q), rw q at ev),
+  )
+
+  pub evaluated : (r ≡ codeOf (evaluationAnswer c x)) × (Coded (evaluationAnswer c x) r
+      × ((after ≡ toldValue (evaluationOf c x) before) × (Leaves r before after
+      × (Evaluates c x (Stores r after) × Floored c x (Stores r after)))))
+  evaluated =
+      (er, (evaluation-coded, (ev, (leaves, (promised-value c x _ stores, promised-floored c x _ stores)))))

@@ -1,5 +1,5 @@
 -- Laws of evaluations: what a value and a refusal tell.
-use mathlib.Core.Path.{_≡_}
+use mathlib.Core.Path.{_≡_, refl, sym, _∙_, ap}
 use mathlib.Core.Bool.{Bool, true, false, cond}
 use mathlib.Core.List.{List}
 use Prim.Native.Nat.{ℕ, _≤_}
@@ -7,49 +7,84 @@ use native.Mathlib.Omega.{arith}
 use lib.IntN.{ℤ}
 use Rattle.integers.proofs.words.Laws.{Bytes}
 use Rattle.integers.proofs.Tests.{never}
-use Rattle.answers.specs.Answers.{Answer, says, blameless, Short}
+use Rattle.answers.specs.Answers.{Answer, accepted, says, blameless, Passes, Short}
 use Rattle.answers.specs.declared.answers.Sheet.{Sheet}
 use Rattle.answers.specs.declared.answers.Verdict.the-variants as Verdicts
-use Rattle.answers.proofs.answers.Laws.{short-accepted, short-if, short-at, short-then}
+use Rattle.answers.proofs.answers.Laws.{passes-if, passes-at, passes-then, then-on, if-on, at-on, short-accepted, short-if, short-at, short-then}
+use Rattle.squares.specs.Sums.{valueAt}
 use Rattle.sheets.specs.Layout.{termCount}
+use Rattle.sheets.specs.ClaimSheet.{termsOf}
 use Rattle.claims.proofs.claim_checks.Laws.{claim-short}
 use Rattle.evaluation.specs.Evaluations as Spec
 use Rattle.evaluation.specs.Evaluations.{refusal, tells, toldBy, tooLargeAnswer, evaluationAnswer, evaluationOf}
 use Rattle.evaluation.specs.declared.evaluations.Evaluation.{Evaluation}
 use Rattle.evaluation.specs.declared.evaluations.Evaluation.the-variants.{Value, Refused}
 
--- ---- what checks tell
+-- ---- what checks with answer a tell; z is the value that is meant
 
--- a refusal is told as the checks answer it
-refusal-told : (a b : Answer) (z : ℤ) → toldBy a z ≡ refusal b → b ≡ a
-unfolding toldBy
-refusal-told a b z h = go (blameless a) h
-  where
-    go : (e : Bool) → cond e (Spec.value z) (refusal a) ≡ refusal b → b ≡ a
-    go true k = never (cc)
-    go false k = cc
+module _ (a : Answer) (z : ℤ) where
+  pub told-passed : Passes a → toldBy a z ≡ Spec.value z
+  unfolding toldBy
+  told-passed h = rw h
 
--- ---- a refusal is short
+  told-failed : blameless a ≡ false → toldBy a z ≡ refusal a
+  unfolding toldBy
+  told-failed h = rw h
 
-evaluation-short : (c : List ℕ) (x : List ℤ) → Bytes c → Short (evaluationAnswer c x)
-unfolding evaluationAnswer tooLargeAnswer
-evaluation-short c x b =
-    let t : termCount c ≤ 65536 = omega (arith, b 1) in
-    short-then _ _ (claim-short c b)
-    (short-if 20 _ (omega arith) (short-at 21 _ (omega arith) (short-accepted 0 (omega arith)) _ _ t) _)
+  -- a value is told only where every check is passed, and it is the one meant
+  pub value-told : (y : ℤ) → toldBy a z ≡ Spec.value y → Passes a × (y ≡ z)
+  unfolding toldBy
+  value-told y h = go (blameless a) refl h
+    where
+      go : (b : Bool) → blameless a ≡ b → cond b (Spec.value z) (refusal a) ≡ Spec.value y → Passes a × (y ≡ z)
+      go true e k = (e, cc)
+      go false e k = never (cc)
 
--- ---- for the crates above: what a value and a refusal tell
+  -- a refusal is told as the checks answer it
+  refusal-told : (b : Answer) → toldBy a z ≡ refusal b → b ≡ a
+  unfolding toldBy
+  refusal-told b h = go (blameless a) h
+    where
+      go : (e : Bool) → cond e (Spec.value z) (refusal a) ≡ refusal b → b ≡ a
+      go true k = never (cc)
+      go false k = cc
 
-module _ (c : List ℕ) (x : List ℤ) (r : Evaluation) (e : tells r ≡ evaluationOf c x) where
-  pub tells-value : (z : ℤ) → r ≡ Value z → evaluationOf c x ≡ Spec.value z
-  unfolding tells
-  tells-value z h = rw (← e, h)
+-- ---- for the crates above
 
-  module _ (sheet : Sheet) (h : r ≡ Refused sheet) where
-    pub tells-refusal : evaluationOf c x ≡ refusal (says (Verdicts.Refused sheet))
-    unfolding tells
-    tells-refusal = rw (← e, h)
+module _ (c : List ℕ) (x : List ℤ) where
+  pub evaluation-short : Bytes c → Short (evaluationAnswer c x)
+  unfolding evaluationAnswer tooLargeAnswer
+  evaluation-short b =
+      let t : termCount c ≤ 65536 = omega (arith, b 1) in
+      short-then _ _ (claim-short c b)
+      (short-if 20 _ (omega arith) (short-at 21 _ (omega arith) (short-accepted 0 (omega arith)) _ _ t) _)
 
-    pub refused-short : Bytes c → Short (says (Verdicts.Refused sheet))
+  module _ (h : Passes (evaluationAnswer c x)) where
+    pub evaluation-passed : evaluationAnswer c x ≡ accepted 0
+    unfolding evaluationAnswer tooLargeAnswer
+    evaluation-passed =
+        let p = passes-then _ _ h in
+        let q = passes-if _ 20 _ refl (p .1) in
+        let r = passes-at _ 21 _ refl (q .1) in
+        then-on _ _ (p .0) ∙ if-on _ 20 _ (q .0) ∙ at-on _ 21 _ (r .0)
+
+    pub passed-value : evaluationOf c x ≡ Spec.value (valueAt x (termsOf c))
     unfolding evaluationOf
-    refused-short b = rw (refusal-told _ _ _ tells-refusal) (evaluation-short c x b)
+    passed-value = told-passed _ _ h
+
+  pub failed-refusal : blameless (evaluationAnswer c x) ≡ false → evaluationOf c x ≡ refusal (evaluationAnswer c x)
+  unfolding evaluationOf
+  failed-refusal h = told-failed _ _ h
+
+  pub value-passed : (z : ℤ) → evaluationOf c x ≡ Spec.value z → Passes (evaluationAnswer c x)
+  unfolding evaluationOf
+  value-passed z h = value-told _ _ z h .0
+
+  module _ (r : Evaluation) (e : tells r ≡ evaluationOf c x) where
+    pub tells-value : (z : ℤ) → r ≡ Value z → evaluationOf c x ≡ Spec.value z
+    unfolding tells
+    tells-value z h = rw (← e, h)
+
+    pub tells-refusal : (sheet : Sheet) → r ≡ Refused sheet → says (Verdicts.Refused sheet) ≡ evaluationAnswer c x
+    unfolding tells evaluationOf
+    tells-refusal sheet h = refusal-told _ _ _ (sym e ∙ ap tells h)

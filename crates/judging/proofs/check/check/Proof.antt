@@ -4,8 +4,19 @@ use Rattle.judging.proofs.check.check.Statement.{statement}
 use Rattle.judging.proofs.check.check.Tie as tie
 
 returns : tie.Need-returns
-returns c =
-    (search needs, (search refused-output, (search check-decides, (search (check-reads, refused-output), (search check-floors, search (check-keeps, refused-output))))))
+returns c = (
+  search needs,
+  (
+    search refused-output,
+    (
+      search check-decides,
+      (
+        search (check-reads, refused-output),
+        (search check-floors, search (check-keeps, refused-output)),
+      ),
+    ),
+  ),
+)
 
 aim-of-requires : tie.Need-aim-of-requires
 aim-of-requires c κs = search (accepted-claim, accepted-proof)
@@ -14,8 +25,19 @@ write-exact-requires : tie.Need-write-exact-requires
 write-exact-requires c κs = search writable
 
 returns-2 : tie.Need-returns-2
-returns-2 c =
-    (search needs, (search accepted-output, (search check-decides, (search (check-reads, accepted-output), (search check-floors, search (check-keeps, accepted-output))))))
+returns-2 c = (
+  search needs,
+  (
+    search accepted-output,
+    (
+      search check-decides,
+      (
+        search (check-reads, accepted-output),
+        (search check-floors, search (check-keeps, accepted-output)),
+      ),
+    ),
+  ),
+)
 
 pub check-spec : {M : Type 1} → statement M
 check-spec =
