@@ -7,10 +7,9 @@ use judging::check::check;
 ghost use mathlib.Core.Path.{_≡_};
 ghost use lib.ListN.{length};
 ghost use Rattle.answers.specs.Answers.{says, Short};
-ghost use Rattle.sheets.specs.Layout.{rowCount};
 ghost use Rattle.judging.specs.Check.{checkAnswer, outputOf};
-ghost use Rattle.judging.specs.Promises.{Decides, Reads, Floors, Keeps};
-ghost use Rattle.evaluation.specs.Evaluations.{evaluationAnswer, evaluationOf, Evaluates, Floored};
+ghost use Rattle.judging.specs.Promises.{CheckPromises};
+ghost use Rattle.evaluation.specs.Evaluations.{evaluationAnswer, evaluationOf, EvaluationPromises};
 ghost use Rattle.burmelox.specs.Exports.{codeOf, Accepted, Coded, toldValue, Stores, Leaves};
 
 // k for an acceptance, sheet × 2^32 + number × 2^16 + index for a refusal.
@@ -31,11 +30,8 @@ pub extern "C" fn burmelox_check(claim: &[u8], proof: &[u8], output: &mut [u8]) 
         (checkAnswer (now (claim .entry)) (now (proof .entry)) (length (now (output .entry)))) r ⌝ }
     ensures written { λ r. ⌜ now (output .exit)
         ≡ outputOf (now (claim .entry)) (now (proof .entry)) (now (output .entry)) ⌝ }
-    ensures decision { λ r. ⌜ Decides (now (claim .entry)) (now (proof .entry)) (now (output .entry)) (Accepted r) ⌝ }
-    ensures reads { λ r. ⌜ Reads (now (claim .entry)) (now (proof .entry)) (Accepted r) (now (output .exit)) ⌝ }
-    ensures floors { λ r. ⌜ Floors (now (claim .entry)) (Accepted r) ⌝ }
-    ensures exact { λ r. ⌜ Keeps (now (claim .entry)) (now (proof .entry)) (now (output .entry))
-        (r ≡ rowCount (now (proof .entry))) (now (output .exit)) ⌝ }
+    ensures promises { λ r. ⌜ CheckPromises (now (claim .entry)) (now (proof .entry)) (now (output .entry))
+        (Accepted r) r (now (output .exit)) ⌝ }
 {
     code(check(claim, proof, output))
 }
@@ -48,8 +44,8 @@ pub extern "C" fn burmelox_evaluate(claim: &[u8], offsets: &[i32], value: &mut i
     ensures written { λ r. ⌜ now (value .exit)
         ≡ toldValue (evaluationOf (now (claim .entry)) (now (offsets .entry))) (now (value .entry)) ⌝ }
     ensures kept { λ r. ⌜ Leaves r (now (value .entry)) (now (value .exit)) ⌝ }
-    ensures exact { λ r. ⌜ Evaluates (now (claim .entry)) (now (offsets .entry)) (Stores r (now (value .exit))) ⌝ }
-    ensures floored { λ r. ⌜ Floored (now (claim .entry)) (now (offsets .entry)) (Stores r (now (value .exit))) ⌝ }
+    ensures promises { λ r. ⌜ EvaluationPromises (now (claim .entry)) (now (offsets .entry))
+        (Stores r (now (value .exit))) ⌝ }
 {
     match evaluate(claim, offsets) {
         Evaluation::Refused(sheet) => code(Verdict::Refused(sheet)),

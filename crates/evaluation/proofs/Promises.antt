@@ -17,8 +17,7 @@ use Rattle.sheets.specs.Layout.{variables, termCount}
 use Rattle.sheets.specs.ClaimSheet.{termsOf}
 use Rattle.claims.specs.ClaimChecks.{claimAnswer}
 use Rattle.judging.proofs.Promises.{floor-kept}
-use Rattle.evaluation.specs.Evaluations as Spec
-use Rattle.evaluation.specs.Evaluations.{termValue, tooLarge, tooLargeAnswer, evaluationAnswer, evaluationOf, Evaluable, Evaluates, Floored}
+use Rattle.evaluation.specs.Evaluations.{value, termValue, tooLarge, tooLargeAnswer, evaluationAnswer, evaluationOf, Evaluable, EvaluationPromises}
 use Rattle.evaluation.proofs.evaluations.Laws.{told-passed, value-told}
 
 -- ---- when a value is given
@@ -53,21 +52,14 @@ passes c x e =
     )
     (small-passes c (variables c) (termCount c) x (e .small))
 
--- ---- the promises, for whatever `Gives` is to say that a value is given
+-- ---- the promises, for whatever is to say that a value is given
 
-module _ (c : List ℕ) (x : List ℤ) (Gives : ℤ → Type 0)
-    (meant : (z : ℤ) → Gives z ↔ (evaluationOf c x ≡ Spec.value z)) where
-  pub promised-value : Evaluates c x Gives
-  unfolding evaluationOf
-  promised-value = record {
-    given = λ e. meant _ .1 (told-passed _ _ (passes c x e));
-    exact = λ z q. let t = value-told _ _ z (meant z .0 q) in (evaluable c x (t .0), t .1);
-  }
-
+pub evaluation-promises : (c : List ℕ) (x : List ℤ) (Gives : ℤ → Type 0)
+    → ((z : ℤ) → Gives z ↔ (evaluationOf c x ≡ value z)) → EvaluationPromises c x Gives
+unfolding evaluationOf
+evaluation-promises c x Gives meant = record {
+  given = λ e. meant _ .1 (told-passed _ _ (passes c x e));
+  exact = λ z q. let t = value-told _ _ z (meant z .0 q) in (evaluable c x (t .0), t .1);
   -- the joint to the check
-  pub promised-floored : Floored c x Gives
-  promised-floored = record {
-    floored = λ s out h z q.
-        let given = promised-value .exact z q .1 in
-        (given, rw given (floor-kept c s (length out) h x));
-  }
+  floored = λ s out h z q. rw (value-told _ _ z (meant z .0 q) .1) (floor-kept c s (length out) h x);
+}

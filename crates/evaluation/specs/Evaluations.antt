@@ -76,15 +76,11 @@ pub record Evaluable (c : List ℕ) (x : List ℤ) : Type 0 where
   pub counted : length x ≡ variables c
   pub small : (i : ℕ) → i < termCount c → natAbs (termValue c (variables c) (termCount c) x i) ≤ greatestValue
 
--- `Gives z` below says that the entry point gave the value z, as its caller sees it.
-
--- "The exact value of f is given if every term's exact absolute value is at most 2^56", and only then
-pub record Evaluates (c : List ℕ) (x : List ℤ) (Gives : ℤ → Type 0) : Type 0 where
+-- `Gives z` says that the entry point gave the value z, as its caller sees it
+pub record EvaluationPromises (c : List ℕ) (x : List ℤ) (Gives : ℤ → Type 0) : Type 0 where
+  -- "The exact value of f is given if every term's exact absolute value is at most 2^56", and only then
   pub given : Evaluable c x → Gives (valueAt x (termsOf c))
   pub exact : (z : ℤ) → Gives z → Evaluable c x × (z ≡ valueAt x (termsOf c))
-
--- Demand 3: "At whatever offsets that claim is evaluated, every value reported is the polynomial's exact value there
--- and at least the floor", where the claim is accepted with some proof and output
-pub record Floored (c : List ℕ) (x : List ℤ) (Gives : ℤ → Type 0) : Type 0 where
-  pub floored : (s out : List ℕ) → Passes (checkAnswer c s (length out)) → (z : ℤ) → Gives z
-      → (z ≡ valueAt x (termsOf c)) × (floorOf c ≤ℤ z)
+  -- Demand 3: "At whatever offsets that claim is evaluated, every value reported is the polynomial's exact value there
+  -- and at least the floor", where the claim is accepted with some proof and output
+  pub floored : (s out : List ℕ) → Passes (checkAnswer c s (length out)) → (z : ℤ) → Gives z → floorOf c ≤ℤ z

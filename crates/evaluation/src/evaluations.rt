@@ -12,7 +12,7 @@ ghost use mathlib.Core.Path.{_≡_};
 ghost use Prim.Native.Nat.{_<_};
 ghost use Rattle.monomials.specs.Powers.{within};
 ghost use Rattle.sheets.specs.Layout.{ClaimRoom};
-ghost use Rattle.evaluation.specs.Evaluations.{termValue, value, tells, summed, evaluationOf, Evaluates, Floored};
+ghost use Rattle.evaluation.specs.Evaluations.{termValue, value, tells, summed, evaluationOf, EvaluationPromises};
 
 // The exact value, or the sheet at fault.
 pub enum Evaluation {
@@ -52,8 +52,7 @@ fn summed(claim: &[u8], n: usize, t: usize, offsets: &[i32]) -> Evaluation
 // The exact value of the polynomial, or the first refusal of 1 to 7, 20 and 21.
 pub fn evaluate(claim: &[u8], offsets: &[i32]) -> Evaluation
     ensures answer { λ r. ⌜ tells r ≡ evaluationOf (now (claim .entry)) (now (offsets .entry)) ⌝ }
-    ensures exact { λ r. ⌜ Evaluates (now (claim .entry)) (now (offsets .entry)) (λ z. tells r ≡ value z) ⌝ }
-    ensures floored { λ r. ⌜ Floored (now (claim .entry)) (now (offsets .entry)) (λ z. tells r ≡ value z) ⌝ }
+    ensures promises { λ r. ⌜ EvaluationPromises (now (claim .entry)) (now (offsets .entry)) (λ z. tells r ≡ value z) ⌝ }
 {
     if let Verdict::Refused(sheet) = check_claim(claim) {
         return Evaluation::Refused(sheet);

@@ -4,7 +4,7 @@ use mathlib.Core.List.{List, _++_, append-nil}
 use mathlib.Core.Logic.{_↔_}
 use Prim.Native.Nat.{ℕ, _≤_}
 use lib.IntN.{ℤ}
-use lib.ListN.{length, drop}
+use lib.ListN.{length, take, drop}
 use lib.Seq.{drop-length, take-at}
 use lib.Signed.{_≤ℤ_}
 use Rattle.integers.proofs.words.Laws.{Bytes}
@@ -32,7 +32,7 @@ use Rattle.weighing.specs.Weighed.{weighedAnswer}
 use Rattle.weighing.proofs.weighed.Laws.{weighed-within, weighed-hold, weighed-adds, weighed-accepted, weighed-short}
 use Rattle.weighing.proofs.exact.Laws.{exact-length, exact-rows, same-within, same-proof}
 use Rattle.judging.specs.Check.{targetsOf, checkAnswer, outputOf}
-use Rattle.judging.specs.Promises.{Decomposes, Decides, Reads, Floors, Keeps}
+use Rattle.judging.specs.Promises.{Decomposes, CheckPromises}
 
 module _ (c s : List ℕ) where
   abbrev τ : Exponents → ℤ
@@ -130,44 +130,35 @@ module _ (c s : List ℕ) where
   unfolding checkAnswer targetsOf
   check-short room bc bs = short-then _ _ (input-short c s room bc bs) (weighed-short c s (aimOf c s) bc bs)
 
--- ---- the promises, for whatever `Accepted` is to say that the check accepts; o is the output afterwards
+-- ---- the promises, for whatever is to say that the check accepts, and with how many rows
 
 module _ (c s out : List ℕ) where
   abbrev Passed : Type 0
   Passed = Passes (checkAnswer c s (length out))
 
-  -- an acceptance writes the exact proof
   written : Passed → outputOf c s out ≡ exactProof (targetsOf c s) s ++ drop (length s) out
   unfolding outputOf
   written h = rw h
 
-  module _ (Accepted : Type 0) (meant : Accepted ↔ Passed) where
-    pub promised-decision : Decides c s out Accepted
-    promised-decision = record {
-      decides = λ f l.
-          let d = decision c s (length out) f l in (
-            λ a. d .0 (accepted-rows c s (length out) (meant .0 a)),
-            λ p. meant .1 (accepted-passes _ _ (d .1 p)),
-          );
-    }
+  written-rows : Passed → rowsOf (take (length s) (outputOf c s out)) ≡ shiftedRows (targetsOf c s) s
+  unfolding targetsOf
+  written-rows h =
+      rw (written h, take-at _ (drop (length s) out) _ (exact-length (targetsOf c s) s))
+      (exact-rows c s (aimOf c s) (sheets-checked c s (accepted-formed c s (length out) h))
+      (accepted-within c s (length out) h))
 
-    pub promised-floor : Floors c Accepted
-    promised-floor = record { floors = λ a. floor-kept c s (length out) (meant .0 a) }
-
-    module _ (o : List ℕ) (e : o ≡ outputOf c s out) where
-      pub promised-rows : Reads c s Accepted o
-      unfolding targetsOf
-      promised-rows = record {
-        reads = λ a.
-            let h = meant .0 a in
-            rw (e, written h, take-at _ (drop (length s) out) _ (exact-length (targetsOf c s) s))
-            (exact-rows c s (aimOf c s) (sheets-checked c s (accepted-formed c s (length out) h))
-            (accepted-within c s (length out) h));
-      }
-
-      pub promised-exact : Bytes s → Keeps c s out Accepted o
-      promised-exact b = record {
-        keeps = λ f l d.
-            let h = accepted-passes _ _ (exact-accepted c s f d (length out) l) in
-            (meant .1 h, e ∙ written h ∙ rw (exact-bytes c s f d b));
-      }
+  pub check-promises : (Accepted : Type 0) (k : ℕ) → Accepted ↔ Passed → (Passed → k ≡ rowCount s) → Bytes s
+      → (o : List ℕ) → o ≡ outputOf c s out → CheckPromises c s out Accepted k o
+  check-promises Accepted k meant counted b o e = record {
+    decides = λ f l.
+        let d = decision c s (length out) f l in (
+          λ a. d .0 (accepted-rows c s (length out) (meant .0 a)),
+          λ p. meant .1 (accepted-passes _ _ (d .1 p)),
+        );
+    counts = λ a. counted (meant .0 a);
+    reads = λ a. rw e (written-rows (meant .0 a));
+    floors = λ a. floor-kept c s (length out) (meant .0 a);
+    keeps = λ f l d.
+        let h = accepted-passes _ _ (exact-accepted c s f d (length out) l) in
+        (meant .1 h, e ∙ written h ∙ rw (exact-bytes c s f d b));
+  }

@@ -11,7 +11,7 @@ use Rattle.points.specs.Lists.{All}
 use Rattle.squares.specs.Sums.{valueAt}
 use Rattle.squares.specs.Rows.{Row, slots, Holds}
 use Rattle.squares.specs.Decomposition.{AddsUp}
-use Rattle.sheets.specs.Layout.{variables}
+use Rattle.sheets.specs.Layout.{variables, rowCount}
 use Rattle.sheets.specs.ClaimSheet.{floorOf, termsOf}
 use Rattle.rows.specs.ProofSheet.{rowsOf}
 use Rattle.checks.specs.Input.{WellFormed}
@@ -24,26 +24,22 @@ pub record Decomposes (c s : List ℕ) (rows : List Row) : Type 0 where
   pub hold : All (λ a. Holds (a .weights)) rows
   pub adds-up : AddsUp (variables c) (targetsOf c s) (slots rows)
 
--- `Accepted` below says that the entry point accepted, as its caller sees it; o is the output afterwards.
-
--- Demand 2: "A well-formed claim and proof, with output enough, are accepted exactly when the weights, shifted by the
--- published sharing rule, stay within ±2^30 and form, row by row, a decomposition"
-pub record Decides (c s out : List ℕ) (Accepted : Type 0) : Type 0 where
+-- `Accepted` says that the entry point accepted, and k is the number of rows that it then says, both as its caller sees
+-- them; o is the output afterwards
+pub record CheckPromises (c s out : List ℕ) (Accepted : Type 0) (k : ℕ) (o : List ℕ) : Type 0 where
+  -- Demand 2: "A well-formed claim and proof, with output enough, are accepted exactly when the weights, shifted by the
+  -- published sharing rule, stay within ±2^30 and form, row by row, a decomposition"
   pub decides : WellFormed c s → length s ≤ length out
       → Accepted ↔ (AllWithin greatestWeight (targetsOf c s) s × Decomposes c s (shiftedRows (targetsOf c s) s))
-
--- Demand 2: "what is written is that shifted proof": the output's first bytes read as the shifted rows
-pub record Reads (c s : List ℕ) (Accepted : Type 0) (o : List ℕ) : Type 0 where
+  -- "The verdict carries k"
+  pub counts : Accepted → k ≡ rowCount s
+  -- Demand 2: "what is written is that shifted proof": the output's first bytes read as the shifted rows
   pub reads : Accepted → rowsOf (take (length s) o) ≡ shiftedRows (targetsOf c s) s
-
--- Demand 3: "If a claim and proof are accepted .. then the polynomial is at least the floor at all whole offsets, of
--- either sign and however large"
-pub record Floors (c : List ℕ) (Accepted : Type 0) : Type 0 where
+  -- Demand 3: "If a claim and proof are accepted .. then the polynomial is at least the floor at all whole offsets, of
+  -- either sign and however large"
   pub floors : Accepted → (x : List ℤ) → floorOf c ≤ℤ valueAt x (termsOf c)
-
--- Demand 3: "whenever a claim and proof are well-formed, the proposed weights already add up to the target at every
--- point, every row holds with them and the output is long enough, the proof is accepted. The output's first bytes then
--- equal the proof, byte by byte, and its later bytes keep their values"
-pub record Keeps (c s out : List ℕ) (Accepted : Type 0) (o : List ℕ) : Type 0 where
+  -- Demand 3: "whenever a claim and proof are well-formed, the proposed weights already add up to the target at every
+  -- point, every row holds with them and the output is long enough, the proof is accepted. The output's first bytes
+  -- then equal the proof, byte by byte, and its later bytes keep their values"
   pub keeps : WellFormed c s → length s ≤ length out → Decomposes c s (rowsOf s)
       → Accepted × (o ≡ s ++ drop (length s) out)

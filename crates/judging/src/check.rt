@@ -6,10 +6,9 @@ use weighing::exact::write_exact;
 use weighing::weighed::weigh;
 ghost use mathlib.Core.Path.{_≡_};
 ghost use lib.ListN.{length};
-ghost use Rattle.answers.specs.Answers.{accepted, says, Passes};
-ghost use Rattle.sheets.specs.Layout.{rowCount};
+ghost use Rattle.answers.specs.Answers.{says, Passes};
 ghost use Rattle.judging.specs.Check.{checkAnswer, outputOf};
-ghost use Rattle.judging.specs.Promises.{Decides, Reads, Floors, Keeps};
+ghost use Rattle.judging.specs.Promises.{CheckPromises};
 
 // The verdict alone; the room is the output's length.
 fn decide(claim: &[u8], proof: &[u8], room: usize) -> Verdict
@@ -29,12 +28,8 @@ pub fn check(claim: &[u8], proof: &[u8], output: &mut [u8]) -> Verdict
         ≡ checkAnswer (now (claim .entry)) (now (proof .entry)) (length (now (output .entry))) ⌝ }
     ensures written { λ r. ⌜ now (output .exit)
         ≡ outputOf (now (claim .entry)) (now (proof .entry)) (now (output .entry)) ⌝ }
-    ensures decision { λ r. ⌜ Decides (now (claim .entry)) (now (proof .entry)) (now (output .entry))
-        (says r ≡ accepted (rowCount (now (proof .entry)))) ⌝ }
-    ensures reads { λ r. ⌜ Reads (now (claim .entry)) (now (proof .entry)) (Passes (says r)) (now (output .exit)) ⌝ }
-    ensures floors { λ r. ⌜ Floors (now (claim .entry)) (Passes (says r)) ⌝ }
-    ensures exact { λ r. ⌜ Keeps (now (claim .entry)) (now (proof .entry)) (now (output .entry))
-        (says r ≡ accepted (rowCount (now (proof .entry)))) (now (output .exit)) ⌝ }
+    ensures promises { λ r. ⌜ CheckPromises (now (claim .entry)) (now (proof .entry)) (now (output .entry))
+        (Passes (says r)) (says r .value) (now (output .exit)) ⌝ }
 {
     let verdict = decide(claim, proof, output.len());
     let Verdict::Accepted(_) = verdict else {

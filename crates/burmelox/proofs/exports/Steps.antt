@@ -14,14 +14,13 @@ use Rattle.answers.specs.declared.answers.Verdict.{Verdict}
 use Rattle.answers.specs.declared.answers.Verdict.the-variants as Verdicts
 use Rattle.answers.proofs.answers.Laws.{accepted-passes, failed, accepted-numbers, sheet-few, passed-sheet, sheet-passed}
 use Rattle.sheets.specs.Layout.{rowCount}
-use Rattle.checks.proofs.proof_checks.Laws.{rows-counted}
 use Rattle.judging.specs.Check.{checkAnswer, outputOf}
-use Rattle.judging.specs.Promises.{Decides, Reads, Floors, Keeps}
-use Rattle.judging.proofs.Promises.{accepted-rows, check-short, promised-decision, promised-rows, promised-floor, promised-exact}
-use Rattle.evaluation.specs.Evaluations.{value, tells, evaluationAnswer, evaluationOf, Evaluates, Floored}
+use Rattle.judging.specs.Promises.{CheckPromises}
+use Rattle.judging.proofs.Promises.{accepted-rows, check-short, check-promises}
+use Rattle.evaluation.specs.Evaluations.{value, tells, evaluationAnswer, evaluationOf, EvaluationPromises}
 use Rattle.evaluation.specs.declared.evaluations.Evaluation.{Evaluation}
 use Rattle.evaluation.specs.declared.evaluations.Evaluation.the-variants.{Value, Refused}
-use Rattle.evaluation.proofs.Promises.{promised-value, promised-floored}
+use Rattle.evaluation.proofs.Promises.{evaluation-promises}
 use Rattle.evaluation.proofs.evaluations.Laws.{evaluation-short, evaluation-passed, passed-value, failed-refusal, value-passed, tells-value, tells-refusal}
 use Rattle.burmelox.specs.Exports.{codeOf, sheetIn, numberIn, indexIn, Accepted, Coded, toldValue, Stores, Leaves}
 
@@ -66,9 +65,6 @@ module _ (a : Answer) (r : ℕ) (e : r ≡ codeOf a) where
       index = omega (arith, e, short .number-short, short .value-short);
     }
 
-    counted : k < 65536 → (r ≡ k) ↔ Passes a
-    counted l = (λ q. below-passed (omega (arith, q, l)), λ q. accepted-code k (carried q))
-
 -- ---- burmelox_check: v is the verdict, r its code, o the output afterwards
 
 module _ (c s out : List ℕ) (v : Verdict) (e : says v ≡ checkAnswer c s (length out)) (bc : Bytes c) (bs : Bytes s) where
@@ -86,23 +82,10 @@ module _ (c s out : List ℕ) (v : Verdict) (e : says v ≡ checkAnswer c s (len
     check-coded =
         coded answer r check-code (check-short c s (length out) bc bs) (rowCount s) (accepted-rows c s (length out))
 
-    rows-coded : (r ≡ rowCount s) ↔ Passes answer
-    rows-coded =
-        counted answer r check-code (check-short c s (length out) bc bs) (rowCount s) (accepted-rows c s (length out))
-        (rows-counted s bs)
-
-    pub check-decides : Decides c s out (Accepted r)
-    check-decides = promised-decision c s out _ (check-coded .accepted)
-
-    pub check-floors : Floors c (Accepted r)
-    check-floors = promised-floor c s out _ (check-coded .accepted)
-
-    module _ (o : List ℕ) (eo : o ≡ outputOf c s out) where
-      pub check-reads : Reads c s (Accepted r) o
-      check-reads = promised-rows c s out _ (check-coded .accepted) o eo
-
-      pub check-keeps : Keeps c s out (r ≡ rowCount s) o
-      check-keeps = promised-exact c s out _ rows-coded o eo bs
+    pub check-promised : (o : List ℕ) → o ≡ outputOf c s out → CheckPromises c s out (Accepted r) r o
+    check-promised =
+        check-promises c s out _ _ (check-coded .accepted)
+        (λ h. accepted-code _ _ check-code _ (accepted-rows c s (length out) h)) bs
 
 -- ---- burmelox_evaluate: t is the evaluation, r the answer, `after` what is stored
 
@@ -135,7 +118,7 @@ module _ (c : List ℕ) (x : List ℤ) (bc : Bytes c) (r : ℕ) (before after : 
   evaluation-coded = coded (evaluationAnswer c x) r er (evaluation-short c x bc) 0 (evaluation-passed c x)
 
   zero-coded : (r ≡ 0) ↔ Passes (evaluationAnswer c x)
-  zero-coded = counted (evaluationAnswer c x) r er (evaluation-short c x bc) 0 (evaluation-passed c x) (omega arith)
+  zero-coded = (λ q. below-passed _ r er (omega (arith, q)), λ h. accepted-code _ r er 0 (evaluation-passed c x h))
 
   leaves : Leaves r before after
   unfolding toldValue
@@ -154,6 +137,5 @@ module _ (c : List ℕ) (x : List ℤ) (bc : Bytes c) (r : ℕ) (before after : 
 
   pub evaluated : (r ≡ codeOf (evaluationAnswer c x)) × (Coded (evaluationAnswer c x) r
       × ((after ≡ toldValue (evaluationOf c x) before) × (Leaves r before after
-      × (Evaluates c x (Stores r after) × Floored c x (Stores r after)))))
-  evaluated =
-      (er, (evaluation-coded, (ev, (leaves, (promised-value c x _ stores, promised-floored c x _ stores)))))
+      × EvaluationPromises c x (Stores r after))))
+  evaluated = (er, (evaluation-coded, (ev, (leaves, evaluation-promises c x _ stores))))

@@ -2,7 +2,6 @@
 use mathlib.Core.Path.{_≡_, refl, sym, _∙_, ap, subst}
 use mathlib.Core.Bool.{Bool, true, false, not, cond}
 use mathlib.Core.List.{List, [], _∷_}
-use mathlib.Core.Logic.{_↔_}
 use Prim.Native.Nat.{ℕ, suc, _+_, _*_, _<_, _≤_}
 use native.Mathlib.Numerals.{add-one}
 use native.Mathlib.Omega.{arith}
@@ -42,9 +41,9 @@ use Rattle.sheets.specs.ClaimSheet.{termPoint, coefficientOf, termOf, termsOf}
 use Rattle.sheets.proofs.claim_sheet.Laws.{terms-table, term-point, term-coefficient}
 use Rattle.claims.specs.ClaimChecks.{claimAnswer}
 use Rattle.claims.proofs.claim_checks.Laws.{claim-passed}
-use Rattle.evaluation.proofs.Promises.{promised-value, promised-floored}
+use Rattle.evaluation.proofs.Promises.{evaluation-promises}
 use Rattle.evaluation.specs.Evaluations as Spec
-use Rattle.evaluation.specs.Evaluations.{refusal, tells, toldBy, termValue, tooLarge, tooLargeAnswer, sumTo, summed, evaluationAnswer, evaluationOf, Evaluable, Evaluates, Floored}
+use Rattle.evaluation.specs.Evaluations.{refusal, tells, toldBy, termValue, tooLarge, tooLargeAnswer, sumTo, summed, evaluationAnswer, evaluationOf, EvaluationPromises}
 use Rattle.evaluation.specs.declared.evaluations.Evaluation.{Evaluation}
 use Rattle.evaluation.specs.declared.evaluations.Evaluation.the-variants.{Value, Refused}
 
@@ -174,13 +173,7 @@ module _ (c : List ℕ) (x : List ℤ) (v : Verdict) (e : says v ≡ claimAnswer
             )
             er
 
--- evaluate's promises: r is the evaluation
-module _ (c : List ℕ) (x : List ℤ) (r : Evaluation) (h : tells r ≡ evaluationOf c x) where
-  gives : (z : ℤ) → (tells r ≡ Spec.value z) ↔ (evaluationOf c x ≡ Spec.value z)
-  gives z = (λ e. sym h ∙ e, λ e. h ∙ e)
-
-  abbrev Given : ℤ → Type 0
-  Given z = tells r ≡ Spec.value z
-
-  pub answered : (tells r ≡ evaluationOf c x) × (Evaluates c x Given × Floored c x Given)
-  answered = (h, (promised-value c x _ gives, promised-floored c x _ gives))
+-- r is the evaluation
+pub promised : (c : List ℕ) (x : List ℤ) (r : Evaluation) → tells r ≡ evaluationOf c x
+    → (tells r ≡ evaluationOf c x) × EvaluationPromises c x (λ z. tells r ≡ Spec.value z)
+promised c x r h = (h, evaluation-promises c x _ (λ z. (λ e. sym h ∙ e, λ e. h ∙ e)))

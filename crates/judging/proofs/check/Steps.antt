@@ -1,17 +1,15 @@
 -- The steps of the whole check.
 use mathlib.Core.Path.{_≡_, sym, _∙_}
-use mathlib.Core.Logic.{_↔_}
 use mathlib.Core.List.{List, _++_}
 use Prim.Native.Nat.{ℕ, _≤_}
 use native.Mathlib.Omega.{arith}
 use lib.ListN.{length, drop}
 use Rattle.integers.proofs.words.Laws.{Bytes}
-use Rattle.answers.specs.Answers.{accepted, says, Passes}
+use Rattle.answers.specs.Answers.{says, Passes}
 use Rattle.answers.specs.declared.answers.Sheet.{Sheet}
 use Rattle.answers.specs.declared.answers.Verdict.{Verdict}
 use Rattle.answers.specs.declared.answers.Verdict.the-variants.{Accepted, Refused}
-use Rattle.answers.proofs.answers.Laws.{then-refused, then-passed, passed, failed, accepted-passes}
-use Rattle.sheets.specs.Layout.{rowCount}
+use Rattle.answers.proofs.answers.Laws.{then-refused, then-passed, passed, failed, accepted-numbers}
 use Rattle.checks.specs.Input.{WellFormed}
 use Rattle.checks.specs.Input.{inputAnswer}
 use Rattle.checks.proofs.input.Laws.{input-formed}
@@ -22,8 +20,8 @@ use Rattle.sharing.proofs.shifts.Laws.{sheets-checked}
 use Rattle.weighing.specs.Weighed.{weighedAnswer}
 use Rattle.weighing.specs.Exact.{Writable, exactProof}
 use Rattle.judging.specs.Check.{targetsOf, checkAnswer, outputOf}
-use Rattle.judging.specs.Promises.{Decides, Reads, Floors, Keeps}
-use Rattle.judging.proofs.Promises.{accepted-formed, accepted-enough, accepted-within, accepted-rows, promised-decision, promised-floor, promised-rows, promised-exact}
+use Rattle.judging.specs.Promises.{CheckPromises}
+use Rattle.judging.proofs.Promises.{accepted-formed, accepted-enough, accepted-within, accepted-rows, check-promises}
 
 -- ---- what decide and check read of well-formed sheets: a is the aim that was read
 
@@ -65,24 +63,11 @@ module _ (c s : List ℕ) (room : ℕ) (v : Verdict) (e : says v ≡ inputAnswer
 -- ---- check: v is the verdict, o the output afterwards
 
 module _ (c s out : List ℕ) (v : Verdict) (e : says v ≡ checkAnswer c s (length out)) where
-  accepts : Passes (says v) ↔ Passes (checkAnswer c s (length out))
-  accepts = (λ h. rw e at h, λ h. rw e h)
-
-  carries-rows : (says v ≡ accepted (rowCount s)) ↔ Passes (checkAnswer c s (length out))
-  carries-rows = (λ h. accepted-passes _ _ (sym e ∙ h), λ h. e ∙ accepted-rows c s (length out) h)
-
-  pub check-decides : Decides c s out (says v ≡ accepted (rowCount s))
-  check-decides = promised-decision c s out _ carries-rows
-
-  pub check-floors : Floors c (Passes (says v))
-  check-floors = promised-floor c s out _ accepts
-
-  module _ (o : List ℕ) (eo : o ≡ outputOf c s out) where
-    pub check-reads : Reads c s (Passes (says v)) o
-    check-reads = promised-rows c s out _ accepts o eo
-
-    pub check-keeps : Bytes s → Keeps c s out (says v ≡ accepted (rowCount s)) o
-    check-keeps = promised-exact c s out _ carries-rows o eo
+  pub promises : Bytes s → (o : List ℕ) → o ≡ outputOf c s out
+      → CheckPromises c s out (Passes (says v)) (says v .value) o
+  promises =
+      check-promises c s out _ _ (λ h. rw e at h, λ h. rw e h)
+      (λ h. accepted-numbers _ _ (e ∙ accepted-rows c s (length out) h) .1)
 
   module _ (x : Sheet) (h : v ≡ Refused x) where
     pub refused-output : out ≡ outputOf c s out

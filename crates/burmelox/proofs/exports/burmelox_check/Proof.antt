@@ -1,5 +1,5 @@
 use borrow.Author.Needs.{needs}
-use Rattle.burmelox.proofs.exports.Steps.{checked-short, check-code, check-coded, check-decides, check-floors, check-reads, check-keeps}
+use Rattle.burmelox.proofs.exports.Steps.{check-code, check-coded, check-promised, checked-short}
 use Rattle.burmelox.proofs.exports.burmelox_check.Statement.{statement}
 use Rattle.burmelox.proofs.exports.burmelox_check.Tie as tie
 
@@ -7,22 +7,7 @@ code-requires : tie.Need-code-requires
 code-requires c κs = search checked-short
 
 returns : tie.Need-returns
-returns c = (
-  search check-code,
-  (
-    search check-coded,
-    (
-      search needs,
-      (
-        search check-decides,
-        (
-          search check-reads,
-          (search check-floors, search check-keeps),
-        ),
-      ),
-    ),
-  ),
-)
+returns c = (search check-code, (search check-coded, (search needs, search check-promised)))
 
 pub burmelox-check-spec : {M : Type 1} → statement M
 burmelox-check-spec =
