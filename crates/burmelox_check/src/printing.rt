@@ -3,8 +3,10 @@ use crate::input::claim_end;
 use judging::check::check;
 use report::reports::LONGEST;
 use report::reports::report_text;
+ghost use mathlib.Core.Path.{_≡_};
 ghost use Prim.Native.Nat.{_≤_};
 ghost use lib.ListN.{length};
+ghost use Rattle.judging.specs.Check.{outputOf};
 ghost use Rattle.text.specs.Text.{Written};
 ghost use Rattle.burmelox_check.specs.Input.{greatestInput};
 ghost use Rattle.burmelox_check.specs.Printing.{sheetsText, programText, PrintsLines};
@@ -14,7 +16,9 @@ pub(crate) const GREATEST_INPUT: usize = 8192;
 
 // The text for a claim and its proof, with an output for the exact proof; the answer is where the text ends.
 fn print_sheets(claim: &[u8], proof: &[u8], output: &mut [u8], text: &mut [u8; LONGEST]) -> usize
-    ensures { λ r. ⌜ Written (now (text .entry)) 0
+    ensures written { λ r. ⌜ now (output .exit)
+        ≡ outputOf (now (claim .entry)) (now (proof .entry)) (now (output .entry)) ⌝ }
+    ensures text { λ r. ⌜ Written (now (text .entry)) 0
         (sheetsText (now (claim .entry)) (now (proof .entry)) (now (output .entry))) (now (text .exit)) r ⌝ }
 {
     let verdict = check(claim, proof, output);

@@ -1,11 +1,12 @@
 -- The steps of the functions that print.
-use mathlib.Core.Path.{_≡_, refl, sym, ap}
+use mathlib.Core.Path.{_≡_, refl, sym, _∙_, ap}
+use mathlib.Core.Bool.{Bool, true, false}
 use mathlib.Core.List.{List, _∷_}
 use Prim.Native.Nat.{ℕ, zero, suc, _-_, _<_, _≤_}
 use native.Mathlib.Omega.{arith}
-use lib.ListN.{length, take, drop, length-drop, length-replicate}
+use lib.ListN.{length, getD, take, drop, length-drop, length-replicate}
 use lib.Seq.{take-all}
-use Rattle.answers.specs.Answers.{says, Passes}
+use Rattle.answers.specs.Answers.{says, blameless, Passes}
 use Rattle.answers.specs.declared.answers.Verdict.{Verdict}
 use Rattle.sheets.specs.Layout.{rowCount, shapeOf, ProofRoom}
 use Rattle.rows.specs.ProofSheet.{scaleOf, tripleOf, tripleFor}
@@ -15,10 +16,10 @@ use Rattle.sharing.proofs.shifts.Laws.{sheets-checked}
 use Rattle.weighing.specs.Exact.{weightsFor, exactProof}
 use Rattle.weighing.proofs.exact.Laws.{exact-length, exact-variables, exact-scale, exact-weights}
 use Rattle.judging.specs.Check.{targetsOf, checkAnswer, outputOf}
-use Rattle.judging.proofs.Promises.{accepted-formed, accepted-within, accepted-rows, accepted-exact}
-use Rattle.text.specs.Text.{Written}
-use Rattle.report.specs.Reports.{shapeWith, reportText}
-use Rattle.report.proofs.reports.Laws.{accepted-lines, refused-lines}
+use Rattle.judging.proofs.Promises.{floor-kept, accepted-formed, accepted-within, accepted-rows, accepted-exact}
+use Rattle.text.specs.Text.{ascii, Written}
+use Rattle.report.specs.Reports.{shapeWith, refusedText, reportText}
+use Rattle.report.proofs.reports.Laws.{refused-word, accepted-lines, refused-lines}
 use Rattle.burmelox_check.specs.Input.{claimEnd, claimPart, proofPart}
 use Rattle.burmelox_check.specs.Printing.{zeros, sheetsText, programText, acceptedLines, IsPrinted, PrintsLines}
 
@@ -90,11 +91,28 @@ module _ (c s : List ℕ) where
         (accepted-lines c exact (rowCount s) (scaleOf s) (λ i. tripleFor (weightsFor (targetsOf c s) s i))
         (omega (arith, own .claim .sized)) room (exact-scale (targetsOf c s) s) weights)
 
-  sheets-printed : IsPrinted c s (sheetsText c s (zeros (length s)))
+  refused-text : blameless (checkAnswer c s (length s)) ≡ false
+      → sheetsText c s (zeros (length s))
+      ≡ refusedText (checkAnswer c s (length s) .number) (checkAnswer c s (length s) .value)
   unfolding sheetsText
+  refused-text h = rw as-long (refused-lines c (outputOf c s (zeros (length s))) (checkAnswer c s (length s)) h)
+
+  -- no refusal begins with the word of an acceptance
+  accepted-word : take 8 (sheetsText c s (zeros (length s))) ≡ ascii "accepted" → Passes (checkAnswer c s (length s))
+  accepted-word h = go (blameless (checkAnswer c s (length s))) refl
+    where
+      go : (b : Bool) → blameless (checkAnswer c s (length s)) ≡ b → Passes (checkAnswer c s (length s))
+      go true q = q
+      go false q =
+          let w : _≡_ {A = ℕ} 97 114 =
+          ap (λ (l : List ℕ). getD l 0 0) (sym h ∙ ap (take 8) (refused-text q) ∙ refused-word _ _) in
+          absurd (omega (arith, w))
+
+  sheets-printed : IsPrinted c s (sheetsText c s (zeros (length s)))
   sheets-printed = record {
     acceptance = accepted-text;
-    refusal = λ h. rw as-long (refused-lines c (outputOf c s (zeros (length s))) (checkAnswer c s (length s)) h);
+    refusal = refused-text;
+    floors = λ h. floor-kept c s (length s) (accepted-word h);
   }
 
 -- every input has its lines

@@ -4,15 +4,17 @@ use mathlib.Core.Bool.{true, false}
 use mathlib.Core.List.{List, _++_}
 use Prim.Native.Nat.{ℕ, zero, suc, _<_, _≤_}
 use native.Mathlib.Omega.{arith}
-use lib.ListN.{length}
+use lib.ListN.{length, take}
 use borrow.Author.Tests.{le-leb}
 use Rattle.answers.specs.Answers.{Answer, accepted, blameless}
-use Rattle.answers.proofs.answers.Laws.{accepted-value, accepted-says, accepted-passes}
+use Rattle.answers.proofs.answers.Laws.{accepted-passes, accepted-numbers}
 use Rattle.sheets.specs.Layout.{ProofRoom}
 use Rattle.sheets.specs.ClaimSheet.{floorOf}
 use Rattle.rows.specs.ProofSheet.{scaleOf, tripleOf}
 use Rattle.rows.specs.declared.proof_sheet.Triple.{Triple}
+use Rattle.text.specs.Text.{ascii}
 use Rattle.text.specs.Lines.{acceptedLine}
+use Rattle.text.proofs.lines.Laws.{refused-begins}
 use Rattle.report.specs.Reports.{ended, linesOf, rowsText, shapeWith, firstText, acceptedText, refusedText, reportable, reportText}
 
 -- ---- sheets that have what an acceptance prints
@@ -36,6 +38,10 @@ unfolding linesOf
 lines-same x y zero h = refl
 lines-same x y (suc i) h = rw (lines-same x y i (λ j l. h j (omega arith)), h i (omega arith))
 
+pub refused-word : (number index : ℕ) → take 8 (refusedText number index) ≡ ascii "refused "
+unfolding refusedText ended
+refused-word number index = refused-begins number index (ascii "\n")
+
 module _ (c s : List ℕ) where
   pub refused-lines : (a : Answer) → blameless a ≡ false → reportText c s a ≡ refusedText (a .number) (a .value)
   unfolding reportText
@@ -46,6 +52,6 @@ module _ (c s : List ℕ) where
       → reportText c s (accepted k) ≡ ended (acceptedLine k S (floorOf c)) ++ linesOf x k
   unfolding reportText acceptedText firstText rowsText
   accepted-lines k S x h room es ex =
-      let ev : accepted k .value ≡ k = rw (accepted-says k) at (accepted-value k) in
+      let ev = accepted-numbers (accepted k) k refl .1 in
       rw (accepted-passes (accepted k) k refl, ev, reportable-enough c s k h room, es)
       (ap (λ (l : List ℕ). ended (acceptedLine k S (floorOf c)) ++ l) (lines-same (tripleOf s (shapeWith s k)) x k ex))

@@ -1,9 +1,10 @@
--- Laws of lines: how long they are.
-use mathlib.Core.List.{List}
+-- Laws of lines: what a refusal begins with, and how long lines are.
+use mathlib.Core.Path.{_≡_, refl}
+use mathlib.Core.List.{List, _++_}
 use Prim.Native.Nat.{ℕ, suc, _+_, _^_, _<_, _≤_}
 use native.Mathlib.Omega.{arith}
 use lib.IntN.{ℤ}
-use lib.ListN.{length, length-append}
+use lib.ListN.{length, take, length-append}
 use mir.Syntax.{w32}
 use mir.Val.{SFits}
 use Rattle.integers.proofs.Integers.{ints, sizes}
@@ -11,6 +12,10 @@ use Rattle.rows.specs.declared.proof_sheet.Triple.{Triple}
 use Rattle.text.specs.Text.{ascii, natural, integer, counted, numbered}
 use Rattle.text.specs.Lines.{scaleText, acceptedLine, laterText, weightsText, rowLine, refusedLine}
 use Rattle.text.proofs.text.Laws.{natural-short, integer-short}
+
+pub refused-begins : (number index : ℕ) (rest : List ℕ) → take 8 (refusedLine number index ++ rest) ≡ ascii "refused "
+unfolding refusedLine counted
+refused-begins number index rest = refl
 
 -- ---- how long they are, with numbers of 32 bits
 

@@ -4,7 +4,7 @@ use Rattle.burmelox_check.proofs.printing.print_sheets.Statement.{state
 use Rattle.burmelox_check.proofs.printing.print_sheets.Tie as tie
 
 returns : tie.Need-returns
-returns c = search sheets-written
+returns c = (search needs, search sheets-written)
 
 pub print-sheets-spec : {M : Type 1} → statement M
 print-sheets-spec =
