@@ -6,9 +6,16 @@ use lib.IntN.{ℤ}
 use Rattle.answers.specs.Answers.{Answer, sheetNumber, Passes}
 use Rattle.evaluation.specs.Evaluations.{Told, value, refusal}
 
+-- what a refusal's sheet and number are multiplied by
+abbrev pub sheetUnit : ℕ
+sheetUnit = 2 ^ 32
+
+abbrev pub numberUnit : ℕ
+numberUnit = 2 ^ 16
+
 -- sheet × 2^32 + number × 2^16 + index; k for an acceptance, which has no sheet and no number
 unfoldable pub codeOf : Answer → ℕ
-codeOf answer = sheetNumber (answer .blamed) * 2 ^ 32 + answer .number * 2 ^ 16 + answer .value
+codeOf answer = sheetNumber (answer .blamed) * sheetUnit + answer .number * numberUnit + answer .value
 
 -- ---- what the macros of include/burmelox.h read from an answer
 

@@ -12,13 +12,18 @@ ghost use Rattle.judging.specs.Promises.{CheckPromises};
 ghost use Rattle.evaluation.specs.Evaluations.{evaluationAnswer, evaluationOf, EvaluationPromises};
 ghost use Rattle.burmelox.specs.Exports.{codeOf, Accepted, Coded, toldValue, Stores, Leaves};
 
+// What a refusal's sheet and number are multiplied by.
+const SHEET_UNIT: u64 = 4294967296;
+
+const NUMBER_UNIT: u64 = 65536;
+
 // k for an acceptance, sheet × 2^32 + number × 2^16 + index for a refusal.
 fn code(verdict: Verdict) -> u64
     requires { ⌜ Short (says verdict) ⌝ }
     ensures { λ r. ⌜ r ≡ codeOf (says verdict) ⌝ }
 {
     let said = numbers_of(verdict);
-    said.sheet as u64 * 4294967296 + said.number as u64 * 65536 + said.value as u64
+    said.sheet as u64 * SHEET_UNIT + said.number as u64 * NUMBER_UNIT + said.value as u64
 }
 
 // Checks a claim and its proof, and writes the exact proof into the output where they are accepted.

@@ -4,4 +4,4 @@ use Rattle.worked.specs.Answers.{cases, Worked}
 
 pub worked : Worked
 unfolding cases
-worked = refl
+worked = (refl, refl)

@@ -25,7 +25,7 @@ use Rattle.weighing.specs.Unheld.{pointFor, unheldAt, unheld, unheldAnswer}
 use Rattle.weighing.specs.Exact.{weightsFor, exactProof}
 use Rattle.weighing.specs.Weighed.{weighedAnswer}
 use Rattle.judging.specs.Check.{targetsOf, checkAnswer, outputOf}
-use Rattle.worked.specs.Sheets.{joined, word, words, claimOf, proofOf, squareWith, square, squareProof, oneRow, bare, noRows, motzkin, motzkinProof, oneTerm}
+use Rattle.worked.specs.Sheets.{joined, word, words, claimOf, proofOf, squareWith, square, squareProof, oneRow, bare, noRows, motzkin, motzkinProof, motzkinBytes, motzkinProofBytes, oneTerm}
 use Rattle.worked.specs.Judging.{spare, accepts, refuses, motzkinExact, marked, tabled, worked, Worked}
 
 pub all-worked : Worked
@@ -39,6 +39,6 @@ unfolding
     oneRow count errorAt shiftedWeight aimOf targetOf slotsTo rankOf shiftedWeights shiftRow slotsBefore
     shiftedRow shiftedRows headAnswer roomAnswer bodyAnswer inputAnswer pointFor unheldAt unheld unheldAnswer
     negative indefinite judgePair judgeLone judgementOf numberOf judgedAs firstsTo judgedAnswer weightsFor
-    exactProof weighedAnswer targetsOf checkAnswer outputOf bare noRows motzkin motzkinProof oneTerm spare
-    accepts refuses motzkinExact marked tabled worked
+    exactProof weighedAnswer targetsOf checkAnswer outputOf bare noRows motzkin motzkinProof motzkinBytes
+    motzkinProofBytes oneTerm spare accepts refuses motzkinExact marked tabled worked
 all-worked = refl

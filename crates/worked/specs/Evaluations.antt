@@ -3,7 +3,7 @@ use mathlib.Core.Path.{_≡_}
 use mathlib.Core.List.{List, [], _∷_, map}
 use Prim.Native.Nat.{ℕ, _-_, _^_}
 use lib.IntN.{ℤ, pos, negsuc}
-use Rattle.answers.specs.Answers.{refused}
+use Rattle.answers.specs.Answers.{claim, offsets, refused}
 use Rattle.evaluation.specs.Evaluations.{Told, value, refusal, evaluationOf}
 use Rattle.worked.specs.Sheets.{claimOf, twoTerms, square}
 
@@ -29,11 +29,11 @@ greatest = pos (2 ^ 31 - 1)
 unfoldable pub cases : List Case
 cases =
     -- "Square, two offsets"; a claim's refusal comes first
-    at square (pos 1 ∷ pos 1 ∷ []) (refusal (refused 20 0))
+    at square (pos 1 ∷ pos 1 ∷ []) (refusal (record { number = 20; blamed = offsets; value = 0 }))
     ∷ at square [] (refusal (refused 20 0))
     ∷ at [] (pos 1 ∷ []) (refusal (refused 1 0))
     -- "1 at point 57, offset 2"; J, "1 at point 56, offset 2: value 2^56"; the first term over it
-    ∷ at (oneAt 1 (57 ∷ [])) (pos 2 ∷ []) (refusal (refused 21 0))
+    ∷ at (oneAt 1 (57 ∷ [])) (pos 2 ∷ []) (refusal (record { number = 21; blamed = claim; value = 0 }))
     ∷ at (oneAt 1 (56 ∷ [])) (pos 2 ∷ []) (value (pos (2 ^ 56)))
     ∷ at (twoTerms 1 120 (pos 1) (pos 1)) (least ∷ []) (refusal (refused 21 1))
     -- Square

@@ -4,13 +4,13 @@ use mathlib.Core.List.{List, [], _∷_, _++_, map}
 use Prim.Native.Nat.{ℕ, _+_, _^_}
 use lib.IntN.{pos, negsuc}
 use lib.ListN.{length, replicate}
-use Rattle.answers.specs.Answers.{Answer, accepted, refused}
+use Rattle.answers.specs.Answers.{Answer, proof, output, accepted, refused}
 use Rattle.squares.specs.Rows.{Row}
 use Rattle.squares.specs.declared.rows.Weights.{Weights}
 use Rattle.squares.specs.declared.rows.Weights.the-variants.{Pair, Lone}
 use Rattle.sharing.specs.Shifts.{shiftedRows}
 use Rattle.judging.specs.Check.{targetsOf, checkAnswer, outputOf}
-use Rattle.worked.specs.Sheets.{proofOf, squareWith, square, squareProof, oneRow, bare, noRows, motzkin, motzkinProof, oneTerm}
+use Rattle.worked.specs.Sheets.{claimOf, proofOf, squareWith, square, squareProof, oneRow, bare, noRows, motzkin, motzkinProof, motzkinBytes, motzkinProofBytes, oneTerm}
 
 -- two sheets and an output; the weights that every row has after the shift, the answer, and the output afterwards
 pub record Case : Type 0 where
@@ -36,14 +36,14 @@ accepts c s weights k exact = record {
   written = exact ++ 7 ∷ 7 ∷ [];
 }
 
--- refused, with number and index
-unfoldable pub refuses : List ℕ → List ℕ → List Weights → ℕ → ℕ → Case
-refuses c s weights number index = record {
+-- refused, with this answer
+unfoldable pub refuses : List ℕ → List ℕ → List Weights → Answer → Case
+refuses c s weights answer = record {
   claim = c;
   proof = s;
   output = spare s;
   weights = weights;
-  answer = refused number index;
+  answer = answer;
   written = spare s;
 }
 
@@ -61,17 +61,19 @@ marked =
     ∷ accepts (squareWith (negsuc 0) (negsuc 1)) squareProof (Pair (pos 2) (pos 1) (negsuc 1) ∷ []) 1
     (oneRow 0 2 (pos 2) (pos 1) (negsuc 1))
     -- D: "p becomes 0, refused 19 at 0"
-    ∷ refuses (squareWith (pos 1) (negsuc 1)) squareProof (Pair (pos 0) (pos 1) (negsuc 1) ∷ []) 19 0
+    ∷ refuses (squareWith (pos 1) (negsuc 1)) squareProof (Pair (pos 0) (pos 1) (negsuc 1) ∷ [])
+    (record { number = 19; blamed = proof; value = 0 })
     -- E: "accepted, 8 bytes written"; F: "the same, b 1 or −1: refused 16 at 0"
     ∷ accepts (bare (pos 0)) noRows [] 0 noRows
-    ∷ refuses (bare (pos 1)) noRows [] 16 0
-    ∷ refuses (bare (negsuc 0)) noRows [] 16 0
+    ∷ refuses (bare (pos 1)) noRows [] (refused 16 0)
+    ∷ refuses (bare (negsuc 0)) noRows [] (refused 16 0)
     -- G: "Accepted"; H: "the first slot takes it, same result as G"
-    ∷ accepts motzkin (motzkinProof (negsuc 1)) motzkinExact 3 (motzkinProof (negsuc 1))
-    ∷ accepts motzkin (motzkinProof (negsuc 2)) motzkinExact 3 (motzkinProof (negsuc 1))
+    ∷ accepts motzkinBytes motzkinProofBytes motzkinExact 3 motzkinProofBytes
+    ∷ accepts motzkin (motzkinProof (negsuc 2)) motzkinExact 3 motzkinProofBytes
     -- I: "shares 0 and −1, the second row's p is 1, refused 19 at 1"
     ∷ refuses motzkin (motzkinProof (negsuc 0))
-    (Pair (pos 1) (pos 1) (negsuc 0) ∷ Pair (pos 1) (pos 2) (negsuc 3) ∷ Pair (pos 1) (pos 1) (negsuc 1) ∷ []) 19 1
+    (Pair (pos 1) (pos 1) (negsuc 0) ∷ Pair (pos 1) (pos 2) (negsuc 3) ∷ Pair (pos 1) (pos 1) (negsuc 1) ∷ [])
+    (refused 19 1)
     ∷ []
 
 unfoldable pub tabled : List Case
@@ -82,14 +84,17 @@ tabled =
       proof = squareProof;
       output = replicate 21 7;
       weights = Pair (pos 1) (pos 1) (negsuc 1) ∷ [];
-      answer = refused 11 0;
+      answer = record { number = 11; blamed = output; value = 0 };
       written = replicate 21 7;
     }
     -- 16: "Square, k 0"; 17: "2^30 at point 2, S 2, lone row 2"; 18: "claim 1 at point 1, lone row 1"
-    ∷ refuses square noRows [] 16 0
+    ∷ refuses square noRows [] (refused 16 0)
     ∷ refuses (oneTerm 2 (pos (2 ^ 30))) (proofOf 1 (pos 2) 1 ((2 ∷ []) ∷ (2 ∷ []) ∷ []) (pos 0 ∷ pos 0 ∷ pos 0 ∷ []))
-    (Lone (pos (2 ^ 31)) ∷ []) 17 0
-    ∷ refuses (oneTerm 1 (pos 1)) (oneRow 1 1 (pos 0) (pos 0) (pos 0)) (Lone (negsuc 0) ∷ []) 18 0
+    (Lone (pos (2 ^ 31)) ∷ []) (refused 17 0)
+    ∷ refuses (oneTerm 1 (pos 1)) (oneRow 1 1 (pos 0) (pos 0) (pos 0)) (Lone (negsuc 0) ∷ []) (refused 18 0)
+    -- 16: "an absent constant has index t"
+    ∷ refuses (claimOf 1 (negsuc 0) ((2 ∷ []) ∷ []) (pos 1 ∷ [])) (oneRow 2 2 (pos 1) (pos 0) (pos 0)) (Lone (pos 1) ∷ [])
+    (record { number = 16; blamed = proof; value = 1 })
     ∷ []
 
 -- ---- the definitions give every weight, answer and byte

@@ -68,3 +68,21 @@ motzkinProof r =
 -- one term in one variable
 unfoldable pub oneTerm : ℕ → ℤ → List ℕ
 oneTerm e x = claimOf 1 (pos 0) ((e ∷ []) ∷ []) (x ∷ [])
+
+-- ---- G byte by byte, so that bytes in a wrong order would show
+
+unfoldable pub motzkinBytes : List ℕ
+motzkinBytes =
+    -- n, t, two zeros, b; four points; the coefficients 1, −3, 1, 1
+    2 ∷ 4 ∷ 0 ∷ 0 ∷ 0 ∷ 0 ∷ 0 ∷ 0
+    ∷ 0 ∷ 0 ∷ 2 ∷ 2 ∷ 2 ∷ 4 ∷ 4 ∷ 2
+    ∷ 1 ∷ 0 ∷ 0 ∷ 0 ∷ 253 ∷ 255 ∷ 255 ∷ 255 ∷ 1 ∷ 0 ∷ 0 ∷ 0 ∷ 1 ∷ 0 ∷ 0 ∷ 0 ∷ []
+
+unfoldable pub motzkinProofBytes : List ℕ
+motzkinProofBytes =
+    -- n, a zero, k, S; three rows of two points; the weights 1, 1, −2, then 2, 2, −4, then 1, 1, −2
+    2 ∷ 0 ∷ 3 ∷ 0 ∷ 1 ∷ 0 ∷ 0 ∷ 0
+    ∷ 0 ∷ 0 ∷ 2 ∷ 4 ∷ 1 ∷ 2 ∷ 3 ∷ 2 ∷ 2 ∷ 2 ∷ 4 ∷ 2
+    ∷ 1 ∷ 0 ∷ 0 ∷ 0 ∷ 1 ∷ 0 ∷ 0 ∷ 0 ∷ 254 ∷ 255 ∷ 255 ∷ 255
+    ∷ 2 ∷ 0 ∷ 0 ∷ 0 ∷ 2 ∷ 0 ∷ 0 ∷ 0 ∷ 252 ∷ 255 ∷ 255 ∷ 255
+    ∷ 1 ∷ 0 ∷ 0 ∷ 0 ∷ 1 ∷ 0 ∷ 0 ∷ 0 ∷ 254 ∷ 255 ∷ 255 ∷ 255 ∷ []

@@ -22,19 +22,19 @@ use Rattle.evaluation.specs.declared.evaluations.Evaluation.{Evaluation}
 use Rattle.evaluation.specs.declared.evaluations.Evaluation.the-variants.{Value, Refused}
 use Rattle.evaluation.proofs.Promises.{evaluation-promises}
 use Rattle.evaluation.proofs.evaluations.Laws.{evaluation-short, evaluation-passed, passed-value, failed-refusal, value-passed, tells-value, tells-refusal}
-use Rattle.burmelox.specs.Exports.{codeOf, sheetIn, numberIn, indexIn, Accepted, Coded, toldValue, Stores, Leaves}
+use Rattle.burmelox.specs.Exports.{sheetUnit, numberUnit, codeOf, sheetIn, numberIn, indexIn, Accepted, Coded, toldValue, Stores, Leaves}
 
 -- ---- code: x, m and i are the verdict's numbers
 
 module _ (v : Verdict) (x m : ℕ) (ex : x ≡ sheetNumber (says v .blamed)) (em : m ≡ says v .number) where
-  pub sheet-fits : Short (says v) → x * 4294967296 + m * 65536 < 2 ^ 64
+  pub sheet-fits : Short (says v) → x * sheetUnit + m * numberUnit < 2 ^ 64
   sheet-fits h = rw (ex, em) (omega (arith, sheet-few (says v .blamed), h .number-short))
 
   module _ (i : ℕ) (ei : i ≡ says v .value) where
-    pub code-fits : Short (says v) → x * 4294967296 + m * 65536 + i < 2 ^ 64
+    pub code-fits : Short (says v) → x * sheetUnit + m * numberUnit + i < 2 ^ 64
     code-fits h = rw (ex, em, ei) (omega (arith, sheet-few (says v .blamed), h .number-short, h .value-short))
 
-    pub code-is : x * 4294967296 + m * 65536 + i ≡ codeOf (says v)
+    pub code-is : x * sheetUnit + m * numberUnit + i ≡ codeOf (says v)
     unfolding codeOf
     code-is = rw (ex, em, ei)
 
