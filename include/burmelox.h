@@ -1,11 +1,14 @@
 /*
- * Burmelox: floors under polynomials, checked and evaluated.
+ * Burmelox: floors under polynomials, checked and evaluated. docs/FORMAT.md has the layout of both
+ * sheets, what each refusal means and what to do about it.
  *
- * A refusal is one number: its number in the table of refusals times 65,536, plus the index of
- * the first offending term or row (0 where nothing is indexed). Sheets, outputs and offsets may
- * be of any length and content; a refusal writes nothing.
+ * Sheets, outputs and offsets may be of any length and content: what is wrong is refused, and a
+ * refusal writes nothing. The functions keep no state and allocate nothing, so any thread may call
+ * them at any time with buffers of its own.
  *
- * No pointer is null, also where its length is 0, and what is written overlaps nothing else.
+ * A pointer whose length is 0 is not read through and may be null. Every other pointer leads to as
+ * many elements as its length says, `value` to one; what is written overlaps nothing else that is
+ * handed over.
  */
 #ifndef BURMELOX_H
 #define BURMELOX_H
@@ -17,21 +20,81 @@
 extern "C" {
 #endif
 
-/* The number and the index of a refusal. */
-#define BURMELOX_NUMBER(answer) ((unsigned)((answer) >> 16))
-#define BURMELOX_INDEX(answer) ((unsigned)((answer) & 0xffff))
+#define BURMELOX_VERSION_MAJOR 0
+#define BURMELOX_VERSION_MINOR 1
+#define BURMELOX_VERSION "0.1"
 
 /*
- * Checks whether the proof shows the claim's floor. Answers the number of rows where it is
- * accepted: the first proof_len bytes of the output are then the exact proof, and later ones keep
- * their values. Any answer of 65,536 or more is a refusal.
+ * An answer is one number. It is under 65,536 where nothing is refused: the number of rows of an
+ * accepted proof, 0 for a value. A refusal is sheet * 2^32 + number * 2^16 + index.
+ */
+#define BURMELOX_ACCEPTED(answer) ((uint64_t)(answer) < 0x10000u)
+#define BURMELOX_SHEET(answer) ((unsigned)((uint64_t)(answer) >> 32))
+#define BURMELOX_NUMBER(answer) ((unsigned)((uint64_t)(answer) >> 16 & 0xffffu))
+#define BURMELOX_INDEX(answer) ((unsigned)((uint64_t)(answer) & 0xffffu))
+
+/* The sheet at fault. */
+enum burmelox_sheet {
+    BURMELOX_CLAIM = 1,
+    BURMELOX_PROOF = 2,
+    BURMELOX_OUTPUT = 3,
+    BURMELOX_OFFSETS = 4
+};
+
+/* The number of a refusal; its index is that of a term or a row where the comment says so. */
+enum burmelox_refusal {
+    BURMELOX_CLAIM_TOO_SHORT = 1,       /* under 8 bytes */
+    BURMELOX_CLAIM_HEADER = 2,          /* n, t, or bytes 2 and 3 */
+    BURMELOX_CLAIM_LENGTH_WRONG = 3,
+    BURMELOX_FLOOR_BEYOND = 4,
+    BURMELOX_COEFFICIENT_WRONG = 5,     /* zero or beyond the limit; term */
+    BURMELOX_CLAIM_EXPONENT = 6,        /* over 120; term */
+    BURMELOX_POINT_NOT_RISING = 7,      /* the later term */
+    BURMELOX_PROOF_TOO_SHORT = 8,       /* under 8 bytes */
+    BURMELOX_PROOF_HEADER = 9,          /* n, byte 1, k or the scale */
+    BURMELOX_PROOF_LENGTH_WRONG = 10,
+    BURMELOX_OUTPUT_TOO_SHORT = 11,     /* shorter than the proof */
+    BURMELOX_ROW_EXPONENT = 12,         /* over 120; row */
+    BURMELOX_NO_MIDPOINT = 13,          /* no whole one; row */
+    BURMELOX_LONE_ROW_WEIGHTS = 14,     /* q or r of a lone row is not zero; row */
+    BURMELOX_WEIGHT_BEYOND = 15,        /* a proposed one; row */
+    BURMELOX_NO_SLOT = 16,              /* for a target that is not zero; term, t for an absent constant */
+    BURMELOX_SHIFTED_BEYOND = 17,       /* row */
+    BURMELOX_SHIFTED_NEGATIVE = 18,     /* p or q; row */
+    BURMELOX_CROSS_TOO_LARGE = 19,      /* r * r over 4 * p * q; row */
+    BURMELOX_OFFSETS_COUNT = 20,        /* not n */
+    BURMELOX_TERM_TOO_LARGE = 21        /* over 2^56; term */
+};
+
+/* Limits; floors, coefficients and weights are within plus and minus the greatest weight. */
+#define BURMELOX_MOST_VARIABLES 8
+#define BURMELOX_MOST_TERMS 64
+#define BURMELOX_MOST_ROWS 256
+#define BURMELOX_GREATEST_EXPONENT 120
+#define BURMELOX_GREATEST_SCALE 1048576
+#define BURMELOX_GREATEST_WEIGHT 1073741824
+#define BURMELOX_GREATEST_VALUE 72057594037927936
+
+/* The length of a claim of n variables and t terms, and of a proof of n variables and k rows. */
+#define BURMELOX_CLAIM_LENGTH(n, t) ((size_t)8 + (size_t)(t) * ((size_t)(n) + 4))
+#define BURMELOX_PROOF_LENGTH(n, k) ((size_t)8 + (size_t)(k) * (2 * (size_t)(n) + 12))
+
+/* The greatest lengths. */
+#define BURMELOX_MOST_CLAIM BURMELOX_CLAIM_LENGTH(BURMELOX_MOST_VARIABLES, BURMELOX_MOST_TERMS)
+#define BURMELOX_MOST_PROOF BURMELOX_PROOF_LENGTH(BURMELOX_MOST_VARIABLES, BURMELOX_MOST_ROWS)
+
+/*
+ * Checks whether the proof shows the claim's floor. Where it does, the answer is the number of
+ * rows, the output's first proof_len bytes are the exact proof and later ones keep their values;
+ * the polynomial is then at least its floor at all integers. Any other answer is a refusal.
  */
 uint64_t burmelox_check(const uint8_t *claim, size_t claim_len,
                         const uint8_t *proof, size_t proof_len,
                         uint8_t *output, size_t output_len);
 
 /*
- * Evaluates the claim's polynomial at the offsets. Answers 0 and stores the exact value; any other
+ * Evaluates the claim's polynomial at the offsets, one for each variable. Answers 0 and stores the
+ * exact value, which is at least the floor if the claim is accepted with any proof; any other
  * answer is a refusal, and the value stays as it was.
  */
 uint64_t burmelox_evaluate(const uint8_t *claim, size_t claim_len,

@@ -3,17 +3,23 @@
 #include <inttypes.h>
 #include <stdio.h>
 
-static const uint8_t claim[] = {
+static const uint8_t claim[BURMELOX_CLAIM_LENGTH(1, 3)] = {
     1, 3, 0, 0, 0, 0, 0, 0,                             /* one variable, three terms, floor 0 */
     0, 1, 2,                                            /* points */
     1, 0, 0, 0, 254, 255, 255, 255, 1, 0, 0, 0,         /* coefficients 1, -2, 1 */
 };
 
-static const uint8_t proof[] = {
+static const uint8_t proof[BURMELOX_PROOF_LENGTH(1, 1)] = {
     1, 0, 1, 0, 1, 0, 0, 0,                             /* one variable, one row, scale 1 */
     0, 2,                                               /* the row's points */
     1, 0, 0, 0, 1, 0, 0, 0, 254, 255, 255, 255,         /* its weights 1, 1, -2 */
 };
+
+/* Prints a refusal, and answers the program's status. */
+static int refused(uint64_t answer) {
+    printf("refused %u at %u, sheet %u\n", BURMELOX_NUMBER(answer), BURMELOX_INDEX(answer), BURMELOX_SHEET(answer));
+    return 1;
+}
 
 int main(void) {
     uint8_t output[sizeof proof];
@@ -21,16 +27,14 @@ int main(void) {
     int64_t value = 0;
 
     uint64_t answer = burmelox_check(claim, sizeof claim, proof, sizeof proof, output, sizeof output);
-    if (answer >= 65536) {
-        printf("refused %u at %u\n", BURMELOX_NUMBER(answer), BURMELOX_INDEX(answer));
-        return 1;
+    if (!BURMELOX_ACCEPTED(answer)) {
+        return refused(answer);
     }
     printf("accepted rows %" PRIu64 "\n", answer);
 
     answer = burmelox_evaluate(claim, sizeof claim, offsets, 1, &value);
-    if (answer != 0) {
-        printf("refused %u at %u\n", BURMELOX_NUMBER(answer), BURMELOX_INDEX(answer));
-        return 1;
+    if (!BURMELOX_ACCEPTED(answer)) {
+        return refused(answer);
     }
     printf("value %" PRId64 "\n", value);
     return 0;

@@ -14,7 +14,6 @@ use Rattle.answers.specs.Answers.{accepted, refuseIf, Passes}
 use Rattle.answers.proofs.answers.Laws.{passes-if, passes-at, passes-then, then-on, if-on, at-on, accepted-passes}
 use Rattle.answers.proofs.searches.Laws.{none-wrong, all-right}
 use Rattle.sheets.specs.Layout.{variables, termCount}
-use Rattle.sheets.specs.ClaimSheet.{termsOf}
 use Rattle.claims.specs.ClaimChecks.{claimAnswer}
 use Rattle.judging.proofs.Promises.{floor-kept}
 use Rattle.evaluation.specs.Evaluations.{value, termValue, tooLarge, tooLargeAnswer, evaluationAnswer, evaluationOf, Evaluable, EvaluationPromises}

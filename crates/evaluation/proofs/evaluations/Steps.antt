@@ -1,6 +1,6 @@
 -- The steps of an evaluation: the sum of the terms, and 21 at the first that is too large.
 use mathlib.Core.Path.{_≡_, refl, sym, _∙_, ap, subst}
-use mathlib.Core.Bool.{Bool, true, false, not, cond}
+use mathlib.Core.Bool.{true, false, not}
 use mathlib.Core.List.{List, [], _∷_}
 use Prim.Native.Nat.{ℕ, suc, _+_, _*_, _<_, _≤_}
 use native.Mathlib.Numerals.{add-one}
@@ -8,23 +8,22 @@ use native.Mathlib.Omega.{arith}
 use lib.Dec.{eqb}
 use lib.IntN.{ℤ, pos, natAbs, _+ℤ_, _*ℤ_}
 use lib.ListN.{length}
-use borrow.Author.Tests.{eq-eqb, ne-eqb, eqb-true, not-false}
+use borrow.Author.Tests.{eq-eqb, ne-eqb}
 use mir.Syntax.{w64}
 use mir.Val.{SFits, toZ, ofZ}
 use mir.Facts.{toZ-ofZ}
 use Rattle.integers.proofs.Integers.{abs-add, fits-within}
-use Rattle.integers.proofs.Tests.{never}
 use Rattle.bounds.specs.Bounds.{greatestValue}
-use Rattle.bounds.proofs.bounds.Laws.{over-bound, within-bound, bound-within}
-use Rattle.answers.specs.Answers.{Answer, accepted, says, refuseIf, blameless, Passes}
+use Rattle.bounds.proofs.bounds.Laws.{over-bound, bound-within}
+use Rattle.answers.specs.Answers.{Answer, accepted, says, refuseIf, Passes}
 use Rattle.answers.specs.Searches.{first}
 use Rattle.answers.specs.declared.answers.Sheet.{Sheet}
 use Rattle.answers.specs.declared.answers.Sheet.the-variants.{Claim, Offsets}
 use Rattle.answers.specs.declared.answers.Verdict.{Verdict}
 use Rattle.answers.specs.declared.answers.Verdict.the-variants as Verdicts
 use Rattle.answers.specs.declared.searches.Found.the-variants.{At, Nothing}
-use Rattle.answers.proofs.answers.Laws.{passes-if, passes-at, passes-then, then-on, if-on, at-on, accepted-passes, failed, then-refused, passed, then-passed, refused-if, refused-at, refused-says}
-use Rattle.answers.proofs.searches.Laws.{first-stop, first-next, none-wrong, all-right}
+use Rattle.answers.proofs.answers.Laws.{then-on, if-on, at-on, accepted-passes, failed, then-refused, passed, then-passed, refused-if, refused-at, refused-says}
+use Rattle.answers.proofs.searches.Laws.{first-stop, first-next}
 use Rattle.points.specs.Lists.{table}
 use Rattle.points.specs.Points.{exponents, pointOf}
 use Rattle.points.specs.declared.points.Point.{Point}
@@ -37,13 +36,13 @@ use Rattle.monomials.proofs.powers.Laws.{within-represents}
 use Rattle.squares.specs.Sums.{valueAt}
 use Rattle.squares.proofs.Sums.{value-nil, value-one, value-append}
 use Rattle.sheets.specs.Layout.{variables, termCount, ClaimRoom}
-use Rattle.sheets.specs.ClaimSheet.{termPoint, coefficientOf, termOf, termsOf}
+use Rattle.sheets.specs.ClaimSheet.{termPoint, coefficientOf, termOf}
 use Rattle.sheets.proofs.claim_sheet.Laws.{terms-table, term-point, term-coefficient}
 use Rattle.claims.specs.ClaimChecks.{claimAnswer}
 use Rattle.claims.proofs.claim_checks.Laws.{claim-passed}
 use Rattle.evaluation.proofs.Promises.{evaluation-promises}
 use Rattle.evaluation.specs.Evaluations as Spec
-use Rattle.evaluation.specs.Evaluations.{refusal, tells, toldBy, termValue, tooLarge, tooLargeAnswer, sumTo, summed, evaluationAnswer, evaluationOf, EvaluationPromises}
+use Rattle.evaluation.specs.Evaluations.{tells, toldBy, termValue, tooLarge, tooLargeAnswer, sumTo, summed, evaluationAnswer, evaluationOf, EvaluationPromises}
 use Rattle.evaluation.specs.declared.evaluations.Evaluation.{Evaluation}
 use Rattle.evaluation.specs.declared.evaluations.Evaluation.the-variants.{Value, Refused}
 
