@@ -6,7 +6,7 @@ use crate::fields::{refuse_at, Refusal, Sheets};
 /// A number up to ±2^56, or none where it is past that.
 type Bounded = Option<i64>;
 
-/// Answers 0 and stores the value, else number × 65,536 + index of the refusal.
+/// Answers 0 and stores the value, or answers a refusal.
 pub fn evaluate(claim: &[u8], offsets: &[i32], value: &mut i64) -> u64 {
     match exact_value(claim, offsets) {
         Ok(exact) => {

@@ -1,6 +1,6 @@
 //! The fields of both sheets, read in place, and the refusals 1 to 15.
 
-/// A refusal as one number: number × 65,536 + index.
+/// A refusal as the library answers it.
 pub type Refusal = u64;
 
 /// The limit of weights, coefficients and floors.
@@ -17,14 +17,14 @@ pub struct Sheets<'a> {
     proof: &'a [u8],
 }
 
-pub fn refuse_at(number: u64, found: Option<usize>) -> Result<(), Refusal> {
+pub fn refuse_at(number: u32, found: Option<usize>) -> Result<(), Refusal> {
     match found {
-        Some(index) => Err(number << 16 | index as u64),
+        Some(index) => Err(refusals::code(number, index)),
         None => Ok(()),
     }
 }
 
-fn refuse_if(number: u64, wrong: bool) -> Result<(), Refusal> {
+fn refuse_if(number: u32, wrong: bool) -> Result<(), Refusal> {
     refuse_at(number, wrong.then_some(0))
 }
 

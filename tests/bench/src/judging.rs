@@ -13,7 +13,7 @@ pub trait Method {
     fn shifted(&self, sheets: &Sheets, row: usize) -> [i64; 3];
 }
 
-/// The check: answers the number of rows, or number × 65,536 + index of a refusal.
+/// The check: answers the number of rows, or a refusal.
 pub fn check<M: Method>(claim: &[u8], proof: &[u8], output: &mut [u8]) -> u64 {
     accept::<M>(claim, proof, output).unwrap_or_else(|refusal| refusal)
 }

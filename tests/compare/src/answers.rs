@@ -26,7 +26,7 @@ pub fn check(case: &Case, rng: &mut Rng) -> Result<Number, String> {
         expected[GUARD..][..accepted.bytes.len()].copy_from_slice(&accepted.bytes);
     }
     let verdict = verdict.map(|accepted| accepted.weights.len() as u64);
-    same("check", &verdict.unwrap_or_else(code), &answer, case)?;
+    same("check", &verdict.unwrap_or_else(Refusal::code), &answer, case)?;
     same("output", &Hex(&expected), &Hex(&written), case)?;
     Ok(number(verdict))
 }
@@ -40,7 +40,7 @@ pub fn evaluate(case: &Case, rng: &mut Rng) -> Result<Number, String> {
 
     let verdict = exact.as_ref().map(|_| 0).map_err(|refusal| *refusal);
     let expected = exact.unwrap_or(Integer::from(before));
-    same("evaluation", &verdict.unwrap_or_else(code), &answer, case)?;
+    same("evaluation", &verdict.unwrap_or_else(Refusal::code), &answer, case)?;
     same("value", &expected, &Integer::from(value), case)?;
     Ok(number(verdict))
 }
@@ -63,11 +63,6 @@ fn same<T: PartialEq + Display>(what: &str, oracle: &T, other: &T, case: &Case) 
         case.room,
         case.offsets
     ))
-}
-
-/// A refusal as the library answers it.
-fn code(refusal: Refusal) -> u64 {
-    u64::from(refusal.number) << 16 | refusal.index as u64
 }
 
 fn number(verdict: Result<u64, Refusal>) -> Number {

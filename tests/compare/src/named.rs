@@ -53,7 +53,7 @@ fn refuses(entry: &table::Entry) -> Outcome {
     } else {
         library::check(&case.claim, &case.proof, &mut vec![0; case.room])
     };
-    equal("the answer", &(u64::from(entry.number) << 16 | entry.index as u64), &answer)?;
+    equal("the answer", &refusals::code(entry.number, entry.index), &answer)?;
     if entry.is_for_program() {
         let text = format!("refused {} at {}\n", entry.number, entry.index);
         equal("the text", &text, &program::print(&case.input())?)?;

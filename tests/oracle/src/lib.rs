@@ -16,7 +16,7 @@ pub use check::check;
 pub use evaluate::evaluate;
 pub use integer::Integer;
 pub use text::text;
-pub use verdict::{Accepted, Refusal, Sheet, Verdict};
+pub use verdict::{Accepted, Refusal, Verdict};
 
 /// A point: its exponents, one for each variable. Points are ordered by the first variable first.
 type Point = Vec<u8>;

@@ -2,15 +2,6 @@
 
 use std::fmt;
 
-/// The sheet that a refusal blames.
-#[derive(Clone, Copy, Debug, PartialEq, Eq)]
-pub enum Sheet {
-    Claim,
-    Proof,
-    Output,
-    Offsets,
-}
-
 /// A refusal: its number in the table, and the first offending term or row, 0 where nothing is
 /// indexed.
 #[derive(Clone, Copy, Debug, PartialEq, Eq)]
@@ -32,15 +23,9 @@ pub struct Accepted {
 pub type Verdict = Result<Accepted, Refusal>;
 
 impl Refusal {
-    /// The sheet at fault.
-    pub fn sheet(self) -> Sheet {
-        match self.number {
-            11 => Sheet::Output,
-            20 => Sheet::Offsets,
-            1..=7 | 21 => Sheet::Claim,
-            8..=19 => Sheet::Proof,
-            number => panic!("no refusal has number {number}"),
-        }
+    /// The refusal as the library answers it, with the sheet at fault.
+    pub fn code(self) -> u64 {
+        refusals::code(self.number, self.index)
     }
 }
 

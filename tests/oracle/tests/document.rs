@@ -1,9 +1,11 @@
 //! The oracle against document 01: the worked sheets, the table of refusals, the program's input,
 //! evaluations, and the polynomials of the source papers.
 
-use oracle::{check, evaluate, text, Integer, Refusal, Sheet};
+use oracle::{check, evaluate, text, Integer, Refusal};
+use refusals::{rule, said_by, EntryPoint, Sheet, RULES};
 use sheets::worked::{motzkin_claim, power_claim, square_claim, square_proof};
 use sheets::{papers, table, worked, Claim, Proof};
+use std::collections::BTreeSet;
 
 #[test]
 fn worked_sheets_print_their_text() {
@@ -30,27 +32,44 @@ fn the_exact_proof_is_the_proof_with_shifted_weights() {
 
 #[test]
 fn every_example_of_the_table_is_refused_by_its_number() {
-    for table::Entry { number, index, case } in table::entries() {
-        let answer = if number >= 20 {
+    let entries = table::entries();
+    for entry in &entries {
+        let table::Entry { number, index, ref case } = *entry;
+        let answer = if entry.is_evaluation() {
             evaluate(&case.claim, &case.offsets).unwrap_err()
         } else {
             check(&case.claim, &case.proof, case.room).unwrap_err()
         };
         assert_eq!(answer, Refusal { number, index });
     }
+    let shown: BTreeSet<u32> = entries.iter().map(|entry| entry.number).collect();
+    assert_eq!(shown, RULES.iter().map(|rule| rule.number).collect());
 }
 
 #[test]
 fn refusals_blame_a_sheet() {
-    use Sheet::*;
     let blamed = [
-        [Claim, Claim, Claim, Claim, Claim, Claim, Claim],
-        [Proof, Proof, Proof, Output, Proof, Proof, Proof],
-        [Proof, Proof, Proof, Proof, Proof, Offsets, Claim],
+        (Sheet::Claim, vec![1, 2, 3, 4, 5, 6, 7, 21]),
+        (Sheet::Proof, vec![8, 9, 10, 12, 13, 14, 15, 16, 17, 18, 19]),
+        (Sheet::Output, vec![11]),
+        (Sheet::Offsets, vec![20]),
     ];
-    for (number, sheet) in (1..).zip(blamed.concat()) {
-        assert_eq!(Refusal { number, index: 0 }.sheet(), sheet, "{number}");
+    for (sheet, numbers) in blamed {
+        for number in numbers {
+            assert_eq!(rule(number).sheet, sheet, "{number}");
+        }
     }
+    let third_row = Refusal { number: 19, index: 2 };
+    assert_eq!(third_row.code(), (2 << 32) + (19 << 16) + 2);
+}
+
+/// Of the numbers that document 01 defines, up to 21.
+#[test]
+fn entry_points_say_their_numbers_in_the_order_of_checks() {
+    let said = |entry_point| said_by(entry_point).filter(|&number| number <= 21);
+    assert!(said(EntryPoint::Check).eq(1..=19));
+    assert!(said(EntryPoint::Evaluation).eq((1..=7).chain([20, 21])));
+    assert!(said(EntryPoint::Program).eq((1..=10).chain(12..=19)));
 }
 
 #[test]

@@ -2,6 +2,7 @@
 
 use crate::worked::{power_claim, square_claim, square_proof};
 use crate::{Case, Claim, Proof, MOST};
+use refusals::{rule, EntryPoint};
 
 /// An example of the table: what is refused, and the number and index it is refused by.
 pub struct Entry {
@@ -11,15 +12,15 @@ pub struct Entry {
 }
 
 impl Entry {
-    /// 20 and 21 refuse evaluations, all others checks.
+    /// The number refuses evaluations alone.
     pub fn is_evaluation(&self) -> bool {
-        self.number >= 20
+        !rule(self.number).is_said_by(EntryPoint::Check)
     }
 
-    /// The program can be shown every example but that of 3, where it takes the ninth byte for
-    /// the proof's, that of 11, as its output is always long enough, and the evaluations.
+    /// The program can be shown the example of every number that it says but 3, where it takes
+    /// the ninth byte for the proof's.
     pub fn is_for_program(&self) -> bool {
-        !matches!(self.number, 3 | 11 | 20 | 21)
+        rule(self.number).is_said_by(EntryPoint::Program) && self.number != 3
     }
 }
 
@@ -55,33 +56,32 @@ fn with_ninth_byte(mut bytes: Vec<u8>) -> Vec<u8> {
     bytes
 }
 
-/// The examples in the order of their numbers.
+/// The examples, each with its number and index.
 pub fn entries() -> Vec<Entry> {
     let no_terms = Claim::new::<1>(0, &[]);
     let no_rows = Proof::new::<1>(1, &[]);
     let cases = [
-        (0, Case { claim: vec![], proof: vec![], room: 0, offsets: vec![] }),
-        (0, square_with_claim(Claim::new::<0>(0, &[]))),
-        (0, Case { claim: with_ninth_byte(no_terms.bytes()), ..square() }),
-        (0, square_with_claim(square_claim(MOST + 1, -2))),
-        (1, square_with_claim(square_claim(0, 0))),
-        (2, square_with_claim(Claim::new(0, &[([0], 1), ([1], -2), ([121], 1)]))),
-        (1, square_with_claim(Claim::new(0, &[([2], 1), ([2], 1)]))),
-        (0, Case { proof: square_proof().bytes()[..7].to_vec(), ..square() }),
-        (0, square_with_proof(Proof { scale: 0, ..square_proof() })),
-        (0, Case { proof: with_ninth_byte(no_rows.bytes()), ..square() }),
-        (0, Case { room: 21, ..square() }),
-        (0, square_with_row(0, 121, [1, 1, -2])),
-        (0, square_with_row(0, 1, [1, 1, -2])),
-        (0, square_with_row(1, 1, [1, 1, 0])),
-        (0, square_with_row(0, 2, [1, 1, MOST + 1])),
-        (0, square_with_proof(no_rows)),
-        (0, lone(2, MOST, 2)),
-        (0, lone(1, 1, 1)),
-        (0, square_with_claim(square_claim(1, -2))),
-        (0, Case { offsets: vec![1, 1], ..square() }),
-        (0, Case { claim: power_claim(57).bytes(), offsets: vec![2], ..square() }),
+        (1, 0, Case { claim: vec![], proof: vec![], room: 0, offsets: vec![] }),
+        (2, 0, square_with_claim(Claim::new::<0>(0, &[]))),
+        (3, 0, Case { claim: with_ninth_byte(no_terms.bytes()), ..square() }),
+        (4, 0, square_with_claim(square_claim(MOST + 1, -2))),
+        (5, 1, square_with_claim(square_claim(0, 0))),
+        (6, 2, square_with_claim(Claim::new(0, &[([0], 1), ([1], -2), ([121], 1)]))),
+        (7, 1, square_with_claim(Claim::new(0, &[([2], 1), ([2], 1)]))),
+        (8, 0, Case { proof: square_proof().bytes()[..7].to_vec(), ..square() }),
+        (9, 0, square_with_proof(Proof { scale: 0, ..square_proof() })),
+        (10, 0, Case { proof: with_ninth_byte(no_rows.bytes()), ..square() }),
+        (11, 0, Case { room: 21, ..square() }),
+        (12, 0, square_with_row(0, 121, [1, 1, -2])),
+        (13, 0, square_with_row(0, 1, [1, 1, -2])),
+        (14, 0, square_with_row(1, 1, [1, 1, 0])),
+        (15, 0, square_with_row(0, 2, [1, 1, MOST + 1])),
+        (16, 0, square_with_proof(no_rows)),
+        (17, 0, lone(2, MOST, 2)),
+        (18, 0, lone(1, 1, 1)),
+        (19, 0, square_with_claim(square_claim(1, -2))),
+        (20, 0, Case { offsets: vec![1, 1], ..square() }),
+        (21, 0, Case { claim: power_claim(57).bytes(), offsets: vec![2], ..square() }),
     ];
-    let numbered = (1..).zip(cases);
-    numbered.map(|(number, (index, case))| Entry { number, index, case }).collect()
+    cases.into_iter().map(|(number, index, case)| Entry { number, index, case }).collect()
 }

@@ -1,32 +1,37 @@
-//! Faults put into well-formed sheets, one function for each number from 1 to 15 and for 20.
+//! Faults put into well-formed sheets, one for each number that the bytes of a single sheet, the
+//! output's length or the count of offsets can break.
 
 use super::Rng;
 use crate::Case;
 use std::ops::{Range, RangeInclusive};
 
-/// Breaks the rule of the number in sheets that have at least two terms and a row. What later
-/// numbers look at need not be in order; what earlier ones look at stays as it is.
-pub fn put(rng: &mut Rng, number: u32, case: &mut Case) {
-    let Case { claim, proof, room, offsets } = case;
-    match number {
-        1 => claim.truncate(rng.below(8)),
-        2 => spoil_claim_header(rng, claim),
-        3 => change_length(rng, claim),
-        4 => put_word(claim, 4, beyond(rng)),
-        5 => spoil_coefficient(rng, claim),
-        6 => spoil_exponent(rng, ClaimPlaces::of(claim).points, claim),
-        7 => spoil_order(rng, claim),
-        8 => proof.truncate(rng.below(8)),
-        9 => spoil_proof_header(rng, proof),
-        10 => spoil_proof_length(rng, proof),
-        11 => *room = rng.below(proof.len()),
-        12 => spoil_exponent(rng, ProofPlaces::of(proof).ends, proof),
-        13 => spoil_midpoint(rng, proof),
-        14 => spoil_lone_row(rng, proof),
-        15 => spoil_weight(rng, proof),
-        20 => spoil_count(rng, offsets),
-        _ => panic!("{number} is no fault of single sheets"),
-    }
+/// Breaks a rule in sheets that have at least two terms and a row. What later checks look at need
+/// not be in order; what earlier ones look at stays as it is.
+pub type Break = fn(&mut Rng, &mut Case);
+
+/// The faults by number.
+const BREAKS: &[(u32, Break)] = &[
+    (1, |rng, case| case.claim.truncate(rng.below(8))),
+    (2, |rng, case| spoil_claim_header(rng, &mut case.claim)),
+    (3, |rng, case| change_length(rng, &mut case.claim)),
+    (4, |rng, case| put_word(&mut case.claim, 4, beyond(rng))),
+    (5, |rng, case| spoil_coefficient(rng, &mut case.claim)),
+    (6, |rng, case| spoil_exponent(rng, ClaimPlaces::of(&case.claim).points, &mut case.claim)),
+    (7, |rng, case| spoil_order(rng, &mut case.claim)),
+    (8, |rng, case| case.proof.truncate(rng.below(8))),
+    (9, |rng, case| spoil_proof_header(rng, &mut case.proof)),
+    (10, |rng, case| spoil_proof_length(rng, &mut case.proof)),
+    (11, |rng, case| case.room = rng.below(case.proof.len())),
+    (12, |rng, case| spoil_exponent(rng, ProofPlaces::of(&case.proof).ends, &mut case.proof)),
+    (13, |rng, case| spoil_midpoint(rng, &mut case.proof)),
+    (14, |rng, case| spoil_lone_row(rng, &mut case.proof)),
+    (15, |rng, case| spoil_weight(rng, &mut case.proof)),
+    (20, |rng, case| spoil_count(rng, &mut case.offsets)),
+];
+
+/// The fault of a number, where it has one of this sort.
+pub fn of(number: u32) -> Option<Break> {
+    BREAKS.iter().find(|(other, _)| *other == number).map(|(_, put)| *put)
 }
 
 /// Where a claim's parts begin.

@@ -1,8 +1,11 @@
 //! The kinds of random cases.
 
+use super::breaks::{self, Break};
 use super::offsets::{largest_terms, offsets, over_largest_term};
-use super::{breaks, Plan, Rng, Shape};
+use super::rows::JUDGED;
+use super::{Plan, Rng, Shape};
 use crate::{Case, Claim, Proof};
+use refusals::EntryPoint;
 use std::fmt;
 
 /// A kind of random cases.
@@ -14,7 +17,7 @@ pub enum Kind {
     Extreme,
     /// Terms of exactly ±2^56.
     Largest,
-    /// Refused by the number, the check's or, for 20 and 21, the evaluation's.
+    /// Refused by the number: the check, or the evaluation where only that says the number.
     Refused(u32),
     /// Cut, lengthened, with bits or bytes changed.
     Damaged,
@@ -35,7 +38,7 @@ impl Kind {
     /// Every kind.
     pub fn all() -> Vec<Kind> {
         use Kind::*;
-        let refused = (1..=21).map(Refused);
+        let refused = refusals::RULES.iter().map(|rule| Refused(rule.number));
         [Accepted, Extreme, Largest, Damaged, Noise].into_iter().chain(refused).collect()
     }
 
@@ -43,8 +46,10 @@ impl Kind {
         match self {
             Kind::Accepted | Kind::Extreme => Expected::Check(0),
             Kind::Largest => Expected::Evaluation(0),
-            Kind::Refused(number @ (20 | 21)) => Expected::Evaluation(number),
-            Kind::Refused(number) => Expected::Check(number),
+            Kind::Refused(number) if refusals::rule(number).is_said_by(EntryPoint::Check) => {
+                Expected::Check(number)
+            }
+            Kind::Refused(number) => Expected::Evaluation(number),
             Kind::Damaged | Kind::Noise => Expected::Any,
         }
     }
@@ -56,8 +61,8 @@ impl Kind {
             Kind::Extreme => planned(rng, Shape::extreme, &[]),
             Kind::Largest => evaluated(largest_terms(rng)),
             Kind::Refused(16) => without_slot(rng),
-            Kind::Refused(number @ 17..=19) => misjudged(rng, number),
             Kind::Refused(21) => evaluated(over_largest_term(rng)),
+            Kind::Refused(number) if JUDGED.contains(&number) => misjudged(rng, number),
             Kind::Refused(number) => broken(rng, number),
             Kind::Damaged => damaged(rng),
             Kind::Noise => noise(rng),
@@ -105,23 +110,24 @@ fn any_shape(rng: &mut Rng) -> Shape {
     }
 }
 
-/// A case with a row that the number refuses, and often others that later numbers do.
+/// A case with a row that the number refuses, and often others that it or later checks refuse.
 fn misjudged(rng: &mut Rng, number: u32) -> Case {
     let mut faults = some_faults(rng, number);
     faults.push(number);
     planned(rng, any_shape, &faults)
 }
 
-/// Numbers of faulty rows from the given one up to 19, each one time in four.
-fn some_faults(rng: &mut Rng, from: u32) -> Vec<u32> {
-    (from..=19).filter(|_| rng.once_in(4)).collect()
+/// Numbers of faulty rows, none of them checked before the given number, each one time in four.
+fn some_faults(rng: &mut Rng, number: u32) -> Vec<u32> {
+    let faults = refusals::from(number).filter(|other| JUDGED.contains(other));
+    faults.filter(|_| rng.once_in(4)).collect()
 }
 
 /// A case whose constant no row holds although the floor differs from it, or with a term more at
 /// a point that no row holds; often with a faulty row as well.
 fn without_slot(rng: &mut Rng) -> Case {
     loop {
-        let faults = some_faults(rng, 17);
+        let faults = some_faults(rng, 16);
         let Plan { mut claim, proof, .. } = Plan::random(rng, Shape::random, &faults);
         let held = |point: &[u8]| {
             proof.rows.iter().flat_map(|row| row.slots()).any(|(slot, _)| slot == point)
@@ -141,21 +147,22 @@ fn without_slot(rng: &mut Rng) -> Case {
     }
 }
 
-/// A case broken by the number, and often by a later one as well.
+/// A case broken by the number, and often for a later check as well.
 fn broken(rng: &mut Rng, number: u32) -> Case {
-    let mut case = with_terms_and_rows(rng);
-    let later = number + 1 + rng.below(8) as u32;
-    if later <= 15 && rng.once_in(2) {
-        breaks::put(rng, later, &mut case);
+    let mut case = with_terms_and_rows(rng, number);
+    let put = breaks::of(number).expect("the number has a fault of single sheets");
+    let later: Vec<Break> = refusals::from(number).skip(1).filter_map(breaks::of).collect();
+    if !later.is_empty() && rng.once_in(2) {
+        rng.pick(&later)(rng, &mut case);
     }
-    breaks::put(rng, number, &mut case);
+    put(rng, &mut case);
     case
 }
 
-/// A case that has something for every number to break.
-fn with_terms_and_rows(rng: &mut Rng) -> Case {
+/// A case that has something for every number to break, often with faulty rows.
+fn with_terms_and_rows(rng: &mut Rng, number: u32) -> Case {
     loop {
-        let faults = some_faults(rng, 17);
+        let faults = some_faults(rng, number);
         let case = planned(rng, any_shape, &faults);
         let rows = case.proof.len() - 8;
         if case.claim[1] >= 2 && rows > 0 {

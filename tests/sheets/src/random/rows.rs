@@ -4,6 +4,9 @@
 use super::{Rng, Shape};
 use crate::{is_even, Row, MOST};
 
+/// The numbers that judge single rows after the shift.
+pub const JUDGED: [u32; 3] = [17, 18, 19];
+
 /// A row that holds: the points of an earlier one again, or a pair or a lone row of the pool.
 pub fn holding_row(rng: &mut Rng, shape: &Shape, earlier: &[Row<i64>]) -> Row<i64> {
     let (v, w) = if !earlier.is_empty() && rng.once_in(5) {
@@ -40,9 +43,9 @@ pub fn filling_row(rng: &mut Rng, shape: &Shape, earlier: &[Row<i64>]) -> Row<i6
     Row { weights: weights.map(|weight| weight * i64::from(shape.scale)), ..row }
 }
 
-/// A row that breaks the rule 17, 18 or 19, and none of them before it.
+/// A row that breaks the rule 17, 18 or 19, and none of them before it. A lone row cannot break 19.
 pub fn faulty_row(rng: &mut Rng, shape: &Shape, fault: u32) -> Option<Row<i64>> {
-    if fault < 19 && rng.once_in(3) {
+    if fault != 19 && rng.once_in(3) {
         let (v, w) = shape.lone_ends(rng);
         let p = if fault == 17 { past_most(rng) } else { negative_weights(rng, shape.weight)[0] };
         return Some(Row { v, w, weights: [p, 0, 0] });

@@ -1,0 +1,102 @@
+//! The table of refusal numbers: the sheet each of them blames, the entry points that say it, and
+//! the order of checks. A request that adds a number adds a row here.
+
+use EntryPoint::{Check, Evaluation, Program};
+use Sheet::{Claim, Offsets, Output, Proof};
+
+/// The sheet at fault, numbered as the library's answers have it.
+#[derive(Clone, Copy, Debug, PartialEq, Eq)]
+pub enum Sheet {
+    Claim = 1,
+    Proof = 2,
+    Output = 3,
+    Offsets = 4,
+    Range = 5,
+    Limits = 6,
+    Page = 7,
+    Profile = 8,
+    Buffer = 9,
+    Table = 10,
+    Site = 11,
+}
+
+/// Where refusals are said: the library's check, its evaluation, and the program.
+#[derive(Clone, Copy, Debug, PartialEq, Eq, PartialOrd, Ord)]
+pub enum EntryPoint {
+    Check,
+    Evaluation,
+    Program,
+}
+
+/// A row of the table.
+pub struct Rule {
+    pub number: u32,
+    pub sheet: Sheet,
+    entry_points: &'static [EntryPoint],
+}
+
+impl Rule {
+    const fn new(number: u32, sheet: Sheet, entry_points: &'static [EntryPoint]) -> Rule {
+        Rule { number, sheet, entry_points }
+    }
+
+    pub fn is_said_by(&self, entry_point: EntryPoint) -> bool {
+        self.entry_points.contains(&entry_point)
+    }
+}
+
+/// What reads a claim.
+const CLAIM_READERS: &[EntryPoint] = &[Check, Evaluation, Program];
+
+/// What reads a proof.
+const PROOF_READERS: &[EntryPoint] = &[Check, Program];
+
+/// The rules in the order of their checks: the place in this list is the place in that order, and
+/// the number says nothing of it. Today's numbers rise, later ones do not: requests put 38, 26 and
+/// 27 before 1, then 39, 24 and 25 between 10 and 11, and 34 between 12 and 13. The program never
+/// says 11, since its output is as long as the proof.
+pub const RULES: &[Rule] = &[
+    Rule::new(1, Claim, CLAIM_READERS),
+    Rule::new(2, Claim, CLAIM_READERS),
+    Rule::new(3, Claim, CLAIM_READERS),
+    Rule::new(4, Claim, CLAIM_READERS),
+    Rule::new(5, Claim, CLAIM_READERS),
+    Rule::new(6, Claim, CLAIM_READERS),
+    Rule::new(7, Claim, CLAIM_READERS),
+    Rule::new(8, Proof, PROOF_READERS),
+    Rule::new(9, Proof, PROOF_READERS),
+    Rule::new(10, Proof, PROOF_READERS),
+    Rule::new(11, Output, &[Check]),
+    Rule::new(12, Proof, PROOF_READERS),
+    Rule::new(13, Proof, PROOF_READERS),
+    Rule::new(14, Proof, PROOF_READERS),
+    Rule::new(15, Proof, PROOF_READERS),
+    Rule::new(16, Proof, PROOF_READERS),
+    Rule::new(17, Proof, PROOF_READERS),
+    Rule::new(18, Proof, PROOF_READERS),
+    Rule::new(19, Proof, PROOF_READERS),
+    Rule::new(20, Offsets, &[Evaluation]),
+    Rule::new(21, Claim, &[Evaluation]),
+];
+
+/// The rule of a number.
+pub fn rule(number: u32) -> &'static Rule {
+    let found = RULES.iter().find(|rule| rule.number == number);
+    found.unwrap_or_else(|| panic!("no refusal has number {number}"))
+}
+
+/// The numbers that an entry point says, in the order of checks.
+pub fn said_by(entry_point: EntryPoint) -> impl Iterator<Item = u32> {
+    RULES.iter().filter(move |rule| rule.is_said_by(entry_point)).map(|rule| rule.number)
+}
+
+/// The numbers from the given one on, in the order of checks.
+pub fn from(number: u32) -> impl Iterator<Item = u32> {
+    RULES.iter().map(|rule| rule.number).skip_while(move |&other| other != number)
+}
+
+/// A refusal as the library answers it: sheet × 2^32 + number × 2^16 + index.
+pub fn code(number: u32, index: usize) -> u64 {
+    let sheet = rule(number).sheet as u64;
+    sheet << 32 | u64::from(number) << 16 | index as u64
+}
