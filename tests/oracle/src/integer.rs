@@ -3,7 +3,6 @@
 use std::cmp::Ordering;
 use std::fmt;
 use std::ops::{Add, Mul, Neg, Sub};
-use std::str::FromStr;
 
 /// An integer of any size. Its digits are to the base 2^32, the lowest first, with no zero at the
 /// high end; zero has no digit and is not negative.
@@ -143,23 +142,6 @@ impl fmt::Display for Integer {
     }
 }
 
-impl FromStr for Integer {
-    type Err = String;
-
-    fn from_str(text: &str) -> Result<Integer, String> {
-        let decimals = text.strip_prefix('-').unwrap_or(text);
-        if decimals.is_empty() {
-            return Err(format!("no decimal in {text:?}"));
-        }
-        let mut digits = Vec::new();
-        for decimal in decimals.chars() {
-            let value = decimal.to_digit(10).ok_or(format!("{decimal:?} is no decimal"))?;
-            digits = add_digits(&mul_digits(&digits, &[10]), &[value]);
-        }
-        Ok(Integer::new(text.starts_with('-'), digits))
-    }
-}
-
 /// The order of two magnitudes, neither with a zero at the high end.
 fn compare_digits(a: &[u32], b: &[u32]) -> Ordering {
     a.len().cmp(&b.len()).then_with(|| a.iter().rev().cmp(b.iter().rev()))
@@ -239,9 +221,13 @@ mod tests {
         samples.iter().flat_map(|&a| samples.iter().map(move |&b| pair(a, b))).collect()
     }
 
+    /// The integer is the number: in decimals, digit by digit, and by its sign.
     fn assert_same(integer: &Integer, number: i128) {
+        let magnitude = number.unsigned_abs();
+        let count = (u128::BITS - magnitude.leading_zeros()).div_ceil(32);
+        let digits = (0..count).map(|place| (magnitude >> (32 * place)) as u32).collect();
         assert_eq!(integer.to_string(), number.to_string());
-        assert_eq!(*integer, number.to_string().parse().unwrap());
+        assert_eq!(*integer, Integer { negative: number < 0, digits });
         assert_eq!((integer.is_zero(), integer.is_negative()), (number == 0, number < 0));
     }
 
@@ -293,17 +279,7 @@ mod tests {
         assert_eq!(factorial.to_string(), "15511210043330985984000000");
         assert_eq!(power(3, 80).to_string(), "147808829414345923316083210206383297601");
         assert_eq!(power(-2, 101).to_string(), "-2535301200456458802993406410752");
-        let long = format!("-1{}", "0".repeat(300));
-        assert_eq!(long.parse(), Ok(-&power(10, 300)));
-        assert_eq!((-&power(10, 300)).to_string(), long);
-    }
-
-    #[test]
-    fn only_decimals_are_read() {
-        for text in ["", "-", "1x", "+1", " 1"] {
-            assert!(text.parse::<Integer>().is_err(), "{text:?}");
-        }
-        assert_eq!("-0".parse(), Ok(Integer::default()));
-        assert_eq!("007".parse(), Ok(Integer::from(7)));
+        assert_eq!((-&power(10, 300)).to_string(), format!("-1{}", "0".repeat(300)));
+        assert_eq!(&power(2, 300) * &power(5, 300), power(10, 300));
     }
 }
