@@ -2,14 +2,14 @@
 
 use crate::{answers, program, Outcome, Report};
 use sheets::random::Rng;
-use sheets::worked::{power_claim, square_claim, square_proof};
-use sheets::{papers, table, worked, Case, Example};
+use sheets::worked::{power_claim, square_input, SQUARE_CUTS};
+use sheets::{table, Case, Example};
 use std::path::{Path, PathBuf};
 use std::process::Command;
 use std::{env, fs, process};
 
 pub fn run(report: &mut Report) {
-    let examples: Vec<Example> = worked::examples().into_iter().chain(papers::examples()).collect();
+    let examples = sheets::examples();
     for example in &examples {
         report.add(&format!("example {}", example.name), shows(example));
     }
@@ -18,6 +18,9 @@ pub fn run(report: &mut Report) {
         report.add(&format!("table {}", entry.number), refuses(&entry));
     }
     report.add("evaluation J", reaches_2_to_56());
+    for (length, text) in SQUARE_CUTS {
+        report.add(&format!("input of {length} bytes"), prints(&square_input()[..length], text));
+    }
     report.add("input in pieces", reads_pieces());
     report.add("input past 8,192 bytes", leaves_the_rest());
     report.add("example in C", runs_in_c());
@@ -67,15 +70,21 @@ fn reaches_2_to_56() -> Outcome {
     equal("the answer and the value", &(0, 1 << 56), &(answer, value))
 }
 
+/// The oracle and the program print the text.
+fn prints(input: &[u8], text: &str) -> Outcome {
+    equal("the oracle's text", &text, &&oracle::text(input)[..])?;
+    equal("the program's text", &text, &&program::print(input)?[..])
+}
+
 fn reads_pieces() -> Outcome {
-    let input = Case::new(&square_claim(0, -2), &square_proof()).input();
+    let input = square_input();
     let pieces = [&input[..3], &input[3..20], &input[20..40], &input[40..]];
     equal("the text", &oracle::text(&input), &program::print_pieces(&pieces)?)
 }
 
 /// Bytes past the limit are neither waited for nor answered to, however many.
 fn leaves_the_rest() -> Outcome {
-    let mut input = Case::new(&square_claim(0, -2), &square_proof()).input();
+    let mut input = square_input();
     for length in [8191, 8192, 8193, 100_000] {
         input.resize(length, 0);
         equal("the text", &"refused 10 at 0\n", &&program::print(&input)?[..])?;

@@ -1,22 +1,17 @@
-//! The oracle against document 01: the worked sheets, the table of refusals, the program's input,
-//! evaluations, and the polynomials of the source papers.
+//! The oracle against document 01: the examples, the table of refusals, the program's input and
+//! evaluations.
 
 use oracle::{check, evaluate, text, Integer, Refusal};
 use refusals::{rule, said_by, EntryPoint, Sheet, RULES};
-use sheets::worked::{motzkin_claim, power_claim, square_claim, square_proof};
-use sheets::{papers, table, worked, Claim, Proof};
+use sheets::worked::{
+    motzkin_claim, power_claim, square_claim, square_input, square_proof, SQUARE_CUTS,
+};
+use sheets::{posts, table, Claim, Proof};
 use std::collections::BTreeSet;
 
 #[test]
-fn worked_sheets_print_their_text() {
-    for example in worked::examples() {
-        assert_eq!(text(&example.input()), example.text, "{}", example.name);
-    }
-}
-
-#[test]
-fn sheets_of_the_papers_print_their_text() {
-    for example in papers::examples() {
+fn examples_print_their_text() {
+    for example in sheets::examples() {
         assert_eq!(text(&example.input()), example.text, "{}", example.name);
     }
 }
@@ -74,12 +69,11 @@ fn entry_points_say_their_numbers_in_the_order_of_checks() {
 
 #[test]
 fn the_input_is_split_by_the_header_of_the_claim() {
-    let input = [square_claim(0, -2).bytes(), square_proof().bytes()].concat();
+    let input = square_input();
+    for (length, expected) in SQUARE_CUTS {
+        assert_eq!(text(&input[..length]), expected, "{length}");
+    }
     assert_eq!(text(&[]), "refused 1 at 0\n");
-    assert_eq!(text(&input[..7]), "refused 1 at 0\n");
-    assert_eq!(text(&input[..22]), "refused 3 at 0\n");
-    assert_eq!(text(&input[..23]), "refused 8 at 0\n");
-    assert_eq!(text(&input[..44]), "refused 10 at 0\n");
     assert_eq!(text(&[&input[..], &[0]].concat()), "refused 10 at 0\n");
     assert_eq!(text(&[9, 3, 0, 0, 0, 0, 0, 0, 0]), "refused 2 at 0\n");
 }
@@ -102,6 +96,8 @@ fn evaluations_are_exact() {
     assert_eq!(value(square(), &[]), Err(Refusal { number: 20, index: 0 }));
     assert_eq!(value(motzkin_claim(), &[1, -1]), Ok(Integer::from(0)));
     assert_eq!(value(square(), &[i32::MIN]), Err(Refusal { number: 21, index: 2 }));
+    assert_eq!(value(posts::post_4().claim, &[2000, 1]), Ok(Integer::from(0)));
+    assert_eq!(value(posts::post_9().claim, &[2000, 1]), Ok(Integer::from(-1)));
 }
 
 #[test]

@@ -1,9 +1,10 @@
 //! Builder of claims and proofs in bytes, and the sheets that tests are made of.
 //!
-//! `worked` and `papers` hold sheets with the text the program prints for them, `table` the
-//! examples of the table of refusals, `random` the generators.
+//! `worked`, `posts` and `papers` hold sheets with the text the program prints for them, `table`
+//! the examples of the table of refusals, `random` the generators.
 
 pub mod papers;
+pub mod posts;
 pub mod random;
 pub mod table;
 pub mod worked;
@@ -117,6 +118,11 @@ impl Proof {
         bytes.extend(self.rows.iter().flat_map(|row| row.weights).flat_map(i32::to_le_bytes));
         bytes
     }
+}
+
+/// Every example: the worked sheets, the posts, the papers.
+pub fn examples() -> Vec<Example> {
+    [worked::examples(), posts::examples(), papers::examples()].into_iter().flatten().collect()
 }
 
 impl Example {

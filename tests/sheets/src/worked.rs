@@ -12,6 +12,23 @@ pub fn square_proof() -> Proof {
     Proof::new(1, &[([0], [2], [1, 1, -2])])
 }
 
+/// The program's input for Square, of 45 bytes: the claim, and from byte 23 on the proof.
+pub fn square_input() -> Vec<u8> {
+    [square_claim(0, -2).bytes(), square_proof().bytes()].concat()
+}
+
+/// What the program prints for so many first bytes of Square's input: one byte short of a header,
+/// one short of the claim, the claim alone, one short of the whole, and all of it.
+pub const SQUARE_CUTS: [(usize, &str); 5] = [
+    (7, "refused 1 at 0\n"),
+    (22, "refused 3 at 0\n"),
+    (23, "refused 8 at 0\n"),
+    (44, "refused 10 at 0\n"),
+    (45, SQUARE_TEXT),
+];
+
+const SQUARE_TEXT: &str = "accepted rows 1 scale 1 floor 0\nrow 0 p 1 q 1 r -2\n";
+
 /// Motzkin's polynomial.
 pub fn motzkin_claim() -> Claim {
     Claim::new(0, &[([0, 0], 1), ([2, 2], -3), ([2, 4], 1), ([4, 2], 1)])
@@ -61,8 +78,8 @@ pub fn examples() -> Vec<Example> {
         text,
     };
     vec![
-        square("A", 0, -2, "accepted rows 1 scale 1 floor 0\nrow 0 p 1 q 1 r -2\n"),
-        square("B", 0, 2, "accepted rows 1 scale 1 floor 0\nrow 0 p 1 q 1 r -2\n"),
+        square("A", 0, -2, SQUARE_TEXT),
+        square("B", 0, 2, SQUARE_TEXT),
         square("C", -1, -2, "accepted rows 1 scale 1 floor -1\nrow 0 p 2 q 1 r -2\n"),
         square("D", 1, -2, "refused 19 at 0\n"),
         empty("E", 0, "accepted rows 0 scale 1 floor 0\n"),
