@@ -1,7 +1,9 @@
 //! One case, answered by the oracle and by the library or the program.
 
-use crate::{program, Outcome};
+use crate::program;
+use crate::report::Outcome;
 use oracle::{Integer, Refusal};
+use refusals::EntryPoint;
 use sheets::random::Rng;
 use sheets::Case;
 use std::fmt::{self, Display};
@@ -11,6 +13,15 @@ const GUARD: usize = 16;
 
 /// The number that a check or an evaluation ended with, 0 where nothing was refused.
 type Number = u32;
+
+/// Compares what an entry point answers to a case.
+pub fn compare(entry_point: EntryPoint, case: &Case, rng: &mut Rng) -> Result<Number, String> {
+    match entry_point {
+        EntryPoint::Check => check(case, rng),
+        EntryPoint::Evaluation => evaluate(case, rng),
+        EntryPoint::Program => text(case),
+    }
+}
 
 /// Compares a check by the library: its answer and every byte of the output, which is filled with
 /// random bytes before.
@@ -32,7 +43,7 @@ pub fn check(case: &Case, rng: &mut Rng) -> Result<Number, String> {
 }
 
 /// Compares an evaluation by the library: its answer, and the value, which is random before.
-pub fn evaluate(case: &Case, rng: &mut Rng) -> Result<Number, String> {
+fn evaluate(case: &Case, rng: &mut Rng) -> Result<Number, String> {
     let exact = oracle::evaluate(&case.claim, &case.offsets);
     let before = rng.bits() as i64;
     let mut value = before;
@@ -46,9 +57,11 @@ pub fn evaluate(case: &Case, rng: &mut Rng) -> Result<Number, String> {
 }
 
 /// Compares the text that the program prints.
-pub fn text(case: &Case) -> Outcome {
+fn text(case: &Case) -> Result<Number, String> {
     let input = case.input();
-    same("text", &oracle::text(&input), &program::print(&input)?, case)
+    let verdict = oracle::verdict(&input);
+    same("text", &oracle::printed(&verdict), &program::print(&input)?, case)?;
+    Ok(number(verdict))
 }
 
 fn same<T: PartialEq + Display>(what: &str, oracle: &T, other: &T, case: &Case) -> Outcome {
@@ -65,7 +78,7 @@ fn same<T: PartialEq + Display>(what: &str, oracle: &T, other: &T, case: &Case) 
     ))
 }
 
-fn number(verdict: Result<u64, Refusal>) -> Number {
+fn number<T>(verdict: Result<T, Refusal>) -> Number {
     verdict.err().map_or(0, |refusal| refusal.number)
 }
 

@@ -1,48 +1,28 @@
 //! Holds the program and the library against the oracle, which was written from document 01 alone.
 //!
-//!     cargo run --bin compare [-- --seed N --cases N]
+//!     cargo run --bin compare [-- --seed N --cases N --library]
 //!
-//! `named` has the tests of single sheets, `random` those of each kind of random cases, `answers`
-//! the comparison itself. The program is the one that `rt check burmelox_check` writes, or that
-//! BURMELOX_PROGRAM names.
+//! `named` has the tests of single sheets, `random` each kind of random cases, `answers` the
+//! comparison itself. The program is the one that `rt check burmelox_check` writes, or that
+//! BURMELOX_PROGRAM names. `--library` leaves it out of the random cases.
 
 mod answers;
+mod files;
 mod named;
 mod program;
 mod random;
+mod report;
+
+use refusals::EntryPoint;
+use report::Report;
 
 use std::process::ExitCode;
-
-/// What a test found: nothing, or a difference in words.
-type Outcome = Result<(), String>;
-
-/// The count of passed and failed tests; each is printed as it ends.
-#[derive(Default)]
-struct Report {
-    passed: usize,
-    failed: usize,
-}
-
-impl Report {
-    fn add(&mut self, name: &str, outcome: Outcome) {
-        match outcome {
-            Ok(()) => {
-                println!("passed {name}");
-                self.passed += 1;
-            }
-            Err(difference) => {
-                println!("FAILED {name}\n{difference}");
-                self.failed += 1;
-            }
-        }
-    }
-}
 
 fn main() -> ExitCode {
     let options = match options(std::env::args().skip(1)) {
         Ok(options) => options,
         Err(mistake) => {
-            eprintln!("{mistake}\nusage: compare [--seed N] [--cases N]");
+            eprintln!("{mistake}\nusage: compare [--seed N] [--cases N] [--library]");
             return ExitCode::from(2);
         }
     };
@@ -58,15 +38,19 @@ fn main() -> ExitCode {
 }
 
 /// The options in the arguments: the seed is fixed unless one is given.
-fn options(arguments: impl Iterator<Item = String>) -> Result<random::Options, String> {
-    let mut options = random::Options { seed: 1, cases: 20_000 };
-    let mut arguments = arguments;
+fn options(mut arguments: impl Iterator<Item = String>) -> Result<random::Options, String> {
+    use EntryPoint::{Check, Evaluation, Program};
+    let entry_points = vec![Check, Evaluation, Program];
+    let mut options = random::Options { seed: 1, cases: 20_000, entry_points };
     while let Some(name) = arguments.next() {
-        let number = arguments.next().and_then(|text| text.parse::<u64>().ok());
-        let number = number.ok_or(format!("{name} needs a number"))?;
+        let mut number = || {
+            let number = arguments.next().and_then(|text| text.parse::<u64>().ok());
+            number.ok_or(format!("{name} needs a number"))
+        };
         match name.as_str() {
-            "--seed" => options.seed = number,
-            "--cases" => options.cases = number as usize,
+            "--seed" => options.seed = number()?,
+            "--cases" => options.cases = number()? as usize,
+            "--library" => options.entry_points = vec![Check, Evaluation],
             _ => return Err(format!("{name} is unknown")),
         }
     }

@@ -1,10 +1,10 @@
 //! Tests of single sheets: the examples, the table of refusals, the program's input, C.
 
-use crate::{answers, program, Outcome, Report};
+use crate::report::{equal, Outcome, Report};
+use crate::{answers, files, program};
 use sheets::random::Rng;
 use sheets::worked::{power_claim, square_input, SQUARE_CUTS};
 use sheets::{table, Case, Example};
-use std::path::{Path, PathBuf};
 use std::process::Command;
 use std::{env, fs, process};
 
@@ -29,9 +29,8 @@ pub fn run(report: &mut Report) {
 /// The files of an example are what the builder makes, the program prints the text beside the
 /// sheet, and the library agrees.
 fn shows(example: &Example) -> Outcome {
-    let file = root().join("examples").join(example.name);
-    let sheet = read(&file.with_extension("sheet"))?;
-    let text = read(&file.with_extension("txt"))?;
+    let sheet = files::read(&format!("examples/{}.sheet", example.name))?;
+    let text = files::read(&format!("examples/{}.txt", example.name))?;
     equal("the sheet's file", &example.input(), &sheet)?;
     equal("the text's file", &example.text.as_bytes(), &&text[..])?;
     equal("the text", &example.text, &&program::print(&sheet)?[..])?;
@@ -41,7 +40,7 @@ fn shows(example: &Example) -> Outcome {
 
 /// Every sheet among the files is one of the examples.
 fn are_all(examples: &[Example]) -> Outcome {
-    let files = fs::read_dir(root().join("examples")).map_err(|error| error.to_string())?;
+    let files = fs::read_dir(files::path("examples")).map_err(|error| error.to_string())?;
     let paths = files.filter_map(|file| file.ok()).map(|file| file.path());
     let sheets = paths.filter(|path| path.extension().is_some_and(|end| end == "sheet"));
     equal("the number of sheets", &examples.len(), &sheets.count())
@@ -96,8 +95,8 @@ fn leaves_the_rest() -> Outcome {
 fn runs_in_c() -> Outcome {
     let binary = env::temp_dir().join(format!("burmelox-example-{}", process::id()));
     let mut compiler = Command::new("cc");
-    compiler.args(["-Wall", "-Wextra", "-Werror", "-I"]).arg(root().join("include"));
-    compiler.arg(root().join("tests/c/example.c")).arg(library::ARCHIVE);
+    compiler.args(["-Wall", "-Wextra", "-Werror", "-I"]).arg(files::path("include"));
+    compiler.arg(files::path("tests/c/example.c")).arg(library::ARCHIVE);
     let compiled = compiler.arg("-o").arg(&binary).status();
     let compiled = compiled.map_err(|error| format!("cc: {error}"))?;
     equal("cc ends well", &true, &compiled.success())?;
@@ -105,21 +104,4 @@ fn runs_in_c() -> Outcome {
     fs::remove_file(&binary).map_err(|error| format!("{}: {error}", binary.display()))?;
     let text = String::from_utf8_lossy(&output?.stdout).into_owned();
     equal("the text", &"accepted rows 1\nvalue 16\n", &&text[..])
-}
-
-fn equal<T: PartialEq + std::fmt::Debug>(what: &str, expected: &T, found: &T) -> Outcome {
-    if expected == found {
-        Ok(())
-    } else {
-        Err(format!("{what} differs\nexpected {expected:?}\nfound    {found:?}"))
-    }
-}
-
-fn read(path: &Path) -> Result<Vec<u8>, String> {
-    fs::read(path).map_err(|error| format!("{}: {error}", path.display()))
-}
-
-/// The project's root.
-fn root() -> PathBuf {
-    Path::new(env!("CARGO_MANIFEST_DIR")).join("../..")
 }

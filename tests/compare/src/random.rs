@@ -1,97 +1,85 @@
-//! Random cases of every kind, held against the library, and some of them against the program.
+//! Random cases of every kind, held against the library and the program.
 
-use crate::{answers, Outcome, Report};
-use sheets::random::{Expected, Kind, Rng};
-use sheets::Case;
+use crate::answers;
+use crate::report::{Outcome, Report};
+use refusals::EntryPoint::{self, Check, Evaluation, Program};
+use sheets::random::{Kind, Rng};
+use std::collections::BTreeMap;
 
-/// One case in this many goes through the program too, since starting it takes long.
-const PROGRAM_SHARE: usize = 20;
-
-/// The program is started for no more random cases of a kind than this.
-const MOST_PROGRAM_RUNS: usize = 75;
-
-/// How the cases are drawn, and how many.
+/// How the cases are drawn, how many, and what they are held against.
 pub struct Options {
     pub seed: u64,
     pub cases: usize,
+    pub entry_points: Vec<EntryPoint>,
 }
 
-/// How often each number of the table was met; 0 stands for acceptances and values.
+/// How often each entry point ended with each number; 0 stands for acceptances and values.
 #[derive(Default)]
-struct Counts {
-    checks: [usize; 22],
-    evaluations: [usize; 22],
-    program_runs: usize,
-}
+struct Counts(BTreeMap<(EntryPoint, u32), usize>);
 
 pub fn run(report: &mut Report, options: &Options) {
+    let Options { seed, entry_points, .. } = options;
     let kinds = Kind::all();
-    let mut seeds = Rng::new(options.seed);
+    let mut seeds = Rng::new(*seed);
     let mut counts = Counts::default();
     for (index, &kind) in kinds.iter().enumerate() {
         let mut rng = Rng::new(seeds.bits());
         let cases = (options.cases + index) / kinds.len();
-        let outcome = run_kind(kind, cases, &mut rng, &mut counts);
-        let with_seed = |difference| format!("seed {}, kind {kind}, {difference}", options.seed);
-        report.add(&format!("random {kind}"), outcome.map_err(with_seed));
+        let outcome = (0..cases).try_for_each(|case| {
+            run_case(kind, entry_points, &mut rng, &mut counts).map_err(|difference| {
+                format!("seed {seed}, kind {kind}, case {case}: {difference}")
+            })
+        });
+        report.add(&format!("random {kind}"), outcome);
     }
-    counts.print();
-    report.add("every number is met", counts.are_complete());
+    counts.print(entry_points);
+    report.add("every number is met", counts.are_complete(entry_points));
 }
 
-fn run_kind(kind: Kind, cases: usize, rng: &mut Rng, counts: &mut Counts) -> Outcome {
-    for index in 0..cases {
-        let case = kind.case(rng);
-        let in_case = |difference| format!("case {index}: {difference}");
-        compare(kind, &case, rng, counts).map_err(in_case)?;
-        if index % PROGRAM_SHARE == 0 && index / PROGRAM_SHARE < MOST_PROGRAM_RUNS {
-            counts.program_runs += 1;
-            answers::text(&case).map_err(in_case)?;
+/// Draws a case, compares what it is answered, and sees that this is what it was made for.
+fn run_case(
+    kind: Kind,
+    entry_points: &[EntryPoint],
+    rng: &mut Rng,
+    counts: &mut Counts,
+) -> Outcome {
+    let case = kind.case(rng);
+    for &entry_point in entry_points {
+        let met = answers::compare(entry_point, &case, rng)?;
+        *counts.0.entry((entry_point, met)).or_default() += 1;
+        let differs = |(at, made_for)| at == entry_point && made_for != met;
+        if kind.expected().is_some_and(differs) {
+            return Err(format!("comes to {met}, for which it was not made: {case:?}"));
         }
     }
     Ok(())
 }
 
-/// Compares the library's answers, counts them, and sees that they are what the case was made for.
-fn compare(kind: Kind, case: &Case, rng: &mut Rng, counts: &mut Counts) -> Outcome {
-    let checked = answers::check(case, rng)?;
-    let evaluated = answers::evaluate(case, rng)?;
-    counts.checks[checked as usize] += 1;
-    counts.evaluations[evaluated as usize] += 1;
-    let (met, expected) = match kind.expected() {
-        Expected::Check(expected) => (checked, expected),
-        Expected::Evaluation(expected) => (evaluated, expected),
-        Expected::Any => return Ok(()),
-    };
-    if met == expected {
-        Ok(())
-    } else {
-        Err(format!("made for {expected}, but comes to {met}: {case:?}"))
-    }
-}
-
 impl Counts {
-    fn print(&self) {
-        let line = |counts: &[usize; 22]| {
-            let met = counts.iter().enumerate().filter(|(_, &count)| count > 0);
-            met.map(|(number, count)| format!("{number}: {count}")).collect::<Vec<_>>().join(", ")
+    fn print(&self, entry_points: &[EntryPoint]) {
+        let line = |entry_point| {
+            let met = self.0.iter().filter(|((at, _), _)| *at == entry_point);
+            let met = met.map(|((_, number), count)| format!("{number}: {count}"));
+            met.collect::<Vec<_>>().join(", ")
         };
-        println!("checks by number, 0 for accepted: {}", line(&self.checks));
-        println!("evaluations by number, 0 for a value: {}", line(&self.evaluations));
-        println!("random cases through the program: {}", self.program_runs);
+        println!("the library's checks by number, 0 for accepted: {}", line(Check));
+        println!("the library's evaluations by number, 0 for a value: {}", line(Evaluation));
+        if entry_points.contains(&Program) {
+            println!("the program by number, 0 for accepted: {}", line(Program));
+        } else {
+            println!("the program was left out of the random cases; its numbers are not asked for");
+        }
     }
 
-    /// Every number of the table was met, and so were acceptances and values.
-    fn are_complete(&self) -> Outcome {
-        let unmet = |counts: &[usize; 22], numbers: &mut dyn Iterator<Item = usize>| {
-            numbers.filter(|&number| counts[number] == 0).collect::<Vec<_>>()
-        };
-        let checks = unmet(&self.checks, &mut (0..=19));
-        let evaluations = unmet(&self.evaluations, &mut (0..=7).chain([20, 21]));
-        if checks.is_empty() && evaluations.is_empty() {
+    /// Each entry point met every number that it says, and acceptances or values.
+    fn are_complete(&self, entry_points: &[EntryPoint]) -> Outcome {
+        let numbers = |at| [0].into_iter().chain(refusals::said_by(at)).map(move |n| (at, n));
+        let all = entry_points.iter().flat_map(|&entry_point| numbers(entry_point));
+        let unmet: Vec<_> = all.filter(|met| !self.0.contains_key(met)).collect();
+        if unmet.is_empty() {
             Ok(())
         } else {
-            Err(format!("no check ended with {checks:?}, no evaluation with {evaluations:?}"))
+            Err(format!("not met: {unmet:?}"))
         }
     }
 }

@@ -13,9 +13,9 @@ mod text;
 mod verdict;
 
 pub use check::check;
-pub use evaluate::evaluate;
+pub use evaluate::{evaluate, value};
 pub use integer::Integer;
-pub use text::text;
+pub use text::{printed, text, verdict};
 pub use verdict::{Accepted, Refusal, Verdict};
 
 /// A point: its exponents, one for each variable. Points are ordered by the first variable first.

@@ -1,28 +1,38 @@
-//! What the program prints for its standard input.
+//! What the program makes of its standard input, and what it prints.
 
 use crate::check::check;
 use crate::claim;
+use crate::verdict::Verdict;
 use std::fmt::Write;
 
 /// The program reads no more than this many bytes.
 const MOST_INPUT: usize = 8192;
 
-/// The lines the program prints: the claim as long as its header says, directly after it the
-/// proof, an output as long as the proof.
+/// The lines that the program prints for its input.
 pub fn text(input: &[u8]) -> String {
+    printed(&verdict(input))
+}
+
+/// The verdict on the input: the claim as long as its header says, directly after it the proof, an
+/// output as long as the proof.
+pub fn verdict(input: &[u8]) -> Verdict {
     let (claim, proof) = split(&input[..input.len().min(MOST_INPUT)]);
-    match check(claim, proof, proof.len()) {
-        Err(refusal) => format!("{refusal}\n"),
-        Ok(accepted) => {
-            let rows = accepted.weights.len();
-            let (scale, floor) = (accepted.scale, accepted.floor);
-            let mut text = format!("accepted rows {rows} scale {scale} floor {floor}\n");
-            for (index, [p, q, r]) in accepted.weights.iter().enumerate() {
-                writeln!(text, "row {index} p {p} q {q} r {r}").expect("a string takes any text");
-            }
-            text
-        }
+    check(claim, proof, proof.len())
+}
+
+/// The lines that the program prints for a verdict.
+pub fn printed(verdict: &Verdict) -> String {
+    let accepted = match verdict {
+        Err(refusal) => return format!("{refusal}\n"),
+        Ok(accepted) => accepted,
+    };
+    let rows = accepted.weights.len();
+    let (scale, floor) = (accepted.scale, accepted.floor);
+    let mut text = format!("accepted rows {rows} scale {scale} floor {floor}\n");
+    for (index, [p, q, r]) in accepted.weights.iter().enumerate() {
+        writeln!(text, "row {index} p {p} q {q} r {r}").expect("a string takes any text");
     }
+    text
 }
 
 /// The claim and the proof in the input. The whole input is the claim where 1 or 2 refuses it or

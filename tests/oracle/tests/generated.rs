@@ -1,7 +1,8 @@
 //! The oracle against sheets made backwards, which say themselves what they must come to.
 
-use oracle::{check, evaluate, Integer, Refusal};
-use sheets::random::{Expected, Kind, Plan, Rng, Shape};
+use oracle::{check, evaluate, verdict, Integer};
+use refusals::EntryPoint;
+use sheets::random::{Kind, Plan, Rng, Shape};
 use sheets::MOST;
 
 #[test]
@@ -19,18 +20,17 @@ fn shifted_weights_are_the_planned_ones() {
 
 #[test]
 fn every_kind_comes_to_what_it_was_made_for() {
-    let number_of = |refusal: Option<Refusal>| refusal.map_or(0, |refusal| refusal.number);
     for kind in Kind::all() {
         let mut rng = Rng::new(2);
         for _ in 0..200 {
             let case = kind.case(&mut rng);
-            let checked = number_of(check(&case.claim, &case.proof, case.room).err());
-            let evaluated = number_of(evaluate(&case.claim, &case.offsets).err());
-            match kind.expected() {
-                Expected::Check(number) => assert_eq!(checked, number, "{kind}"),
-                Expected::Evaluation(number) => assert_eq!(evaluated, number, "{kind}"),
-                Expected::Any => {}
-            }
+            let Some((entry_point, expected)) = kind.expected() else { continue };
+            let refusal = match entry_point {
+                EntryPoint::Check => check(&case.claim, &case.proof, case.room).err(),
+                EntryPoint::Evaluation => evaluate(&case.claim, &case.offsets).err(),
+                EntryPoint::Program => verdict(&case.input()).err(),
+            };
+            assert_eq!(refusal.map_or(0, |refusal| refusal.number), expected, "{kind}");
         }
     }
 }

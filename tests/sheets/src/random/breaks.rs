@@ -11,9 +11,9 @@ pub type Break = fn(&mut Rng, &mut Case);
 
 /// The faults by number.
 const BREAKS: &[(u32, Break)] = &[
-    (1, |rng, case| case.claim.truncate(rng.below(8))),
+    (1, cut_claim),
     (2, |rng, case| spoil_claim_header(rng, &mut case.claim)),
-    (3, |rng, case| change_length(rng, &mut case.claim)),
+    (3, spoil_claim_length),
     (4, |rng, case| put_word(&mut case.claim, 4, beyond(rng))),
     (5, |rng, case| spoil_coefficient(rng, &mut case.claim)),
     (6, |rng, case| spoil_exponent(rng, ClaimPlaces::of(&case.claim).points, &mut case.claim)),
@@ -90,6 +90,23 @@ fn past(rng: &mut Rng, range: RangeInclusive<u16>) -> u16 {
 
 fn past_byte(rng: &mut Rng, first: u8) -> u8 {
     past(rng, first.into()..=255) as u8
+}
+
+fn cut_claim(rng: &mut Rng, case: &mut Case) {
+    case.claim.truncate(rng.below(8));
+    end_input(rng, case);
+}
+
+fn spoil_claim_length(rng: &mut Rng, case: &mut Case) {
+    change_length(rng, &mut case.claim);
+    end_input(rng, case);
+}
+
+/// Takes the proof away once in two: else the program would read the claim on into the proof.
+fn end_input(rng: &mut Rng, case: &mut Case) {
+    if rng.once_in(2) {
+        case.proof.clear();
+    }
 }
 
 fn spoil_claim_header(rng: &mut Rng, claim: &mut [u8]) {

@@ -5,7 +5,7 @@ use super::offsets::{largest_terms, offsets, over_largest_term};
 use super::rows::JUDGED;
 use super::{Plan, Rng, Shape};
 use crate::{Case, Claim, Proof};
-use refusals::EntryPoint;
+use refusals::EntryPoint::{self, Check, Evaluation};
 use std::fmt;
 
 /// A kind of random cases.
@@ -25,15 +25,6 @@ pub enum Kind {
     Noise,
 }
 
-/// What a case must come to by the way it was made: a number of the table, 0 where it is accepted
-/// or a value is given.
-#[derive(Clone, Copy, Debug, PartialEq, Eq)]
-pub enum Expected {
-    Check(u32),
-    Evaluation(u32),
-    Any,
-}
-
 impl Kind {
     /// Every kind.
     pub fn all() -> Vec<Kind> {
@@ -42,15 +33,17 @@ impl Kind {
         [Accepted, Extreme, Largest, Damaged, Noise].into_iter().chain(refused).collect()
     }
 
-    pub fn expected(self) -> Expected {
+    /// What a case must come to by the way it was made, where that is known: the number that the
+    /// entry point ends with, 0 where it accepts or gives a value.
+    pub fn expected(self) -> Option<(EntryPoint, u32)> {
         match self {
-            Kind::Accepted | Kind::Extreme => Expected::Check(0),
-            Kind::Largest => Expected::Evaluation(0),
-            Kind::Refused(number) if refusals::rule(number).is_said_by(EntryPoint::Check) => {
-                Expected::Check(number)
+            Kind::Accepted | Kind::Extreme => Some((Check, 0)),
+            Kind::Largest => Some((Evaluation, 0)),
+            Kind::Refused(number) if refusals::rule(number).is_said_by(Check) => {
+                Some((Check, number))
             }
-            Kind::Refused(number) => Expected::Evaluation(number),
-            Kind::Damaged | Kind::Noise => Expected::Any,
+            Kind::Refused(number) => Some((Evaluation, number)),
+            Kind::Damaged | Kind::Noise => None,
         }
     }
 

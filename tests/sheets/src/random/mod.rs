@@ -12,7 +12,8 @@ mod rng;
 mod rows;
 mod shape;
 
-pub use kinds::{Expected, Kind};
+pub use kinds::Kind;
+pub use offsets::offsets;
 pub use plan::Plan;
 pub use rng::Rng;
 pub use shape::Shape;
