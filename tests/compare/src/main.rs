@@ -2,12 +2,13 @@
 //!
 //!     cargo run --bin compare [-- --seed N --cases N --library]
 //!
-//! `named` has the tests of single sheets, `random` each kind of random cases, `answers` the
-//! comparison itself. The program is the one that `rt check burmelox_check` writes, or that
-//! BURMELOX_PROGRAM names. `--library` leaves it out of the random cases.
+//! `named` has the tests of single sheets, `floors` what a floor means, `random` each kind of random
+//! cases, `answers` the comparison itself. The program is the one that `rt check burmelox_check`
+//! writes, or that BURMELOX_PROGRAM names. `--library` leaves it out of the random cases.
 
 mod answers;
 mod files;
+mod floors;
 mod named;
 mod program;
 mod random;
@@ -28,6 +29,7 @@ fn main() -> ExitCode {
     };
     let mut report = Report::default();
     named::run(&mut report);
+    floors::run(&mut report);
     random::run(&mut report, &options);
     println!("{} passed, {} failed", report.passed, report.failed);
     if report.failed == 0 {

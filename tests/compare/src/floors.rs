@@ -1,0 +1,97 @@
+//! What a floor means: the polynomial is nowhere under it. Two posts show what trials cannot tell.
+
+use crate::answers;
+use crate::report::{equal, Outcome, Report};
+use oracle::Integer;
+use sheets::posts::{post_4, post_9};
+use sheets::random::{offsets, Kind, Rng};
+use sheets::{Case, Example};
+
+/// How many accepted sheets of each kind are looked at, and at how many places each.
+const SHEETS: usize = 300;
+const PLACES: usize = 6;
+
+/// The posts' readings are within plus and minus this.
+const MOST_READING: i32 = 1023;
+
+/// Where Post 9 is under its floor, which no reading finds.
+const LOW_PLACE: [i32; 2] = [2000, 1];
+
+pub fn run(report: &mut Report) {
+    report.add("values at least the floor", are_at_least_the_floor());
+    for (post, low_value) in [(post_4(), 0), (post_9(), -1)] {
+        let name = post.name;
+        report.add(&format!("{name} within ±{MOST_READING}"), has_no_low_reading(&post));
+        report.add(&format!("{name} at {LOW_PLACE:?}"), has_low_value(&post, low_value));
+    }
+}
+
+/// Accepted claims, evaluated exactly at numbers of any size; some of the values are the floor.
+fn are_at_least_the_floor() -> Outcome {
+    let mut rng = Rng::new(1);
+    let mut are_floors = Vec::new();
+    for kind in [Kind::Accepted, Kind::Extreme] {
+        for _ in 0..SHEETS {
+            let case = kind.case(&mut rng);
+            let floor = accepted_floor(&case, &mut rng)?;
+            for _ in 0..PLACES {
+                let numbers = numbers(&mut rng, case.offsets.len());
+                are_floors.push(is_floor(&floor, &case.claim, &numbers)?);
+            }
+        }
+    }
+    let floors = are_floors.iter().filter(|&&is_floor| is_floor).count();
+    println!("values at least the floor: {}, equal to it: {floors}", are_floors.len());
+    equal("some values equal the floor", &true, &(floors > 0))
+}
+
+/// The floor of a claim that the oracle and the library accept.
+fn accepted_floor(case: &Case, rng: &mut Rng) -> Result<Integer, String> {
+    answers::check(case, rng)?;
+    let verdict = oracle::check(&case.claim, &case.proof, case.room);
+    verdict.map(|accepted| accepted.floor.into()).map_err(|refusal| refusal.to_string())
+}
+
+/// The polynomial's value is the floor rather than more. Less is a mistake.
+fn is_floor(floor: &Integer, claim: &[u8], numbers: &[Integer]) -> Result<bool, String> {
+    let value = oracle::value(claim, numbers).map_err(|refusal| refusal.to_string())?;
+    if value < *floor {
+        return Err(format!("{value} is under the floor {floor} at {numbers:?} of {claim:?}"));
+    }
+    Ok(value == *floor)
+}
+
+/// Offsets such as evaluations are given, or, once in four, numbers of up to 64 bits.
+fn numbers(rng: &mut Rng, count: usize) -> Vec<Integer> {
+    if rng.once_in(4) {
+        return (0..count).map(|_| Integer::from(rng.bits() as i64 >> rng.below(64))).collect();
+    }
+    offsets(rng, count).into_iter().map(Integer::from).collect()
+}
+
+/// No reading gives a value under the floor.
+fn has_no_low_reading(post: &Example) -> Outcome {
+    let (claim, floor) = (post.claim.bytes(), i64::from(post.claim.floor));
+    for x in -MOST_READING..=MOST_READING {
+        for y in -MOST_READING..=MOST_READING {
+            let value = value(&claim, &[x, y])?;
+            if value < floor {
+                return Err(format!("{value} is under the floor {floor} at ({x}, {y})"));
+            }
+        }
+    }
+    Ok(())
+}
+
+fn has_low_value(post: &Example, expected: i64) -> Outcome {
+    equal("the value", &expected, &value(&post.claim.bytes(), &LOW_PLACE)?)
+}
+
+/// The value that the library gives.
+fn value(claim: &[u8], offsets: &[i32]) -> Result<i64, String> {
+    let mut value = 0;
+    match library::evaluate(claim, offsets, &mut value) {
+        0 => Ok(value),
+        answer => Err(format!("the answer is {answer} at {offsets:?}")),
+    }
+}
