@@ -1,0 +1,49 @@
+//! The documents' tables of refusals, held against the one that the tests share.
+
+use crate::files;
+use crate::report::{equal, Outcome, Report};
+use refusals::RULES;
+
+pub fn run(report: &mut Report) {
+    report.add("refusals in the format's document", are_in_format());
+    report.add("refusals in the C header", are_in_header());
+}
+
+/// The table has a row for every number, with the sheet at fault.
+fn are_in_format() -> Outcome {
+    let text = read("docs/FORMAT.md")?;
+    let section = text.split("\n## ").find(|section| section.starts_with("Refusals\n"));
+    let lines = section.ok_or("docs/FORMAT.md has no heading \"## Refusals\"")?.lines();
+    let mut listed: Vec<(u32, String)> = lines.filter_map(table_row).collect();
+    let sheet = |rule: &refusals::Rule| format!("{:?}", rule.sheet).to_lowercase();
+    let mut expected: Vec<_> = RULES.iter().map(|rule| (rule.number, sheet(rule))).collect();
+    listed.sort();
+    expected.sort();
+    equal("the table", &expected, &listed)
+}
+
+/// The number and the sheet in a line `| NUMBER | SHEET |` of a table, whatever follows.
+fn table_row(line: &str) -> Option<(u32, String)> {
+    let mut cells = line.strip_prefix('|')?.split('|').map(str::trim);
+    Some((cells.next()?.parse().ok()?, cells.next()?.to_string()))
+}
+
+/// The longest enum has an entry for every number, in the order of numbers.
+fn are_in_header() -> Outcome {
+    let text = read("include/burmelox.h")?;
+    let entries = |part: &str| part.lines().filter_map(enum_entry).collect::<Vec<u32>>();
+    let listed = text.split("enum").map(entries).max_by_key(Vec::len).unwrap_or_default();
+    let mut expected: Vec<u32> = RULES.iter().map(|rule| rule.number).collect();
+    expected.sort();
+    equal("the enum", &expected, &listed)
+}
+
+/// The number in a line `BURMELOX_NAME = NUMBER` of an enum, whatever follows.
+fn enum_entry(line: &str) -> Option<u32> {
+    let (_, number) = line.trim().strip_prefix("BURMELOX_")?.split_once(" = ")?;
+    number.split(|c: char| !c.is_ascii_digit()).next()?.parse().ok()
+}
+
+fn read(name: &str) -> Result<String, String> {
+    String::from_utf8(files::read(name)?).map_err(|error| format!("{name}: {error}"))
+}
