@@ -16,9 +16,8 @@ mod program;
 mod random;
 mod report;
 
-use refusals::EntryPoint;
+use refusals::EntryPoint::{Check, Evaluation, Program};
 use report::Report;
-
 use std::process::ExitCode;
 
 fn main() -> ExitCode {
@@ -44,7 +43,6 @@ fn main() -> ExitCode {
 
 /// The options in the arguments: the seed is fixed unless one is given.
 fn options(mut arguments: impl Iterator<Item = String>) -> Result<random::Options, String> {
-    use EntryPoint::{Check, Evaluation, Program};
     let entry_points = vec![Check, Evaluation, Program];
     let mut options = random::Options { seed: 1, cases: 20_000, entry_points };
     while let Some(name) = arguments.next() {

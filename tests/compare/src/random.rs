@@ -47,9 +47,9 @@ fn run_case(
     for &entry_point in entry_points {
         let met = answers::compare(entry_point, &case, rng)?;
         *counts.0.entry((entry_point, met)).or_default() += 1;
-        let differs = |(at, made_for)| at == entry_point && made_for != met;
-        if kind.expected().is_some_and(differs) {
-            return Err(format!("comes to {met}, for which it was not made: {case:?}"));
+        let is_other = |(at, made_for)| at == entry_point && made_for != met;
+        if kind.expected().is_some_and(is_other) {
+            return Err(format!("comes to {met} and was not made for that: {case:?}"));
         }
     }
     Ok(())
@@ -71,7 +71,7 @@ impl Counts {
         }
     }
 
-    /// Each entry point met every number that it says, and acceptances or values.
+    /// Each entry point met every number that it says, and accepted or gave values.
     fn are_complete(&self, entry_points: &[EntryPoint]) -> Outcome {
         let numbers = |at| [0].into_iter().chain(refusals::said_by(at)).map(move |n| (at, n));
         let all = entry_points.iter().flat_map(|&entry_point| numbers(entry_point));
