@@ -23,7 +23,7 @@ extern "C" {
 }
 
 /// Checks a proof of a claim. Answers the number of rows where it is accepted, and the first bytes
-/// of the output are then the exact proof; else the refusal as sheet × 2^32 + number × 2^16 + index.
+/// of the output are then the exact proof; else the refusal: sheet × 2^32 + number × 2^16 + index.
 pub fn check(claim: &[u8], proof: &[u8], output: &mut [u8]) -> u64 {
     // SAFETY: each pointer comes with the length of its slice.
     unsafe {
@@ -38,8 +38,8 @@ pub fn check(claim: &[u8], proof: &[u8], output: &mut [u8]) -> u64 {
     }
 }
 
-/// Evaluates a claim's polynomial at offsets. Answers 0 and stores the value, else the refusal, as
-/// the check does.
+/// Evaluates a claim's polynomial at offsets. Answers 0 and stores the value, else a refusal as the
+/// check does.
 pub fn evaluate(claim: &[u8], offsets: &[i32], value: &mut i64) -> u64 {
     // SAFETY: each pointer comes with the length of its slice, and `value` is one number.
     unsafe {
