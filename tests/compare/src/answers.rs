@@ -35,11 +35,20 @@ pub fn check(case: &Case, rng: &mut Rng) -> Result<Number, String> {
     let mut expected = before;
     if let Ok(accepted) = &verdict {
         expected[GUARD..][..accepted.bytes.len()].copy_from_slice(&accepted.bytes);
+        let again = check_again(&case.claim, &accepted.bytes);
+        same("the exact proof checked again", &Hex(&accepted.bytes), &Hex(&again), case)?;
     }
     let verdict = verdict.map(|accepted| accepted.weights.len() as u64);
     same("check", &verdict.unwrap_or_else(Refusal::code), &answer, case)?;
     same("output", &Hex(&expected), &Hex(&written), case)?;
     Ok(number(verdict))
+}
+
+/// What the library writes for an exact proof: the same bytes, since its weights add up.
+fn check_again(claim: &[u8], exact: &[u8]) -> Vec<u8> {
+    let mut output = vec![0; exact.len()];
+    library::check(claim, exact, &mut output);
+    output
 }
 
 /// Compares an evaluation by the library: its answer, and the value, which is random before.

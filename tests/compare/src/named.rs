@@ -8,6 +8,24 @@ use sheets::{table, Case, Example};
 use std::process::Command;
 use std::{env, fs, process};
 
+/// The programs in `tests/c` and what they print.
+const C_PROGRAMS: [(&str, &str); 2] = [
+    ("example", "accepted rows 1\nvalue 16\n"),
+    (
+        "edges",
+        "no claim: refused 1 at 0, sheet 1\n\
+         no proof: refused 8 at 0, sheet 2\n\
+         no output: refused 11 at 0, sheet 3\n\
+         no row: 0\n\
+         no claim to evaluate: refused 1 at 0, sheet 1\n\
+         no offsets: refused 20 at 0, sheet 4\n\
+         value 7\n\
+         greatest lengths 776 and 7176\n\
+         last row: refused 19 at 255, sheet 2\n\
+         most rows: 256\n",
+    ),
+];
+
 pub fn run(report: &mut Report) {
     let examples = sheets::examples();
     for example in &examples {
@@ -23,7 +41,9 @@ pub fn run(report: &mut Report) {
     }
     report.add("input in pieces", reads_pieces());
     report.add("input past 8,192 bytes", leaves_the_rest());
-    report.add("example in C", runs_in_c());
+    for (name, text) in C_PROGRAMS {
+        report.add(&format!("{name} in C"), runs_in_c(name, text));
+    }
 }
 
 /// The files of an example are what the builder makes, the program prints the text beside the
@@ -91,17 +111,18 @@ fn leaves_the_rest() -> Outcome {
     Ok(())
 }
 
-/// The example in C compiles with the header, links the library and prints its two lines.
-fn runs_in_c() -> Outcome {
-    let binary = env::temp_dir().join(format!("burmelox-example-{}", process::id()));
+/// A program in C compiles with the header, links the library and prints the text.
+fn runs_in_c(name: &str, text: &str) -> Outcome {
+    let binary = env::temp_dir().join(format!("burmelox-{name}-{}", process::id()));
     let mut compiler = Command::new("cc");
-    compiler.args(["-Wall", "-Wextra", "-Werror", "-I"]).arg(files::path("include"));
-    compiler.arg(files::path("tests/c/example.c")).arg(library::ARCHIVE);
+    compiler.args(["-std=c99", "-pedantic", "-Wall", "-Wextra", "-Werror"]);
+    compiler.arg("-I").arg(files::path("include"));
+    compiler.arg(files::path(&format!("tests/c/{name}.c"))).arg(library::ARCHIVE);
     let compiled = compiler.arg("-o").arg(&binary).status();
     let compiled = compiled.map_err(|error| format!("cc: {error}"))?;
     equal("cc ends well", &true, &compiled.success())?;
     let output = Command::new(&binary).output().map_err(|error| format!("running it: {error}"));
     fs::remove_file(&binary).map_err(|error| format!("{}: {error}", binary.display()))?;
-    let text = String::from_utf8_lossy(&output?.stdout).into_owned();
-    equal("the text", &"accepted rows 1\nvalue 16\n", &&text[..])
+    let printed = String::from_utf8_lossy(&output?.stdout).into_owned();
+    equal("the text", &text, &&printed[..])
 }
