@@ -1,8 +1,9 @@
 -- Answers: verdicts in document 01's numbers, and checks in the order of their numbers.
 use mathlib.Core.Path.{_≡_}
-use mathlib.Core.Bool.{Bool, true, false, cond}
+use mathlib.Core.Bool.{Bool, true, cond}
 use mathlib.Core.List.{List, [], _∷_, _++_}
 use Prim.Native.Nat.{ℕ, _<_}
+use lib.Dec.{eqb}
 use lib.ListN.{getD, replicate}
 use Rattle.answers.specs.declared.answers.Sheet.{Sheet}
 use Rattle.answers.specs.declared.answers.Sheet.the-variants.{Claim, Proof, Output, Offsets, Range, Limits, Page, Profile, Buffer, Table, Site}
@@ -86,18 +87,7 @@ refuseAt Nothing number later = later
 
 -- no sheet is at fault
 abbrev pub faultless : Blamed → Bool
-faultless none = true
-faultless claim = false
-faultless proof = false
-faultless output = false
-faultless offsets = false
-faultless range = false
-faultless limits = false
-faultless page = false
-faultless profile = false
-faultless buffer = false
-faultless table = false
-faultless site = false
+faultless b = eqb (sheetNumber b) 0
 
 unfoldable pub blameless : Answer → Bool
 blameless answer = faultless (answer .blamed)

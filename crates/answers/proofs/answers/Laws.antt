@@ -4,9 +4,8 @@ use mathlib.Core.Path.{_≡_, refl, sym, _∙_}
 use mathlib.Core.Bool.{Bool, true, false, cond, false≢true}
 use Prim.Native.Nat.{ℕ, _<_, _≤_}
 use native.Mathlib.Omega.{arith}
-use lib.Dec.{eqb}
 use borrow.Author.Tests.{eq-eqb, eqb-true}
-use Rattle.answers.specs.Answers.{Blamed, none, claim, proof, output, offsets, range, limits, page, profile, buffer, table, site, sheetNumber, Answer, refusal, says, blames, accepted, refused, refuseIf, refuseAt, faultless, blameless, andThen, Passes, Short}
+use Rattle.answers.specs.Answers.{sheetNumber, Answer, refusal, says, blames, accepted, refused, refuseIf, refuseAt, faultless, blameless, andThen, Passes, Short}
 use Rattle.answers.specs.Searches.{first}
 use Rattle.answers.specs.declared.answers.Sheet.{Sheet}
 use Rattle.answers.specs.declared.answers.Sheet.the-variants.{Claim, Proof, Output, Offsets, Range, Limits, Page, Profile, Buffer, Table, Site}
@@ -175,42 +174,13 @@ short-then a later h k = go (blameless a)
     go true = k
     go false = h
 
--- ---- the sheets' numbers
-
-pub sheet-few : (b : Blamed) → sheetNumber b ≤ 11
-sheet-few none = omega arith
-sheet-few claim = omega arith
-sheet-few proof = omega arith
-sheet-few output = omega arith
-sheet-few offsets = omega arith
-sheet-few range = omega arith
-sheet-few limits = omega arith
-sheet-few page = omega arith
-sheet-few profile = omega arith
-sheet-few buffer = omega arith
-sheet-few table = omega arith
-sheet-few site = omega arith
-
--- 0 says that no sheet is at fault
-sheet-none : (b : Blamed) → faultless b ≡ eqb (sheetNumber b) 0
-sheet-none none = refl
-sheet-none claim = refl
-sheet-none proof = refl
-sheet-none output = refl
-sheet-none offsets = refl
-sheet-none range = refl
-sheet-none limits = refl
-sheet-none page = refl
-sheet-none profile = refl
-sheet-none buffer = refl
-sheet-none table = refl
-sheet-none site = refl
+-- ---- the sheets' numbers: 0 says that none is at fault
 
 module _ (a : Answer) where
   pub passed-sheet : Passes a → sheetNumber (a .blamed) ≡ 0
   unfolding blameless
-  passed-sheet h = eqb-true _ _ (sym (sheet-none (a .blamed)) ∙ h)
+  passed-sheet h = eqb-true _ _ h
 
   pub sheet-passed : sheetNumber (a .blamed) ≡ 0 → Passes a
   unfolding blameless
-  sheet-passed h = sheet-none (a .blamed) ∙ eq-eqb _ _ h
+  sheet-passed h = eq-eqb _ _ h

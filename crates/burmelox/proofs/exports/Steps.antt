@@ -12,7 +12,7 @@ use Rattle.answers.specs.Answers.{Answer, sheetNumber, accepted, says, blameles
 use Rattle.answers.specs.declared.answers.Sheet.{Sheet}
 use Rattle.answers.specs.declared.answers.Verdict.{Verdict}
 use Rattle.answers.specs.declared.answers.Verdict.the-variants as Verdicts
-use Rattle.answers.proofs.answers.Laws.{accepted-passes, failed, accepted-numbers, sheet-few, passed-sheet, sheet-passed}
+use Rattle.answers.proofs.answers.Laws.{accepted-passes, failed, accepted-numbers, passed-sheet, sheet-passed}
 use Rattle.sheets.specs.Layout.{rowCount}
 use Rattle.judging.specs.Check.{checkAnswer, outputOf}
 use Rattle.judging.specs.Promises.{CheckPromises}
@@ -27,12 +27,12 @@ use Rattle.burmelox.specs.Exports.{sheetUnit, numberUnit, codeOf, sheetI
 -- ---- code: x, m and i are the verdict's numbers
 
 module _ (v : Verdict) (x m : ℕ) (ex : x ≡ sheetNumber (says v .blamed)) (em : m ≡ says v .number) where
-  pub sheet-fits : Short (says v) → x * sheetUnit + m * numberUnit < 2 ^ 64
-  sheet-fits h = rw (ex, em) (omega (arith, sheet-few (says v .blamed), h .number-short))
+  pub sheet-fits : x < 2 ^ 32 → Short (says v) → x * sheetUnit + m * numberUnit < 2 ^ 64
+  sheet-fits l h = rw em (omega (arith, l, h .number-short))
 
   module _ (i : ℕ) (ei : i ≡ says v .value) where
-    pub code-fits : Short (says v) → x * sheetUnit + m * numberUnit + i < 2 ^ 64
-    code-fits h = rw (ex, em, ei) (omega (arith, sheet-few (says v .blamed), h .number-short, h .value-short))
+    pub code-fits : x < 2 ^ 32 → Short (says v) → x * sheetUnit + m * numberUnit + i < 2 ^ 64
+    code-fits l h = rw (em, ei) (omega (arith, l, h .number-short, h .value-short))
 
     pub code-is : x * sheetUnit + m * numberUnit + i ≡ codeOf (says v)
     unfolding codeOf
