@@ -17,7 +17,8 @@ static const uint8_t proof[BURMELOX_PROOF_LENGTH(1, 1)] = {
 
 /* Prints a refusal, and answers the program's status. */
 static int refused(uint64_t answer) {
-    printf("refused %u at %u, sheet %u\n", BURMELOX_NUMBER(answer), BURMELOX_INDEX(answer), BURMELOX_SHEET(answer));
+    printf("refused %u at %u, sheet %u\n", BURMELOX_NUMBER(answer), BURMELOX_INDEX(answer),
+           BURMELOX_SHEET(answer));
     return 1;
 }
 

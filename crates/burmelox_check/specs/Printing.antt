@@ -37,8 +37,8 @@ acceptedLines c s =
     ended (acceptedLine (rowCount s) (scaleOf s) (floorOf c))
     ++ linesOf (λ i. tripleFor (weightsFor (targetsOf c s) s i)) (rowCount s)
 
--- an acceptance has these lines, and "A refusal prints `refused 19 at 0`: number, index"; where the text begins with the
--- word of an acceptance, the claim's floor is true
+-- an acceptance has these lines, and "A refusal prints `refused 19 at 0`: number, index"; where the text begins with
+-- the word of an acceptance, the claim's floor is true
 pub record IsPrinted (c s text : List ℕ) : Type 0 where
   pub acceptance : Passes (checkAnswer c s (length s)) → text ≡ acceptedLines c s
   pub refusal : blameless (checkAnswer c s (length s)) ≡ false

@@ -52,7 +52,8 @@ fn summed(claim: &[u8], n: usize, t: usize, offsets: &[i32]) -> Evaluation
 // The exact value of the polynomial, or the first refusal of 1 to 7, 20 and 21.
 pub fn evaluate(claim: &[u8], offsets: &[i32]) -> Evaluation
     ensures answer { λ r. ⌜ tells r ≡ evaluationOf (now (claim .entry)) (now (offsets .entry)) ⌝ }
-    ensures promises { λ r. ⌜ EvaluationPromises (now (claim .entry)) (now (offsets .entry)) (λ z. tells r ≡ value z) ⌝ }
+    ensures promises { λ r. ⌜ EvaluationPromises (now (claim .entry)) (now (offsets .entry))
+        (λ z. tells r ≡ value z) ⌝ }
 {
     if let Verdict::Refused(sheet) = check_claim(claim) {
         return Evaluation::Refused(sheet);

@@ -93,8 +93,8 @@ tabled =
     (Lone (pos (2 ^ 31)) ∷ []) (refused 17 0)
     ∷ refuses (oneTerm 1 (pos 1)) (oneRow 1 1 (pos 0) (pos 0) (pos 0)) (Lone (negsuc 0) ∷ []) (refused 18 0)
     -- 16: "an absent constant has index t"
-    ∷ refuses (claimOf 1 (negsuc 0) ((2 ∷ []) ∷ []) (pos 1 ∷ [])) (oneRow 2 2 (pos 1) (pos 0) (pos 0)) (Lone (pos 1) ∷ [])
-    (record { number = 16; blamed = proof; value = 1 })
+    ∷ refuses (claimOf 1 (negsuc 0) ((2 ∷ []) ∷ []) (pos 1 ∷ [])) (oneRow 2 2 (pos 1) (pos 0) (pos 0))
+    (Lone (pos 1) ∷ []) (record { number = 16; blamed = proof; value = 1 })
     ∷ []
 
 -- ---- the definitions give every weight, answer and byte

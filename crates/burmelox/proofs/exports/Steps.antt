@@ -67,7 +67,8 @@ module _ (a : Answer) (r : ℕ) (e : r ≡ codeOf a) where
 
 -- ---- burmelox_check: v is the verdict, r its code, o the output afterwards
 
-module _ (c s out : List ℕ) (v : Verdict) (e : says v ≡ checkAnswer c s (length out)) (bc : Bytes c) (bs : Bytes s) where
+module _ (c s out : List ℕ) (v : Verdict) (e : says v ≡ checkAnswer c s (length out)) (bc : Bytes c)
+    (bs : Bytes s) where
   pub checked-short : Short (says v)
   checked-short = rw e (check-short c s (length out) bc bs)
 
