@@ -1,4 +1,5 @@
-//! The documents' tables of refusals, held against the one that the tests share.
+//! What the documents say of the project: their tables of refusals, held against the one that the
+//! tests share, and the files and names that they send a reader to.
 
 use crate::files;
 use crate::report::{equal, Outcome, Report};
@@ -7,6 +8,24 @@ use refusals::RULES;
 pub fn run(report: &mut Report) {
     report.add("refusals in the format's document", are_in_format());
     report.add("refusals in the C header", are_in_header());
+    for document in ["README.md", "docs/FORMAT.md"] {
+        report.add(&format!("names in {document}"), are_where_told(document));
+    }
+}
+
+/// Where the document says "`name` in `file`", the file of a crate has that name.
+fn are_where_told(document: &str) -> Outcome {
+    let text = read(document)?;
+    let parts: Vec<&str> = text.split('`').collect();
+    for told in parts.windows(3) {
+        if let [name, " in ", file] = told {
+            let words = |c: char| !c.is_alphanumeric() && c != '_';
+            if file.starts_with("crates/") && !read(file)?.split(words).any(|word| word == *name) {
+                return Err(format!("{file} has no {name}"));
+            }
+        }
+    }
+    Ok(())
 }
 
 /// The table has a row for every number, with the sheet at fault.
