@@ -87,7 +87,8 @@ enum burmelox_refusal {
 /*
  * Checks whether the proof shows the claim's floor. Where it does, the answer is the number of
  * rows, the output's first proof_len bytes are the exact proof and later ones keep their values;
- * the polynomial is then at least its floor at all integers. Any other answer is a refusal.
+ * the polynomial is then at least its floor at all integers. Any other answer is a refusal. The
+ * output may not be the proof's own buffer.
  */
 uint64_t burmelox_check(const uint8_t *claim, size_t claim_len,
                         const uint8_t *proof, size_t proof_len,

@@ -28,6 +28,10 @@ fn main() -> ExitCode {
             return ExitCode::from(2);
         }
     };
+    if let Err(mistake) = program::is_built() {
+        eprintln!("{mistake}");
+        return ExitCode::from(2);
+    }
     let mut report = Report::default();
     named::run(&mut report);
     documents::run(&mut report);

@@ -7,6 +7,19 @@ use std::process::{Child, Command, Stdio};
 use std::thread::sleep;
 use std::time::Duration;
 
+/// The program is there, or what to do about it.
+pub fn is_built() -> Result<(), String> {
+    let path = path();
+    if path.exists() {
+        return Ok(());
+    }
+    Err(format!(
+        "{} is missing: run `rt check burmelox_check` at the project's root, or name the program \
+         in BURMELOX_PROGRAM",
+        path.display()
+    ))
+}
+
 /// What the program prints for the input, which is handed over at once.
 pub fn print(input: &[u8]) -> Result<String, String> {
     print_pieces(&[input])
@@ -16,8 +29,7 @@ pub fn print(input: &[u8]) -> Result<String, String> {
 pub fn print_pieces(pieces: &[&[u8]]) -> Result<String, String> {
     let path = path();
     let child = Command::new(&path).stdin(Stdio::piped()).stdout(Stdio::piped()).spawn();
-    let mut child = child
-        .map_err(|error| format!("{}: {error}; run `rt check burmelox_check`", path.display()))?;
+    let mut child = child.map_err(|error| format!("{}: {error}", path.display()))?;
     feed(&mut child, pieces)?;
     let mut text = String::new();
     let output = child.stdout.as_mut().expect("standard output is piped");

@@ -7,8 +7,8 @@ pub fn examples() -> Vec<Example> {
     vec![post_4(), post_9()]
 }
 
-/// Post 4: x² − 4000xy + 4,000,000y² = (x − 2000y)², with the floor 0. The solver's weights were
-/// rounded to five digits, and the shift makes the first one 4,000,000 again.
+/// Post 4: x² − 4000xy + 4,000,000y² = (x − 2000y)², with the floor 0. The solver gave the weights
+/// with five digits, and the shift makes the first one 4,000,000 again.
 pub fn post_4() -> Example {
     Example {
         name: "post-4",
