@@ -3,16 +3,14 @@ use mathlib.Core.Path.{_≡_}
 use mathlib.Core.Bool.{false}
 use mathlib.Core.List.{List, _++_}
 use Prim.Native.Nat.{ℕ}
-use lib.IntN.{ℤ}
 use lib.ListN.{length, take, replicate}
-use lib.Signed.{_≤ℤ_}
 use Rattle.answers.specs.Answers.{blameless, Passes}
-use Rattle.squares.specs.Sums.{valueAt}
 use Rattle.sheets.specs.Layout.{rowCount}
-use Rattle.sheets.specs.ClaimSheet.{floorOf, termsOf}
+use Rattle.sheets.specs.ClaimSheet.{floorOf}
 use Rattle.rows.specs.ProofSheet.{scaleOf, tripleFor}
 use Rattle.weighing.specs.Exact.{weightsFor}
 use Rattle.judging.specs.Check.{targetsOf, checkAnswer, outputOf}
+use Rattle.judging.specs.Promises.{CheckPromises}
 use Rattle.text.specs.Text.{ascii}
 use Rattle.text.specs.Lines.{acceptedLine}
 use Rattle.report.specs.Reports.{ended, linesOf, refusedText, reportText}
@@ -37,13 +35,17 @@ acceptedLines c s =
     ended (acceptedLine (rowCount s) (scaleOf s) (floorOf c))
     ++ linesOf (λ i. tripleFor (weightsFor (targetsOf c s) s i)) (rowCount s)
 
--- an acceptance has these lines, and "A refusal prints `refused 19 at 0`: number, index"; where the text begins with
--- the word of an acceptance, the claim's floor is true
+-- what tells an acceptance: the text's first word
+abbrev pub Accepts : List ℕ → Type 0
+Accepts text = take 8 text ≡ ascii "accepted"
+
+-- an acceptance has these lines, and "A refusal prints `refused 19 at 0`: number, index"; what the check promises holds
+-- of a text by its first word
 pub record IsPrinted (c s text : List ℕ) : Type 0 where
   pub acceptance : Passes (checkAnswer c s (length s)) → text ≡ acceptedLines c s
   pub refusal : blameless (checkAnswer c s (length s)) ≡ false
       → text ≡ refusedText (checkAnswer c s (length s) .number) (checkAnswer c s (length s) .value)
-  pub floors : take 8 text ≡ ascii "accepted" → (x : List ℤ) → floorOf c ≤ℤ valueAt x (termsOf c)
+  pub promises : CheckPromises c s (zeros (length s)) (Accepts text) (rowCount s) (outputOf c s (zeros (length s)))
 
 abbrev pub PrintsLines : List ℕ → Type 0
 PrintsLines input = IsPrinted (claimPart input) (proofPart input) (programText input)

@@ -2,10 +2,11 @@
 use mathlib.Core.Path.{_≡_, refl, sym, _∙_, ap}
 use mathlib.Core.Bool.{Bool, true, false}
 use mathlib.Core.List.{List, _∷_}
-use Prim.Native.Nat.{ℕ, zero, suc, _-_, _<_, _≤_}
+use Prim.Native.Nat.{ℕ, zero, suc, _+_, _-_, _<_, _≤_}
 use native.Mathlib.Omega.{arith}
 use lib.ListN.{length, getD, take, drop, length-drop, length-replicate}
-use lib.Seq.{take-all}
+use lib.Seq.{take-all, getD-drop}
+use Rattle.integers.proofs.words.Laws.{Bytes}
 use Rattle.answers.specs.Answers.{says, blameless, Passes}
 use Rattle.answers.specs.declared.answers.Verdict.{Verdict}
 use Rattle.sheets.specs.Layout.{rowCount, shapeOf, ProofRoom}
@@ -16,12 +17,12 @@ use Rattle.sharing.proofs.shifts.Laws.{sheets-checked}
 use Rattle.weighing.specs.Exact.{weightsFor, exactProof}
 use Rattle.weighing.proofs.exact.Laws.{exact-length, exact-variables, exact-scale, exact-weights}
 use Rattle.judging.specs.Check.{targetsOf, checkAnswer, outputOf}
-use Rattle.judging.proofs.Promises.{floor-kept, accepted-formed, accepted-within, accepted-rows, accepted-exact}
-use Rattle.text.specs.Text.{ascii, Written}
+use Rattle.judging.proofs.Promises.{check-promises, accepted-formed, accepted-within, accepted-rows, accepted-exact}
+use Rattle.text.specs.Text.{Written}
 use Rattle.report.specs.Reports.{shapeWith, refusedText, reportText}
-use Rattle.report.proofs.reports.Laws.{refused-word, accepted-lines, refused-lines}
+use Rattle.report.proofs.reports.Laws.{accepted-word, refused-word, accepted-lines, refused-lines}
 use Rattle.burmelox_check.specs.Input.{claimEnd, claimPart, proofPart}
-use Rattle.burmelox_check.specs.Printing.{zeros, sheetsText, programText, acceptedLines, IsPrinted, PrintsLines}
+use Rattle.burmelox_check.specs.Printing.{zeros, sheetsText, programText, acceptedLines, IsPrinted, Accepts, PrintsLines}
 
 -- print_sheets: v is the verdict, o the output afterwards
 pub sheets-written : (c s out o l m : List ℕ) (v : Verdict) (end : ℕ) → Written l 0 (reportText c o (says v)) m end
@@ -97,9 +98,13 @@ module _ (c s : List ℕ) where
   unfolding sheetsText
   refused-text h = rw as-long (refused-lines c (outputOf c s (zeros (length s))) (checkAnswer c s (length s)) h)
 
-  -- no refusal begins with the word of an acceptance
-  accepted-word : take 8 (sheetsText c s (zeros (length s))) ≡ ascii "accepted" → Passes (checkAnswer c s (length s))
-  accepted-word h = go (blameless (checkAnswer c s (length s))) refl
+  passed-begins : Passes (checkAnswer c s (length s)) → Accepts (sheetsText c s (zeros (length s)))
+  unfolding acceptedLines
+  passed-begins h = rw (accepted-text h) (accepted-word _ _ _ _)
+
+  -- no refusal begins so
+  begins-passed : Accepts (sheetsText c s (zeros (length s))) → Passes (checkAnswer c s (length s))
+  begins-passed h = go (blameless (checkAnswer c s (length s))) refl
     where
       go : (b : Bool) → blameless (checkAnswer c s (length s)) ≡ b → Passes (checkAnswer c s (length s))
       go true q = q
@@ -108,14 +113,18 @@ module _ (c s : List ℕ) where
           ap (λ (l : List ℕ). getD l 0 0) (sym h ∙ ap (take 8) (refused-text q) ∙ refused-word _ _) in
           absurd (omega (arith, w))
 
-  sheets-printed : IsPrinted c s (sheetsText c s (zeros (length s)))
-  sheets-printed = record {
+  sheets-printed : Bytes s → IsPrinted c s (sheetsText c s (zeros (length s)))
+  sheets-printed b = record {
     acceptance = accepted-text;
     refusal = refused-text;
-    floors = λ h. floor-kept c s (length s) (accepted-word h);
+    promises =
+        check-promises c s (zeros (length s)) _ _ (λ h. rw as-long (begins-passed h), λ h. passed-begins (rw as-long at h))
+        (λ h. refl) b _ refl;
   }
 
 -- every input has its lines
-pub prints-lines : (input : List ℕ) → PrintsLines input
-unfolding programText
-prints-lines input = sheets-printed (claimPart input) (proofPart input)
+pub prints-lines : (input : List ℕ) → Bytes input → PrintsLines input
+unfolding programText proofPart
+prints-lines input b =
+    sheets-printed (claimPart input) (proofPart input)
+    (λ i. rw (getD-drop (claimEnd input) input i 0) (b (claimEnd input + i)))

@@ -1,9 +1,10 @@
 -- Laws of reports: when the sheets have what an acceptance prints, and which lines those are.
 use mathlib.Core.Path.{_≡_, refl, ap}
 use mathlib.Core.Bool.{true, false}
-use mathlib.Core.List.{List, _++_}
+use mathlib.Core.List.{List, _++_, append-assoc}
 use Prim.Native.Nat.{ℕ, zero, suc, _<_, _≤_}
 use native.Mathlib.Omega.{arith}
+use lib.IntN.{ℤ}
 use lib.ListN.{length, take}
 use borrow.Author.Tests.{le-leb}
 use Rattle.answers.specs.Answers.{Answer, accepted, blameless}
@@ -14,7 +15,7 @@ use Rattle.rows.specs.ProofSheet.{scaleOf, tripleOf}
 use Rattle.rows.specs.declared.proof_sheet.Triple.{Triple}
 use Rattle.text.specs.Text.{ascii}
 use Rattle.text.specs.Lines.{acceptedLine}
-use Rattle.text.proofs.lines.Laws.{refused-begins}
+use Rattle.text.proofs.lines.Laws.{accepted-begins, refused-begins}
 use Rattle.report.specs.Reports.{ended, linesOf, rowsText, shapeWith, firstText, acceptedText, refusedText, reportable, reportText}
 
 -- ---- sheets that have what an acceptance prints
@@ -37,6 +38,11 @@ lines-same : (x y : ℕ → Triple) (i : ℕ) → ((j : ℕ) → j < i → x j �
 unfolding linesOf
 lines-same x y zero h = refl
 lines-same x y (suc i) h = rw (lines-same x y i (λ j l. h j (omega arith)), h i (omega arith))
+
+pub accepted-word : (k S : ℕ) (b : ℤ) (rest : List ℕ) → take 8 (ended (acceptedLine k S b) ++ rest) ≡ ascii "accepted"
+unfolding ended
+accepted-word k S b rest =
+    rw (append-assoc (acceptedLine k S b) (ascii "\n") rest) (accepted-begins k S b (ascii "\n" ++ rest))
 
 pub refused-word : (number index : ℕ) → take 8 (refusedText number index) ≡ ascii "refused "
 unfolding refusedText ended

@@ -1,4 +1,4 @@
--- Laws of lines: what a refusal begins with, and how long lines are.
+-- Laws of lines: their first words, and how long they are.
 use mathlib.Core.Path.{_≡_, refl}
 use mathlib.Core.List.{List, _++_}
 use Prim.Native.Nat.{ℕ, suc, _+_, _^_, _<_, _≤_}
@@ -12,6 +12,11 @@ use Rattle.rows.specs.declared.proof_sheet.Triple.{Triple}
 use Rattle.text.specs.Text.{ascii, natural, integer, counted, numbered}
 use Rattle.text.specs.Lines.{scaleText, acceptedLine, laterText, weightsText, rowLine, refusedLine}
 use Rattle.text.proofs.text.Laws.{natural-short, integer-short}
+
+pub accepted-begins : (k scale : ℕ) (floor : ℤ) (rest : List ℕ)
+    → take 8 (acceptedLine k scale floor ++ rest) ≡ ascii "accepted"
+unfolding acceptedLine counted
+accepted-begins k scale floor rest = refl
 
 pub refused-begins : (number index : ℕ) (rest : List ℕ) → take 8 (refusedLine number index ++ rest) ≡ ascii "refused "
 unfolding refusedLine counted

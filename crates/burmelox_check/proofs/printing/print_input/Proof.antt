@@ -11,7 +11,7 @@ slice-aggregate-print-sheets-2 : tie.Need-slice-aggregate-print-sheets-2
 slice-aggregate-print-sheets-2 c = search rest-counts
 
 returns : tie.Need-returns
-returns c = (search input-written, prints-lines _)
+returns c = (search input-written, prints-lines _ (search needs))
 
 pub print-input-spec : {M : Type 1} → statement M
 print-input-spec =
