@@ -120,7 +120,7 @@ fn unused_wrong(proof: &[u8], shape: Shape, i: usize) -> bool
     false
 }
 
-// 15: whether one of three weights is beyond ± a limit.
+// 15 and 17: whether one of three weights is beyond ± a limit.
 pub fn any_beyond(x: Triple, limit: u64) -> bool
     ensures { λ r. ⌜ r ≡ anyBeyond limit x ⌝ }
 {

@@ -1,5 +1,5 @@
 //! What the documents say of the project: their tables of refusals, held against the one that the
-//! tests share, and the files and names that they send a reader to.
+//! tests share, the header's limits, and the files and names that they send a reader to.
 
 use crate::files;
 use crate::report::{equal, Outcome, Report};
@@ -8,6 +8,7 @@ use refusals::RULES;
 pub fn run(report: &mut Report) {
     report.add("refusals in the format's document", are_in_format());
     report.add("refusals in the C header", are_in_header());
+    report.add("limits in the C header", are_limits_in_header());
     for document in ["README.md", "docs/FORMAT.md"] {
         report.add(&format!("names in {document}"), are_where_told(document));
     }
@@ -61,6 +62,21 @@ fn are_in_header() -> Outcome {
 fn enum_entry(line: &str) -> Option<u32> {
     let (_, number) = line.trim().strip_prefix("BURMELOX_")?.split_once(" = ")?;
     number.split(|c: char| !c.is_ascii_digit()).next()?.parse().ok()
+}
+
+/// The header has each limit that the crate `bounds` has, under the same name.
+fn are_limits_in_header() -> Outcome {
+    let header = read("include/burmelox.h")?;
+    let bounds = read("crates/bounds/src/bounds.rt")?;
+    let mut limits = bounds.lines().filter_map(|line| {
+        let (name, value) = line.strip_prefix("pub const ")?.split_once(": ")?;
+        let (_, value) = value.trim_end_matches(';').split_once(" = ")?;
+        Some(format!("#define BURMELOX_{name} {value}"))
+    });
+    match limits.find(|limit| !header.lines().any(|line| line == limit)) {
+        Some(limit) => Err(format!("the header has no line {limit}")),
+        None => Ok(()),
+    }
 }
 
 fn read(name: &str) -> Result<String, String> {
