@@ -1,15 +1,16 @@
 -- The promises of the check, from what its answer is.
-use mathlib.Core.Path.{_≡_, _∙_}
+use mathlib.Core.Path.{_≡_, refl, _∙_}
+use mathlib.Core.Bool.{Bool, true, false}
 use mathlib.Core.List.{List, _++_, append-nil}
 use mathlib.Core.Logic.{_↔_}
 use Prim.Native.Nat.{ℕ, _≤_}
 use lib.IntN.{ℤ}
 use lib.ListN.{length, take, drop}
-use lib.Seq.{drop-length, take-at}
+use lib.Seq.{drop-length, take-at, drop-at}
 use lib.Signed.{_≤ℤ_}
 use Rattle.integers.proofs.words.Laws.{Bytes}
 use Rattle.bounds.specs.Bounds.{greatestWeight}
-use Rattle.answers.specs.Answers.{accepted, Passes, Short}
+use Rattle.answers.specs.Answers.{accepted, blameless, Passes, Short}
 use Rattle.answers.proofs.answers.Laws.{passes-then, then-on, accepted-passes, short-then}
 use Rattle.points.specs.Points.{Exponents}
 use Rattle.squares.specs.Sums.{valueAt}
@@ -30,7 +31,7 @@ use Rattle.sharing.proofs.shifts.Laws.{sheets-checked, rows-stay-placed, rows-s
 use Rattle.weighing.specs.Exact.{exactProof, AllWithin}
 use Rattle.weighing.specs.Weighed.{weighedAnswer}
 use Rattle.weighing.proofs.weighed.Laws.{weighed-within, weighed-hold, weighed-adds, weighed-accepted, weighed-short}
-use Rattle.weighing.proofs.exact.Laws.{exact-length, exact-rows, same-within, same-proof}
+use Rattle.weighing.proofs.exact.Laws.{exact-length, exact-scale, exact-rows, same-within, same-proof}
 use Rattle.judging.specs.Check.{targetsOf, checkAnswer, outputOf}
 use Rattle.judging.specs.Promises.{Decomposes, CheckPromises}
 
@@ -140,12 +141,42 @@ module _ (c s out : List ℕ) where
   unfolding outputOf
   written h = rw h
 
-  written-rows : Passed → rowsOf (take (length s) (outputOf c s out)) ≡ shiftedRows (targetsOf c s) s
+  kept : blameless (checkAnswer c s (length out)) ≡ false → outputOf c s out ≡ out
+  unfolding outputOf
+  kept h = rw h
+
+  -- the first bytes, and the later ones
+  written-first : Passed → take (length s) (outputOf c s out) ≡ exactProof (targetsOf c s) s
+  written-first h = rw (written h) (take-at _ (drop (length s) out) _ (exact-length (targetsOf c s) s))
+
+  written-rest : drop (length s) (outputOf c s out) ≡ drop (length s) out
+  written-rest = go (blameless (checkAnswer c s (length out))) refl
+    where
+      go : (b : Bool) → blameless (checkAnswer c s (length out)) ≡ b
+          → drop (length s) (outputOf c s out) ≡ drop (length s) out
+      go true h =
+          rw (written h)
+          (drop-at (exactProof (targetsOf c s) s) (drop (length s) out) (length s) (exact-length (targetsOf c s) s))
+      go false h = rw (kept h)
+
+  written-reads : Passed
+      → (scaleOf (take (length s) (outputOf c s out)) ≡ scaleOf s)
+      × (rowsOf (take (length s) (outputOf c s out)) ≡ shiftedRows (targetsOf c s) s)
   unfolding targetsOf
-  written-rows h =
-      rw (written h, take-at _ (drop (length s) out) _ (exact-length (targetsOf c s) s))
-      (exact-rows c s (aimOf c s) (sheets-checked c s (accepted-formed c s (length out) h))
-      (accepted-within c s (length out) h))
+  written-reads h =
+      rw (written-first h) (
+        exact-scale (targetsOf c s) s,
+        exact-rows c s (aimOf c s) (sheets-checked c s (accepted-formed c s (length out) h))
+            (accepted-within c s (length out) h),
+      )
+
+  -- what is not accepted does not pass
+  refused-kept : (Passed → ⊥) → outputOf c s out ≡ out
+  refused-kept n = go (blameless (checkAnswer c s (length out))) refl
+    where
+      go : (b : Bool) → blameless (checkAnswer c s (length out)) ≡ b → outputOf c s out ≡ out
+      go true h = absurd (n h)
+      go false h = kept h
 
   pub check-promises : (Accepted : Type 0) (k : ℕ) → Accepted ↔ Passed → (Passed → k ≡ rowCount s) → Bytes s
       → (o : List ℕ) → o ≡ outputOf c s out → CheckPromises c s out Accepted k o
@@ -156,7 +187,9 @@ module _ (c s out : List ℕ) where
           λ p. meant .1 (accepted-passes _ _ (d .1 p)),
         );
     counts = λ a. counted (meant .0 a);
-    reads = λ a. rw e (written-rows (meant .0 a));
+    reads = λ a. rw e (written-reads (meant .0 a));
+    rest = rw e written-rest;
+    leaves = λ n. e ∙ refused-kept (λ h. n (meant .1 h));
     floors = λ a. floor-kept c s (length out) (meant .0 a);
     keeps = λ f l d.
         let h = accepted-passes _ _ (exact-accepted c s f d (length out) l) in

@@ -13,7 +13,7 @@ use Rattle.squares.specs.Rows.{Row, slots, Holds}
 use Rattle.squares.specs.Decomposition.{AddsUp}
 use Rattle.sheets.specs.Layout.{variables, rowCount}
 use Rattle.sheets.specs.ClaimSheet.{floorOf, termsOf}
-use Rattle.rows.specs.ProofSheet.{rowsOf}
+use Rattle.rows.specs.ProofSheet.{scaleOf, rowsOf}
 use Rattle.checks.specs.Input.{WellFormed}
 use Rattle.sharing.specs.Shifts.{shiftedRows}
 use Rattle.weighing.specs.Exact.{AllWithin}
@@ -33,8 +33,14 @@ pub record CheckPromises (c s out : List ℕ) (Accepted : Type 0) (k : ℕ) (o :
       → Accepted ↔ (AllWithin greatestWeight (targetsOf c s) s × Decomposes c s (shiftedRows (targetsOf c s) s))
   -- "The verdict carries k"
   pub counts : Accepted → k ≡ rowCount s
-  -- Demand 2: "what is written is that shifted proof": the output's first bytes read as the shifted rows
-  pub reads : Accepted → rowsOf (take (length s) o) ≡ shiftedRows (targetsOf c s) s
+  -- Demand 2: "what is written is that shifted proof": the output's first bytes read as the proof's scale and as the
+  -- shifted rows
+  pub reads : Accepted
+      → (scaleOf (take (length s) o) ≡ scaleOf s) × (rowsOf (take (length s) o) ≡ shiftedRows (targetsOf c s) s)
+  -- "later bytes keep their values"
+  pub rest : drop (length s) o ≡ drop (length s) out
+  -- Demand 1: "a refusal must write no byte"
+  pub leaves : (Accepted → ⊥) → o ≡ out
   -- Demand 3: "If a claim and proof are accepted .. then the polynomial is at least the floor at all whole offsets, of
   -- either sign and however large"
   pub floors : Accepted → (x : List ℤ) → floorOf c ≤ℤ valueAt x (termsOf c)

@@ -1,7 +1,7 @@
 -- The steps of the functions that judge a row. A prime marks a number as the machine reads it back.
 use mathlib.Core.Path.{_≡_, refl, sym, _∙_, ap}
 use mathlib.Core.Bool.{Bool, true, false}
-use Prim.Native.Nat.{ℕ, _^_, _≤_}
+use Prim.Native.Nat.{ℕ, _*_, _^_, _≤_}
 use native.Mathlib.Nat.{mul-le-mul}
 use native.Mathlib.Omega.{arith}
 use lib.Dec.{lit<}
@@ -57,20 +57,22 @@ module _ (x : Triple) (w : Within greatestWeight x) where
   pq-is : back (back (x .p) *ℤ back (x .q)) ≡ x .p *ℤ x .q
   pq-is = toZ-ofZ pq-fits ∙ rw (weight-back (x .p) (w .p-within), weight-back (x .q) (w .q-within))
 
-  pub four-fits : SFits w64 (back (back (x .p) *ℤ back (x .q)) *ℤ pos 4)
-  four-fits =
-      rw pq-is
-      (fits-within (x .p *ℤ x .q *ℤ pos 4) (2 ^ 62)
-      (rw (abs-mul (x .p *ℤ x .q) (pos 4)) (omega (arith, product-small (x .p) (x .q) (w .p-within) (w .q-within))))
-      (lit< tt))
-
   pub rr-fits : SFits w64 (back (x .r) *ℤ back (x .r))
   rr-fits = product-fits (x .r) (x .r) (w .r-within) (w .r-within)
 
-  pub indefinite-is : ltZ (back (back (back (x .p) *ℤ back (x .q)) *ℤ pos 4)) (back (back (x .r) *ℤ back (x .r)))
-      ≡ indefinite x
-  unfolding indefinite
-  indefinite-is = rw (toZ-ofZ four-fits, pq-is, toZ-ofZ rr-fits, weight-back (x .r) (w .r-within))
+  -- p × q times any number up to 7
+  module _ (m : ℕ) (few : m ≤ 7) where
+    pub times-fits : SFits w64 (back (back (x .p) *ℤ back (x .q)) *ℤ pos m)
+    times-fits =
+        rw pq-is
+        (fits-within (x .p *ℤ x .q *ℤ pos m) (2 ^ 60 * 7)
+        (rw (abs-mul (x .p *ℤ x .q) (pos m))
+        (mul-le-mul {n₂ = 2 ^ 60} (product-small (x .p) (x .q) (w .p-within) (w .q-within)) few))
+        (lit< tt))
+
+    pub compared : ltZ (back (back (back (x .p) *ℤ back (x .q)) *ℤ pos m)) (back (back (x .r) *ℤ back (x .r)))
+        ≡ ltZ (x .p *ℤ x .q *ℤ pos m) (x .r *ℤ x .r)
+    compared = rw (toZ-ofZ times-fits, pq-is, toZ-ofZ rr-fits, weight-back (x .r) (w .r-within))
 
 -- ---- judge_pair
 
