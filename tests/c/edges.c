@@ -26,7 +26,7 @@ int main(void) {
     print("no offsets", burmelox_evaluate(claim, sizeof claim, NULL, 0, &value));
     printf("value %" PRId64 "\n", value);
     printf("greatest lengths %zu and %zu\n", BURMELOX_MOST_CLAIM, BURMELOX_MOST_PROOF);
-    print("last row", 2ull << 32 | 19 << 16 | 255);
+    print("last row", (uint64_t)BURMELOX_PROOF << 32 | BURMELOX_CROSS_TOO_LARGE << 16 | 255);
     print("most rows", BURMELOX_MOST_ROWS);
     return 0;
 }

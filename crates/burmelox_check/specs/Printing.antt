@@ -40,7 +40,7 @@ abbrev pub Accepts : List ℕ → Type 0
 Accepts text = take 8 text ≡ ascii "accepted"
 
 -- an acceptance has these lines, and "A refusal prints `refused 19 at 0`: number, index"; what the check promises holds
--- of a text by its first word
+-- of a text by its first word, with k and the shifted rows as its lines have them
 pub record IsPrinted (c s text : List ℕ) : Type 0 where
   pub acceptance : Passes (checkAnswer c s (length s)) → text ≡ acceptedLines c s
   pub refusal : blameless (checkAnswer c s (length s)) ≡ false

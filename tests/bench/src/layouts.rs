@@ -1,7 +1,7 @@
 //! The sheets that checks are timed with: accepted ones of `k` pairs in 8 variables.
 
 use sheets::random::{Plan, Rng, Shape};
-use sheets::{Claim, Point, Proof, Row};
+use sheets::{Claim, Point, Proof, Row, MOST_TERMS};
 
 /// A way to lay out `k` pairs, by name.
 pub type Layout = (&'static str, fn(usize) -> (Claim, Proof));
@@ -14,9 +14,6 @@ pub const LAYOUTS: [Layout; 3] = [
 
 /// The weights proposed for every row below; those with targets are shifted to 1, 1, −2.
 const PROPOSED: [i32; 3] = [3, 2, -1];
-
-/// A claim has at most so many terms.
-const MOST_TERMS: usize = 64;
 
 /// As in practice: of many plans the one with the most terms.
 fn points_shared(k: usize) -> (Claim, Proof) {

@@ -35,8 +35,7 @@ pub fn check(case: &Case, rng: &mut Rng) -> Result<Number, String> {
     let mut expected = before;
     if let Ok(accepted) = &verdict {
         expected[GUARD..][..accepted.bytes.len()].copy_from_slice(&accepted.bytes);
-        let again = check_again(&case.claim, &accepted.bytes);
-        same("the exact proof checked again", &Hex(&accepted.bytes), &Hex(&again), case)?;
+        keeps_exact(case, &accepted.bytes)?;
     }
     let verdict = verdict.map(|accepted| accepted.weights.len() as u64);
     same("check", &verdict.unwrap_or_else(Refusal::code), &answer, case)?;
@@ -44,11 +43,12 @@ pub fn check(case: &Case, rng: &mut Rng) -> Result<Number, String> {
     Ok(number(verdict))
 }
 
-/// What the library writes for an exact proof: the same bytes, since its weights add up.
-fn check_again(claim: &[u8], exact: &[u8]) -> Vec<u8> {
+/// An exact proof, whose weights add up, is accepted again and written as it is.
+fn keeps_exact(case: &Case, exact: &[u8]) -> Outcome {
     let mut output = vec![0; exact.len()];
-    library::check(claim, exact, &mut output);
-    output
+    let answer = library::check(&case.claim, exact, &mut output);
+    same("acceptance of the exact proof", &true, &(answer < 1 << 16), case)?;
+    same("output for the exact proof", &Hex(exact), &Hex(&output), case)
 }
 
 /// Compares an evaluation by the library: its answer, and the value, which is random before.

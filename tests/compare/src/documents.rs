@@ -8,25 +8,28 @@ use refusals::RULES;
 pub fn run(report: &mut Report) {
     report.add("refusals in the format's document", are_in_format());
     report.add("refusals in the C header", are_in_header());
+    report.add("sheets in the C header", are_sheets_in_header());
     report.add("limits in the C header", are_limits_in_header());
     for document in ["README.md", "docs/FORMAT.md"] {
         report.add(&format!("names in {document}"), are_where_told(document));
     }
 }
 
-/// Where the document says "`name` in `file`", the file of a crate has that name.
+/// Where the document says "`name` in `file`", the file has that name.
 fn are_where_told(document: &str) -> Outcome {
     let text = read(document)?;
     let parts: Vec<&str> = text.split('`').collect();
+    let mut names = 0;
     for told in parts.windows(3) {
         if let [name, " in ", file] = told {
             let words = |c: char| !c.is_alphanumeric() && c != '_';
-            if file.starts_with("crates/") && !read(file)?.split(words).any(|word| word == *name) {
+            if !read(file)?.split(words).any(|word| word == *name) {
                 return Err(format!("{file} has no {name}"));
             }
+            names += 1;
         }
     }
-    Ok(())
+    equal("some names are told", &true, &(names > 0))
 }
 
 /// The table has a row for every number, with the sheet at fault.
@@ -64,19 +67,30 @@ fn enum_entry(line: &str) -> Option<u32> {
     number.split(|c: char| !c.is_ascii_digit()).next()?.parse().ok()
 }
 
+/// The header has the number of each sheet that a refusal blames.
+fn are_sheets_in_header() -> Outcome {
+    let header = read("include/burmelox.h")?;
+    let entries: Vec<&str> = header.lines().map(|line| line.trim().trim_end_matches(',')).collect();
+    RULES.iter().try_for_each(|rule| {
+        let sheet = format!("{:?}", rule.sheet).to_uppercase();
+        let entry = format!("BURMELOX_{sheet} = {}", rule.sheet as u32);
+        equal(&entry, &true, &entries.contains(&&entry[..]))
+    })
+}
+
 /// The header has each limit that the crate `bounds` has, under the same name.
 fn are_limits_in_header() -> Outcome {
     let header = read("include/burmelox.h")?;
     let bounds = read("crates/bounds/src/bounds.rt")?;
-    let mut limits = bounds.lines().filter_map(|line| {
+    let limits = bounds.lines().filter_map(|line| {
         let (name, value) = line.strip_prefix("pub const ")?.split_once(": ")?;
         let (_, value) = value.trim_end_matches(';').split_once(" = ")?;
         Some(format!("#define BURMELOX_{name} {value}"))
     });
-    match limits.find(|limit| !header.lines().any(|line| line == limit)) {
-        Some(limit) => Err(format!("the header has no line {limit}")),
-        None => Ok(()),
-    }
+    let limits: Vec<String> = limits.collect();
+    let in_header = |limit: &&String| header.lines().any(|line| line == *limit);
+    equal("the lines", &limits, &limits.iter().filter(in_header).cloned().collect())?;
+    equal("there are limits", &true, &!limits.is_empty())
 }
 
 fn read(name: &str) -> Result<String, String> {

@@ -15,6 +15,9 @@ pub type Point = Vec<u8>;
 /// The greatest weight, coefficient and floor.
 pub const MOST: i32 = 1 << 30;
 
+/// A claim has at most so many terms.
+pub const MOST_TERMS: usize = 64;
+
 /// Every exponent is even.
 fn is_even(point: &Point) -> bool {
     point.iter().all(|exponent| exponent % 2 == 0)

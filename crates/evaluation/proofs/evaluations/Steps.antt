@@ -41,6 +41,7 @@ use Rattle.sheets.proofs.claim_sheet.Laws.{terms-table, term-point, term-coeffi
 use Rattle.claims.specs.ClaimChecks.{claimAnswer}
 use Rattle.claims.proofs.claim_checks.Laws.{claim-passed}
 use Rattle.evaluation.proofs.Promises.{evaluation-promises}
+use Rattle.evaluation.proofs.evaluations.Laws.{told-passed}
 use Rattle.evaluation.specs.Evaluations as Spec
 use Rattle.evaluation.specs.Evaluations.{tells, toldBy, termValue, tooLarge, tooLargeAnswer, sumTo, summed, evaluationAnswer, evaluationOf, EvaluationPromises}
 use Rattle.evaluation.specs.declared.evaluations.Evaluation.{Evaluation}
@@ -51,10 +52,6 @@ use Rattle.evaluation.specs.declared.evaluations.Evaluation.the-variants
 told-refused : (x : Sheet) (a : Answer) (z : ℤ) → says (Verdicts.Refused x) ≡ a → tells (Refused x) ≡ toldBy a z
 unfolding tells toldBy
 told-refused x a z e = rw (← e, failed (Verdicts.Refused x) _ refl x refl)
-
-told-value : (a : Answer) (z : ℤ) → Passes a → tells (Value z) ≡ toldBy a z
-unfolding tells toldBy
-told-value a z h = rw h
 
 -- ---- the sum of the first terms
 
@@ -129,14 +126,14 @@ module _ (c : List ℕ) (n t : ℕ) (x : List ℤ) where
   pub summed-end : (i sum : ℕ) → t ≤ i → i ≤ t → ClaimRoom c n t → first (tooLarge c n t x) i ≡ Nothing
       → natAbs (sumTo c n t x i) ≤ i * greatestValue → sum ≡ ofZ w64 (sumTo c n t x i)
       → tells (Value (toZ w64 sum)) ≡ summed c n t x
-  unfolding summed tooLargeAnswer
+  unfolding summed tooLargeAnswer tells
   summed-end i sum l m room none small es =
       let q : i ≡ t = omega arith in
       let f : SFits w64 (sumTo c n t x i) = fits-within _ (i * greatestValue) small (omega (arith, room .terms)) in
       let e : toZ w64 sum ≡ sumTo c n t x t = rw (es, toZ-ofZ f, q) in
       rw e
-      (told-value _ _ (rw (at-on (first (tooLarge c n t x) t) 21 (accepted 0) (rw q at none))
-      (accepted-passes _ 0 refl)))
+      (sym (told-passed _ _ (rw (at-on (first (tooLarge c n t x) t) 21 (accepted 0) (rw q at none))
+      (accepted-passes _ 0 refl))))
 
 -- evaluate: v is the verdict on the claim
 module _ (c : List ℕ) (x : List ℤ) (v : Verdict) (e : says v ≡ claimAnswer c) where

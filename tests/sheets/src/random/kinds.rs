@@ -4,7 +4,7 @@ use super::breaks::{self, Break};
 use super::offsets::{largest_terms, offsets, over_largest_term};
 use super::rows::JUDGED;
 use super::{Plan, Rng, Shape};
-use crate::{Case, Claim, Proof};
+use crate::{Case, Claim, Proof, MOST_TERMS};
 use refusals::EntryPoint::{self, Check, Evaluation};
 use std::fmt;
 
@@ -131,7 +131,7 @@ fn without_slot(rng: &mut Rng) -> Case {
             claim.floor += if claim.floor > 0 { -1 } else { 1 };
             return case_of(rng, &claim, &proof);
         }
-        if !held(&point) && point != origin && claim.terms.len() < 64 {
+        if !held(&point) && point != origin && claim.terms.len() < MOST_TERMS {
             claim.terms.retain(|(other, _)| *other != point);
             claim.terms.push((point, rng.pick(&[1, -1, 1 << 30])));
             claim.terms.sort();

@@ -1,7 +1,7 @@
 //! Random offsets, and claims whose terms come up to 2^56.
 
 use super::Rng;
-use crate::{Claim, Point};
+use crate::{Claim, Point, MOST_TERMS};
 use std::collections::BTreeMap;
 
 /// As many offsets, all of one sort: zeros and ones, small numbers, any of 32 bits, or the ends
@@ -32,7 +32,7 @@ pub fn largest_terms(rng: &mut Rng) -> (Claim, Vec<i32>) {
     for _ in 0..rng.pick(&[4, 30, 2000]) {
         let point: Point = (0..n).map(|_| rng.below(1 + 60 / n) as u8).collect();
         let monomial: u32 = point.iter().zip(&bits).map(|(&e, bits)| u32::from(e) * bits).sum();
-        if (26..=56).contains(&monomial) && terms.len() < 64 {
+        if (26..=56).contains(&monomial) && terms.len() < MOST_TERMS {
             terms.insert(point, power_of_two(rng, 56 - monomial));
         }
     }

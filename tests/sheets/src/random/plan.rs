@@ -4,7 +4,7 @@
 
 use super::rows::{faulty_row, filling_row, holding_row};
 use super::{Rng, Shape};
-use crate::{is_even, Claim, Point, Proof, Row, MOST};
+use crate::{is_even, Claim, Point, Proof, Row, MOST, MOST_TERMS};
 use std::collections::BTreeMap;
 
 /// Sheets and the weights that the shift must give them.
@@ -120,7 +120,7 @@ impl Draft {
         let terms = coefficients.into_iter().map(|(point, c)| Some((point, narrow(c)?)));
         let terms: Vec<(Point, i32)> = terms.collect::<Option<_>>()?;
         let claim = Claim { n: self.n as u8, floor: narrow(floor)?, terms };
-        (claim.terms.len() <= 64).then_some(claim)
+        (claim.terms.len() <= MOST_TERMS).then_some(claim)
     }
 
     /// The proof whose proposed weights are short of the planned ones by the shares of a random

@@ -1,0 +1,26 @@
+-- Cases: answers and the one number that a caller in another language gets for each.
+use mathlib.Core.Path.{_≡_}
+use mathlib.Core.List.{List, [], _∷_, map}
+use Prim.Native.Nat.{ℕ}
+use Rattle.answers.specs.Answers.{Answer, accepted, refused}
+use Rattle.burmelox.specs.Exports.{codeOf}
+
+pub record Case : Type 0 where
+  pub answer : Answer
+  pub code : ℕ
+
+unfoldable pub cases : List Case
+cases =
+    -- E, and the most rows
+    record { answer = accepted 0; code = 0 }
+    ∷ record { answer = accepted 256; code = 256 }
+    -- a claim's last point, D, an output that is too short, a wrong count of offsets
+    ∷ record { answer = refused 7 63; code = 4295426111 }
+    ∷ record { answer = refused 19 0; code = 8591179776 }
+    ∷ record { answer = refused 11 0; code = 12885622784 }
+    ∷ record { answer = refused 20 0; code = 17181179904 }
+    ∷ []
+
+-- the definition gives every number
+abbrev pub Worked : Type 0
+Worked = map (λ (c : Case). codeOf (c .answer)) cases ≡ map (λ (c : Case). c .code) cases
