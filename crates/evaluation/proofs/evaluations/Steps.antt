@@ -15,7 +15,7 @@ use mir.Facts.{toZ-ofZ}
 use Rattle.integers.proofs.Integers.{abs-add, fits-within}
 use Rattle.bounds.specs.Bounds.{greatestValue}
 use Rattle.bounds.proofs.bounds.Laws.{over-bound, bound-within}
-use Rattle.answers.specs.Answers.{Answer, accepted, says, refuseIf, Passes}
+use Rattle.answers.specs.Answers.{Answer, accepted, says, refuseIf}
 use Rattle.answers.specs.Searches.{first}
 use Rattle.answers.specs.declared.answers.Sheet.{Sheet}
 use Rattle.answers.specs.declared.answers.Sheet.the-variants.{Claim, Offsets}
