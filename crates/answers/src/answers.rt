@@ -29,72 +29,36 @@ pub struct Numbers {
     pub value: usize,
 }
 
+// A verdict's numbers, one by one.
+fn in_numbers(sheet: u32, number: u32, value: usize) -> Numbers
+    ensures { λ r. ⌜ (r .sheet ≡ sheet) × (r .number ≡ number) × (r .value ≡ value) ⌝ }
+{
+    Numbers {
+        sheet,
+        number,
+        value,
+    }
+}
+
+// What a verdict says, in numbers.
 pub fn numbers_of(verdict: Verdict) -> Numbers
     ensures { λ r. ⌜ (r .sheet ≡ sheetNumber (says verdict .blamed)) × (r .number ≡ says verdict .number)
         × (r .value ≡ says verdict .value) ⌝ }
 {
     match verdict {
-        Verdict::Accepted(k) => Numbers {
-            sheet: 0,
-            number: 0,
-            value: k,
-        },
+        Verdict::Accepted(k) => in_numbers(0, 0, k),
         Verdict::Refused(sheet) => match sheet {
-            Sheet::Claim(number, value) => Numbers {
-                sheet: 1,
-                number,
-                value,
-            },
-            Sheet::Proof(number, value) => Numbers {
-                sheet: 2,
-                number,
-                value,
-            },
-            Sheet::Output(number, value) => Numbers {
-                sheet: 3,
-                number,
-                value,
-            },
-            Sheet::Offsets(number, value) => Numbers {
-                sheet: 4,
-                number,
-                value,
-            },
-            Sheet::Range(number, value) => Numbers {
-                sheet: 5,
-                number,
-                value,
-            },
-            Sheet::Limits(number, value) => Numbers {
-                sheet: 6,
-                number,
-                value,
-            },
-            Sheet::Page(number, value) => Numbers {
-                sheet: 7,
-                number,
-                value,
-            },
-            Sheet::Profile(number, value) => Numbers {
-                sheet: 8,
-                number,
-                value,
-            },
-            Sheet::Buffer(number, value) => Numbers {
-                sheet: 9,
-                number,
-                value,
-            },
-            Sheet::Table(number, value) => Numbers {
-                sheet: 10,
-                number,
-                value,
-            },
-            Sheet::Site(number, value) => Numbers {
-                sheet: 11,
-                number,
-                value,
-            },
+            Sheet::Claim(number, value) => in_numbers(1, number, value),
+            Sheet::Proof(number, value) => in_numbers(2, number, value),
+            Sheet::Output(number, value) => in_numbers(3, number, value),
+            Sheet::Offsets(number, value) => in_numbers(4, number, value),
+            Sheet::Range(number, value) => in_numbers(5, number, value),
+            Sheet::Limits(number, value) => in_numbers(6, number, value),
+            Sheet::Page(number, value) => in_numbers(7, number, value),
+            Sheet::Profile(number, value) => in_numbers(8, number, value),
+            Sheet::Buffer(number, value) => in_numbers(9, number, value),
+            Sheet::Table(number, value) => in_numbers(10, number, value),
+            Sheet::Site(number, value) => in_numbers(11, number, value),
         },
     }
 }

@@ -1,6 +1,6 @@
 -- The promises of the check, from what its answer is.
-use mathlib.Core.Path.{_≡_, refl, _∙_}
-use mathlib.Core.Bool.{Bool, true, false}
+use mathlib.Core.Path.{_≡_, _∙_}
+use mathlib.Core.Bool.{false}
 use mathlib.Core.List.{List, _++_, append-nil}
 use mathlib.Core.Logic.{_↔_}
 use Prim.Native.Nat.{ℕ, _≤_}
@@ -11,7 +11,7 @@ use lib.Signed.{_≤ℤ_}
 use Rattle.integers.proofs.words.Laws.{Bytes}
 use Rattle.bounds.specs.Bounds.{greatestWeight}
 use Rattle.answers.specs.Answers.{accepted, blameless, Passes, Short}
-use Rattle.answers.proofs.answers.Laws.{passes-then, then-on, accepted-passes, short-then}
+use Rattle.answers.proofs.answers.Laws.{passes-or-fails, passes-then, then-on, accepted-passes, short-then}
 use Rattle.points.specs.Points.{Exponents}
 use Rattle.squares.specs.Sums.{valueAt}
 use Rattle.squares.specs.Rows.{slots}
@@ -150,14 +150,12 @@ module _ (c s out : List ℕ) where
   written-first h = rw (written h) (take-at _ (drop (length s) out) _ (exact-length (targetsOf c s) s))
 
   written-rest : drop (length s) (outputOf c s out) ≡ drop (length s) out
-  written-rest = go (blameless (checkAnswer c s (length out))) refl
-    where
-      go : (b : Bool) → blameless (checkAnswer c s (length out)) ≡ b
-          → drop (length s) (outputOf c s out) ≡ drop (length s) out
-      go true h =
-          rw (written h)
-          (drop-at (exactProof (targetsOf c s) s) (drop (length s) out) (length s) (exact-length (targetsOf c s) s))
-      go false h = rw (kept h)
+  written-rest =
+      passes-or-fails (checkAnswer c s (length out))
+      (λ h.
+      rw (written h)
+      (drop-at (exactProof (targetsOf c s) s) (drop (length s) out) (length s) (exact-length (targetsOf c s) s)))
+      (λ h. rw (kept h))
 
   written-reads : Passed
       → (scaleOf (take (length s) (outputOf c s out)) ≡ scaleOf s)
@@ -170,13 +168,8 @@ module _ (c s out : List ℕ) where
             (accepted-within c s (length out) h),
       )
 
-  -- what is not accepted does not pass
   refused-kept : (Passed → ⊥) → outputOf c s out ≡ out
-  refused-kept n = go (blameless (checkAnswer c s (length out))) refl
-    where
-      go : (b : Bool) → blameless (checkAnswer c s (length out)) ≡ b → outputOf c s out ≡ out
-      go true h = absurd (n h)
-      go false h = kept h
+  refused-kept n = passes-or-fails (checkAnswer c s (length out)) (λ h. absurd (n h)) kept
 
   pub check-promises : (Accepted : Type 0) (k : ℕ) → Accepted ↔ Passed → (Passed → k ≡ rowCount s) → Bytes s
       → (o : List ℕ) → o ≡ outputOf c s out → CheckPromises c s out Accepted k o

@@ -1,7 +1,7 @@
--- Laws of answers: what it says of each check that all are passed, the ways through checks one after another, and that
--- answers are short.
+-- Laws of answers: what it says of each check that all are passed, the ways through checks one after another, that
+-- answers are short, and the sheets' numbers.
 use mathlib.Core.Path.{_≡_, refl, sym, _∙_}
-use mathlib.Core.Bool.{Bool, true, false, cond, false≢true}
+use mathlib.Core.Bool.{Bool, true, false, false≢true}
 use Prim.Native.Nat.{ℕ, _<_, _≤_}
 use native.Mathlib.Omega.{arith}
 use borrow.Author.Tests.{eq-eqb, eqb-true}
@@ -35,13 +35,18 @@ unfolding refuseAt
 passes-at (At i) number later n h = absurd (false≢true (sym (refused-blames number i n) ∙ h))
 passes-at Nothing number later n h = (refl, h)
 
+-- every answer passes or fails
+pub passes-or-fails : {A : Type 0} (a : Answer) → (Passes a → A) → (blameless a ≡ false → A) → A
+passes-or-fails {A} a passing failing = go (blameless a) refl
+  where
+    go : (b : Bool) → blameless a ≡ b → A
+    go true e = passing e
+    go false e = failing e
+
 pub passes-then : (a later : Answer) → Passes (andThen a later) → Passes a × Passes later
 unfolding andThen
-passes-then a later h = go (blameless a) refl h
-  where
-    go : (b : Bool) → blameless a ≡ b → blameless (cond b later a) ≡ true → Passes a × Passes later
-    go true e k = (e, k)
-    go false e k = absurd (false≢true (sym e ∙ k))
+passes-then a later h =
+    passes-or-fails a (λ e. (e, rw e at h)) (λ e. absurd (false≢true (sym e ∙ (rw e at h))))
 
 pub then-passes : (a later : Answer) → Passes a → Passes later → Passes (andThen a later)
 unfolding andThen
@@ -168,11 +173,7 @@ module _ (number : ℕ) (later : Answer) (h : number < 65536) (k : Short later) 
 
 pub short-then : (a later : Answer) → Short a → Short later → Short (andThen a later)
 unfolding andThen
-short-then a later h k = go (blameless a)
-  where
-    go : (b : Bool) → Short (cond b later a)
-    go true = k
-    go false = h
+short-then a later h k = passes-or-fails a (λ e. rw e k) (λ e. rw e h)
 
 -- ---- the sheets' numbers: 0 says that none is at fault
 

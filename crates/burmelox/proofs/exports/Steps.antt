@@ -1,6 +1,5 @@
 -- The steps of the exported functions.
 use mathlib.Core.Path.{_≡_, refl, sym, _∙_, ap}
-use mathlib.Core.Bool.{Bool, true, false}
 use mathlib.Core.List.{List}
 use mathlib.Core.Logic.{_↔_}
 use Prim.Native.Nat.{ℕ, _+_, _*_, _<_, _^_}
@@ -8,11 +7,11 @@ use native.Mathlib.Omega.{arith}
 use lib.IntN.{ℤ}
 use lib.ListN.{length}
 use Rattle.integers.proofs.words.Laws.{Bytes}
-use Rattle.answers.specs.Answers.{Answer, sheetNumber, accepted, says, blameless, Passes, Short}
+use Rattle.answers.specs.Answers.{Answer, sheetNumber, accepted, says, Passes, Short}
 use Rattle.answers.specs.declared.answers.Sheet.{Sheet}
 use Rattle.answers.specs.declared.answers.Verdict.{Verdict}
 use Rattle.answers.specs.declared.answers.Verdict.the-variants as Verdicts
-use Rattle.answers.proofs.answers.Laws.{accepted-passes, failed, accepted-numbers, passed-sheet, sheet-passed}
+use Rattle.answers.proofs.answers.Laws.{passes-or-fails, accepted-passes, failed, accepted-numbers, passed-sheet, sheet-passed}
 use Rattle.sheets.specs.Layout.{rowCount}
 use Rattle.judging.specs.Check.{checkAnswer, outputOf}
 use Rattle.judging.specs.Promises.{CheckPromises}
@@ -123,11 +122,11 @@ module _ (c : List ℕ) (x : List ℤ) (bc : Bytes c) (r : ℕ) (before after : 
 
   leaves : Leaves r before after
   unfolding toldValue
-  leaves = record { leaves = λ n. go (blameless (evaluationAnswer c x)) refl n }
-    where
-      go : (b : Bool) → blameless (evaluationAnswer c x) ≡ b → (r ≡ 0 → ⊥) → after ≡ before
-      go true q n = absurd (n (zero-coded .1 q))
-      go false q n = ev ∙ rw (failed-refusal c x q)
+  leaves = record {
+    leaves = λ n.
+        passes-or-fails (evaluationAnswer c x) (λ q. absurd (n (zero-coded .1 q)))
+        (λ q. ev ∙ rw (failed-refusal c x q));
+  }
 
   stores : (z : ℤ) → Stores r after z ↔ (evaluationOf c x ≡ value z)
   unfolding toldValue

@@ -1,6 +1,6 @@
 -- The steps of the functions that print.
 use mathlib.Core.Path.{_≡_, refl, sym, _∙_, ap}
-use mathlib.Core.Bool.{Bool, true, false}
+use mathlib.Core.Bool.{false}
 use mathlib.Core.List.{List, _∷_}
 use Prim.Native.Nat.{ℕ, zero, suc, _+_, _-_, _<_, _≤_}
 use native.Mathlib.Omega.{arith}
@@ -9,6 +9,7 @@ use lib.Seq.{take-all, getD-drop}
 use Rattle.integers.proofs.words.Laws.{Bytes}
 use Rattle.answers.specs.Answers.{says, blameless, Passes}
 use Rattle.answers.specs.declared.answers.Verdict.{Verdict}
+use Rattle.answers.proofs.answers.Laws.{passes-or-fails}
 use Rattle.sheets.specs.Layout.{rowCount, shapeOf, ProofRoom}
 use Rattle.rows.specs.ProofSheet.{scaleOf, tripleOf, tripleFor}
 use Rattle.targets.specs.Targets.{aimOf}
@@ -104,21 +105,20 @@ module _ (c s : List ℕ) where
 
   -- no refusal begins so
   begins-passed : Accepts (sheetsText c s (zeros (length s))) → Passes (checkAnswer c s (length s))
-  begins-passed h = go (blameless (checkAnswer c s (length s))) refl
-    where
-      go : (b : Bool) → blameless (checkAnswer c s (length s)) ≡ b → Passes (checkAnswer c s (length s))
-      go true q = q
-      go false q =
-          let w : _≡_ {A = ℕ} 97 114 =
-          ap (λ (l : List ℕ). getD l 0 0) (sym h ∙ ap (take 8) (refused-text q) ∙ refused-word _ _) in
-          absurd (omega (arith, w))
+  begins-passed h =
+      passes-or-fails (checkAnswer c s (length s)) (λ q. q)
+      (λ q.
+      let w : _≡_ {A = ℕ} 97 114 =
+      ap (λ (l : List ℕ). getD l 0 0) (sym h ∙ ap (take 8) (refused-text q) ∙ refused-word _ _) in
+      absurd (omega (arith, w)))
 
   sheets-printed : Bytes s → IsPrinted c s (sheetsText c s (zeros (length s)))
   sheets-printed b = record {
     acceptance = accepted-text;
     refusal = refused-text;
     promises =
-        check-promises c s (zeros (length s)) _ _ (λ h. rw as-long (begins-passed h), λ h. passed-begins (rw as-long at h))
+        check-promises c s (zeros (length s)) _ _
+        (λ h. rw as-long (begins-passed h), λ h. passed-begins (rw as-long at h))
         (λ h. refl) b _ refl;
   }
 

@@ -1,6 +1,6 @@
--- Laws of evaluations: what a value and a refusal tell.
+-- Laws of evaluations: what checks tell, and what their answer is where a value is given or refused.
 use mathlib.Core.Path.{_≡_, refl, sym, _∙_, ap}
-use mathlib.Core.Bool.{Bool, true, false, cond}
+use mathlib.Core.Bool.{false}
 use mathlib.Core.List.{List}
 use Prim.Native.Nat.{ℕ, _≤_}
 use native.Mathlib.Omega.{arith}
@@ -10,7 +10,7 @@ use Rattle.integers.proofs.Tests.{never}
 use Rattle.answers.specs.Answers.{Answer, accepted, says, blameless, Passes, Short}
 use Rattle.answers.specs.declared.answers.Sheet.{Sheet}
 use Rattle.answers.specs.declared.answers.Verdict.the-variants as Verdicts
-use Rattle.answers.proofs.answers.Laws.{passes-if, passes-at, passes-then, then-on, if-on, at-on, short-accepted, short-if, short-at, short-then}
+use Rattle.answers.proofs.answers.Laws.{passes-or-fails, passes-if, passes-at, passes-then, then-on, if-on, at-on, short-accepted, short-if, short-at, short-then}
 use Rattle.squares.specs.Sums.{valueAt}
 use Rattle.sheets.specs.Layout.{termCount}
 use Rattle.sheets.specs.ClaimSheet.{termsOf}
@@ -33,21 +33,15 @@ module _ (a : Answer) (z : ℤ) where
 
   -- a value is told only where every check is passed, and it is the one meant
   pub value-told : (y : ℤ) → toldBy a z ≡ Spec.value y → Passes a × (y ≡ z)
-  unfolding toldBy
-  value-told y h = go (blameless a) refl h
-    where
-      go : (b : Bool) → blameless a ≡ b → cond b (Spec.value z) (refusal a) ≡ Spec.value y → Passes a × (y ≡ z)
-      go true e k = (e, cc)
-      go false e k = never (cc)
+  value-told y h =
+      passes-or-fails a (λ e. let k = sym (told-passed e) ∙ h in (e, cc))
+      (λ e. let k = sym (told-failed e) ∙ h in never (cc))
 
   -- a refusal is told as the checks answer it
   refusal-told : (b : Answer) → toldBy a z ≡ refusal b → b ≡ a
-  unfolding toldBy
-  refusal-told b h = go (blameless a) h
-    where
-      go : (e : Bool) → cond e (Spec.value z) (refusal a) ≡ refusal b → b ≡ a
-      go true k = never (cc)
-      go false k = cc
+  refusal-told b h =
+      passes-or-fails a (λ e. let k = sym (told-passed e) ∙ h in never (cc))
+      (λ e. let k = sym (told-failed e) ∙ h in cc)
 
 -- ---- for the crates above
 
