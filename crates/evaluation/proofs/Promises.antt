@@ -11,26 +11,24 @@ use borrow.Author.Tests.{eq-eqb, eqb-true, not-false}
 use Rattle.bounds.specs.Bounds.{greatestValue}
 use Rattle.bounds.proofs.bounds.Laws.{within-bound, bound-within}
 use Rattle.answers.specs.Answers.{accepted, refuseIf, Passes}
-use Rattle.answers.proofs.answers.Laws.{passes-if, passes-at, passes-then, then-on, if-on, at-on, accepted-passes}
+use Rattle.answers.proofs.answers.Laws.{then-on, if-on, at-on, accepted-passes}
 use Rattle.answers.proofs.searches.Laws.{none-wrong, all-right}
 use Rattle.sheets.specs.Layout.{variables, termCount}
 use Rattle.claims.specs.ClaimChecks.{claimAnswer}
 use Rattle.judging.proofs.Promises.{floor-kept}
 use Rattle.evaluation.specs.Evaluations.{value, termValue, tooLarge, tooLargeAnswer, evaluationAnswer, evaluationOf, Evaluable, EvaluationPromises}
-use Rattle.evaluation.proofs.evaluations.Laws.{told-passed, value-told}
+use Rattle.evaluation.proofs.evaluations.Laws.{told-passed, value-told, each-passed}
 
 -- ---- when a value is given
 
 evaluable : (c : List ℕ) (x : List ℤ) → Passes (evaluationAnswer c x) → Evaluable c x
-unfolding evaluationAnswer tooLargeAnswer tooLarge
+unfolding tooLarge
 evaluable c x h =
-    let p = passes-then _ _ h in
-    let q = passes-if _ 20 _ refl (p .1) in
-    let r = passes-at _ 21 _ refl (q .1) in
+    let p = each-passed c x h in
     record {
       formed = p .0;
-      counted = eqb-true _ _ (not-false _ (q .0));
-      small = λ i l. within-bound _ _ (none-wrong _ _ (r .0) i l);
+      counted = eqb-true _ _ (not-false _ (p .1));
+      small = λ i l. within-bound _ _ (none-wrong _ _ (p .2) i l);
     }
 
 small-passes : (c : List ℕ) (n t : ℕ) (x : List ℤ) → ((i : ℕ) → i < t → natAbs (termValue c n t x i) ≤ greatestValue)

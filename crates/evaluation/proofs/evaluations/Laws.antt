@@ -1,22 +1,27 @@
 -- Laws of evaluations: what checks tell, and what their answer is where a value is given or refused.
 use mathlib.Core.Path.{_≡_, refl, sym, _∙_, ap}
-use mathlib.Core.Bool.{false}
+use mathlib.Core.Bool.{false, not}
 use mathlib.Core.List.{List}
 use Prim.Native.Nat.{ℕ, _≤_}
 use native.Mathlib.Omega.{arith}
+use lib.Dec.{eqb}
 use lib.IntN.{ℤ}
+use lib.ListN.{length}
 use Rattle.integers.proofs.words.Laws.{Bytes}
 use Rattle.integers.proofs.Tests.{never}
 use Rattle.answers.specs.Answers.{Answer, accepted, says, blameless, Passes, Short}
+use Rattle.answers.specs.Searches.{first}
 use Rattle.answers.specs.declared.answers.Sheet.{Sheet}
 use Rattle.answers.specs.declared.answers.Verdict.the-variants as Verdicts
+use Rattle.answers.specs.declared.searches.Found.the-variants.{Nothing}
 use Rattle.answers.proofs.answers.Laws.{passes-or-fails, passes-if, passes-at, passes-then, then-on, if-on, at-on, short-accepted, short-if, short-at, short-then}
 use Rattle.squares.specs.Sums.{valueAt}
-use Rattle.sheets.specs.Layout.{termCount}
+use Rattle.sheets.specs.Layout.{variables, termCount}
 use Rattle.sheets.specs.ClaimSheet.{termsOf}
+use Rattle.claims.specs.ClaimChecks.{claimAnswer}
 use Rattle.claims.proofs.claim_checks.Laws.{claim-short}
 use Rattle.evaluation.specs.Evaluations as Spec
-use Rattle.evaluation.specs.Evaluations.{refusal, tells, toldBy, tooLargeAnswer, evaluationAnswer, evaluationOf}
+use Rattle.evaluation.specs.Evaluations.{refusal, tells, toldBy, tooLarge, tooLargeAnswer, evaluationAnswer, evaluationOf}
 use Rattle.evaluation.specs.declared.evaluations.Evaluation.{Evaluation}
 use Rattle.evaluation.specs.declared.evaluations.Evaluation.the-variants.{Value, Refused}
 
@@ -54,13 +59,19 @@ module _ (c : List ℕ) (x : List ℤ) where
       (short-if 20 _ (omega arith) (short-at 21 _ (omega arith) (short-accepted 0 (omega arith)) _ _ t) _)
 
   module _ (h : Passes (evaluationAnswer c x)) where
+    -- what it says of 1 to 7, of 20 and of 21
+    pub each-passed : Passes (claimAnswer c) × (not (eqb (length x) (variables c)) ≡ false)
+        × (first (tooLarge c (variables c) (termCount c) x) (termCount c) ≡ Nothing)
+    unfolding evaluationAnswer tooLargeAnswer
+    each-passed =
+        let p = passes-then _ _ h in
+        let q = passes-if _ 20 _ refl (p .1) in
+        (p .0, q .0, passes-at _ 21 _ refl (q .1) .0)
+
     pub evaluation-passed : evaluationAnswer c x ≡ accepted 0
     unfolding evaluationAnswer tooLargeAnswer
     evaluation-passed =
-        let p = passes-then _ _ h in
-        let q = passes-if _ 20 _ refl (p .1) in
-        let r = passes-at _ 21 _ refl (q .1) in
-        then-on _ _ (p .0) ∙ if-on _ 20 _ (q .0) ∙ at-on _ 21 _ (r .0)
+        then-on _ _ (each-passed .0) ∙ if-on _ 20 _ (each-passed .1) ∙ at-on _ 21 _ (each-passed .2)
 
     pub passed-value : evaluationOf c x ≡ Spec.value (valueAt x (termsOf c))
     unfolding evaluationOf
