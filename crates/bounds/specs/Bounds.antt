@@ -32,6 +32,10 @@ greatestWeight = 2 ^ 30
 abbrev pub greatestValue : ℕ
 greatestValue = 2 ^ 56
 
+-- a search's floors: "hi − lo over 4,095" is refused
+abbrev pub greatestSpan : ℕ
+greatestSpan = 4095
+
 -- a number beyond ± a limit
 unfoldable pub beyond : ℕ → ℤ → Bool
 beyond limit x = ltb limit (natAbs x)

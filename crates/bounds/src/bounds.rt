@@ -21,6 +21,9 @@ pub const GREATEST_WEIGHT: u64 = 1073741824;
 // of a term's value: 2^56
 pub const GREATEST_VALUE: u64 = 72057594037927936;
 
+// of a search, from its lowest to its highest floor
+pub const GREATEST_SPAN: u64 = 4095;
+
 // Whether a number is beyond ± a limit.
 pub fn is_beyond(x: i64, limit: u64) -> bool
     ensures { λ r. ⌜ r ≡ beyond limit x ⌝ }

@@ -11,11 +11,12 @@ use squares::rows::Weights;
 ghost use mathlib.Core.Path.{_≡_};
 ghost use mathlib.Core.Bool.{true};
 ghost use Prim.Native.Nat.{_≤_};
+ghost use lib.Dec.{eqb};
 ghost use Rattle.bounds.specs.Bounds.{greatestWeight};
 ghost use Rattle.answers.specs.Answers.{says};
 ghost use Rattle.answers.specs.Searches.{kept};
 ghost use Rattle.checks.specs.ProofChecks.{Within};
-ghost use Rattle.judgements.specs.Judgements.{negative, indefinite, judgePair, judgeLone, judgementOf, noted, judgedAnswer};
+ghost use Rattle.judgements.specs.Judgements.{negative, indefinite, judgePair, judgeLone, judgementOf, numberOf, noted, judgedAnswer};
 
 // How a row is judged.
 pub enum Judgement {
@@ -93,6 +94,18 @@ pub fn judge(row: Row, limit: u64) -> Judgement
         return judge_lone(triple_for(weights).p, limit);
     };
     judge_pair(Triple { p, q, r }, limit)
+}
+
+// Whether a judgement is that the row holds.
+pub fn holds(j: Judgement) -> bool
+    ensures { λ r. ⌜ r ≡ eqb (numberOf j) 0 ⌝ }
+{
+    match j {
+        Judgement::Holds => true,
+        Judgement::Beyond => false,
+        Judgement::Negative => false,
+        Judgement::Indefinite => false,
+    }
 }
 
 // What was found before, or else index i.

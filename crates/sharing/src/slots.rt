@@ -73,6 +73,15 @@ fn scan(proof: &[u8], shape: Shape, from: usize, to: usize, key: u64, a: Tally) 
     b
 }
 
+// How many slots have a key.
+pub fn slots_with(proof: &[u8], shape: Shape, key: u64) -> u32
+    requires { ⌜ (ProofFacts (now proof) shape) × (key < 2 ^ 63) ⌝ }
+    ensures { λ r. ⌜ r ≡ tallyOf key (slotsTo (now (proof .entry)) shape (shape .k)) .count ⌝ }
+{
+    let all = scan(proof, shape, 0, shape.k, key, Tally { sum: 0, count: 0 });
+    all.count
+}
+
 // The slots with a key, seen from one of row i; `own` says how many of the row's own are before it there.
 pub(crate) fn held(proof: &[u8], shape: Shape, i: usize, own: u32, key: u64) -> Holding
     requires { ⌜ (ProofFacts (now proof) shape) × (i < shape .k) × (own < 65536) × (key < 2 ^ 63) ⌝ }

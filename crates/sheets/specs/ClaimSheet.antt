@@ -2,7 +2,7 @@
 use mathlib.Core.List.{List}
 use Prim.Native.Nat.{ℕ}
 use lib.IntN.{ℤ}
-use Rattle.integers.specs.Words.{i32At}
+use Rattle.integers.specs.Words.{i32At, withI32}
 use Rattle.points.specs.Lists.{table}
 use Rattle.points.specs.Points.{Exponents, bytesAt}
 use Rattle.squares.specs.Sums.{Sum}
@@ -11,6 +11,10 @@ use Rattle.sheets.specs.Layout.{variables, termCount, pointAt, coefficie
 -- "Bytes 4 to 7: the floor b, signed"
 unfoldable pub floorOf : List ℕ → ℤ
 floorOf c = i32At c 4
+
+-- the claim with b in that field
+unfoldable pub withFloor : List ℕ → ℤ → List ℕ
+withFloor c b = withI32 c 4 b
 
 -- the point and the coefficient of term i, in a claim of n variables and t terms
 unfoldable pub termPoint : List ℕ → ℕ → ℕ → Exponents

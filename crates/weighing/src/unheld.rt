@@ -6,6 +6,7 @@ use keys::keys::key_of;
 use points::points::Point;
 use rows::proof_sheet::shape_of;
 use sharing::slots::holds_key;
+use sharing::slots::slots_with;
 use sheets::claim_sheet::term_count;
 use sheets::claim_sheet::term_point;
 use sheets::layout::variables;
@@ -48,6 +49,20 @@ fn no_target(claim: &[u8], aim: Aim, i: usize, p: Point, key: u64) -> bool
         return magnitude(term_target(claim, aim, i, p, key)) == 0;
     }
     magnitude(target_at(claim, aim, p, key)) == 0
+}
+
+// Whether point i, of a term or after the terms the constant's, has a target that is not zero and no row holds it.
+pub fn is_unheld(claim: &[u8], proof: &[u8], aim: Aim, i: usize) -> bool
+    requires { ⌜ (CheckedSheets (now claim) (now proof) aim) × (i ≤ termCount (now claim)) ⌝ }
+    ensures { λ r. ⌜ r ≡ unheld (targetOf (now (claim .entry)) aim) (now (claim .entry)) (now (proof .entry)) i ⌝ }
+{
+    let shape = shape_of(proof);
+    let p = point_for(claim, variables(claim), term_count(claim), i);
+    let key = key_of(p);
+    if no_target(claim, aim, i, p, key) {
+        return false;
+    }
+    slots_with(proof, shape, key) == 0
 }
 
 // The first term whose target is not zero and that no row holds, then the constant.

@@ -23,7 +23,7 @@ ghost use Rattle.judgements.specs.Judgements.{judgementOf, firstsTo, judgedAnsw
 ghost use Rattle.weighing.specs.Weighed.{weighedAnswer};
 
 // How row i is judged, with its shifted weights.
-fn judge_row(claim: &[u8], proof: &[u8], aim: Aim, i: usize) -> Judgement
+pub fn judge_row(claim: &[u8], proof: &[u8], aim: Aim, i: usize) -> Judgement
     requires { ⌜ (CheckedSheets (now claim) (now proof) aim) × (i < rowCount (now proof)) ⌝ }
     ensures { λ r. ⌜ r ≡ judgementOf greatestWeight
         (shiftedRow (targetOf (now (claim .entry)) aim) (now (proof .entry)) i .weights) ⌝ }

@@ -3,15 +3,19 @@ use mathlib.Core.Path.{_≡_, refl}
 use mathlib.Core.List.{List}
 use Prim.Native.Nat.{ℕ, _≤_}
 use native.Mathlib.Omega.{arith}
+use lib.IntN.{ℤ, natAbs}
 use lib.ListN.{length}
 use borrow.Author.Tests.{le-ltb, ltb-false}
 use Rattle.integers.proofs.words.Laws.{Bytes}
+use Rattle.bounds.specs.Bounds.{greatestWeight}
 use Rattle.answers.specs.Answers.{says, Passes, Short}
 use Rattle.answers.specs.declared.answers.Verdict.the-variants.{Accepted}
 use Rattle.answers.proofs.answers.Laws.{passed-if, accepted-says, passes-if, passes-then, then-passes, passed, short-accepted, short-if, short-then}
 use Rattle.sheets.specs.Layout.{variables, termCount, shapeOf}
+use Rattle.sheets.specs.ClaimSheet.{withFloor}
+use Rattle.sheets.proofs.claim_sheet.Laws.{floored-before}
 use Rattle.claims.specs.ClaimChecks.{claimAnswer, ClaimFacts}
-use Rattle.claims.proofs.claim_checks.Laws.{claim-facts, claim-short}
+use Rattle.claims.proofs.claim_checks.Laws.{claim-facts, claim-floored, claim-short}
 use Rattle.checks.specs.ProofChecks.{rowsAnswer, HeaderFacts, ProofFacts}
 use Rattle.checks.specs.Input.{headAnswer, roomAnswer, bodyAnswer, inputAnswer, formedAnswer, WellFormed}
 use Rattle.checks.proofs.proof_checks.Laws.{header-facts, proof-facts, header-short, rows-short}
@@ -79,6 +83,15 @@ module _ (c s : List ℕ) (room : ℕ) where
     pub input-enough : length s ≤ room
     unfolding inputAnswer bodyAnswer
     input-enough = enough (length s) room (passes-then _ _ (passes-then _ _ h .1) .0)
+
+    -- and with another floor in the claim they are passed as well
+    pub input-floored : (b : ℤ) → natAbs b ≤ greatestWeight → Passes (inputAnswer (withFloor c b) s room)
+    unfolding inputAnswer headAnswer
+    input-floored b w =
+        let a = passes-then _ _ h in
+        let d = passes-then _ _ (a .0) in
+        then-passes _ _
+        (then-passes _ _ (claim-floored c b w (d .0)) (rw (floored-before c b 0 (omega arith)) (d .1))) (a .1)
 
 -- every answer is short
 pub input-short : (c s : List ℕ) (room : ℕ) → Bytes c → Bytes s → Short (inputAnswer c s room)

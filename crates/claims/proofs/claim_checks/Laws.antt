@@ -1,28 +1,32 @@
--- Laws of the checks 1 to 7: what it says of a claim that it passes them, and how short its answers are.
-use mathlib.Core.Path.{_≡_, refl, sym, _∙_}
+-- Laws of the checks 1 to 7: what it says of a claim that it passes them, that it may have another floor, and how short
+-- its answers are.
+use mathlib.Core.Path.{_≡_, refl, sym, _∙_, fun-ext}
 use mathlib.Core.Bool.{Bool, true, false, true≢false, and-eq-true-iff}
 use mathlib.Core.List.{List}
 use Prim.Native.Nat.{ℕ, suc, _-_, _<_, _≤_}
 use native.Mathlib.Decide.{le-ind}
 use native.Mathlib.Omega.{arith}
-use lib.Dec.{eqb, ltb}
-use lib.IntN.{natAbs}
+use lib.Dec.{eqb, ltb, lit<}
+use lib.IntN.{ℤ, natAbs}
 use lib.ListN.{length}
-use borrow.Author.Tests.{eqb-true, not-false, lt-ltb, leb-true}
+use borrow.Author.Tests.{eqb-true, not-false, lt-ltb, ltb-false, leb-true}
+use Rattle.integers.proofs.Integers.{fits-within}
 use Rattle.integers.proofs.words.Laws.{Bytes}
 use Rattle.integers.proofs.Tests.{nor, nand}
 use Rattle.bounds.specs.Bounds.{greatestExponent, greatestWeight}
-use Rattle.bounds.proofs.bounds.Laws.{within-bound}
+use Rattle.bounds.proofs.bounds.Laws.{within-bound, bound-within}
 use Rattle.answers.specs.Answers.{says, Passes, Short}
 use Rattle.answers.specs.declared.answers.Verdict.{Verdict}
 use Rattle.answers.specs.declared.answers.Verdict.the-variants.{Accepted}
-use Rattle.answers.proofs.answers.Laws.{passes-if, passes-at, passed, short-accepted, short-if, short-at}
+use Rattle.answers.proofs.answers.Laws.{passes-if, passes-at, if-on, passed, short-accepted, short-if, short-at}
 use Rattle.answers.proofs.searches.Laws.{none-wrong}
 use Rattle.points.specs.Points.{samePoint, risesTo, exponentsWithin}
 use Rattle.points.proofs.points.Laws.{same-eq, rises-self, rises-trans}
 use Rattle.sheets.specs.Layout.{variables, termCount, ClaimRoom, claimLength}
-use Rattle.sheets.specs.ClaimSheet.{floorOf, termPoint, coefficientOf}
+use Rattle.sheets.specs.ClaimSheet.{floorOf, withFloor, termPoint, coefficientOf}
+use Rattle.sheets.proofs.claim_sheet.Laws.{floored-length, floored-floor, floored-before, floored-point, floored-coefficient}
 use Rattle.claims.specs.ClaimChecks.{termBreaks, termsAnswer, claimAnswer, ClaimFacts, countsRight, claimHeaderRight}
+use Rattle.claims.specs.declared.claim_checks.TermRule.{TermRule}
 use Rattle.claims.specs.declared.claim_checks.TermRule.the-variants.{Coefficient, Exponent, Order}
 
 -- ---- what each check says that is passed
@@ -79,6 +83,50 @@ claim-facts c h =
       exponents-within = λ i l. exponents-fact c _ _ i (none-wrong _ _ (p₆ .0) i l);
       rising = λ i l. rising-fact c _ _ i (none-wrong _ _ (p₇ .0) (suc i) l);
     }
+
+-- ---- with another floor within its bounds the claim passes as well
+
+module _ (c : List ℕ) (b : ℤ) where
+  breaks-floored : (rule : TermRule) (n t : ℕ) → termBreaks rule (withFloor c b) n t ≡ termBreaks rule c n t
+  unfolding termBreaks
+  breaks-floored (Coefficient limit) n t = fun-ext (λ i. rw (floored-coefficient c b n t i))
+  breaks-floored (Exponent limit) n t = fun-ext (λ i. rw (floored-point c b n i))
+  breaks-floored Order n t = fun-ext (λ i. rw (floored-point c b n i, floored-point c b n (i - 1)))
+
+  terms-floored : (n t : ℕ) → termsAnswer (withFloor c b) n t ≡ termsAnswer c n t
+  unfolding termsAnswer
+  terms-floored n t = rw (breaks-floored _ n t, breaks-floored _ n t, breaks-floored _ n t)
+
+  header-floored : claimHeaderRight (withFloor c b) ≡ claimHeaderRight c
+  unfolding claimHeaderRight countsRight
+  header-floored = rw (
+    floored-before c b 0 (omega arith),
+    floored-before c b 1 (omega arith),
+    floored-before c b 2 (omega arith),
+    floored-before c b 3 (omega arith),
+  )
+
+  pub claim-floored : natAbs b ≤ greatestWeight → Passes (claimAnswer c) → Passes (claimAnswer (withFloor c b))
+  unfolding claimAnswer
+  claim-floored w h =
+      let p₁ = passes-if _ 1 _ refl h in
+      let p₂ = passes-if _ 2 _ refl (p₁ .1) in
+      let p₃ = passes-if _ 3 _ refl (p₂ .1) in
+      let p₄ = passes-if _ 4 _ refl (p₃ .1) in
+      let read = floored-floor c b (ltb-false _ _ (p₁ .0)) (fits-within b greatestWeight w (lit< tt)) in
+      rw (
+        floored-length c b,
+        header-floored,
+        floored-before c b 0 (omega arith),
+        floored-before c b 1 (omega arith),
+        read,
+        terms-floored,
+        if-on _ 1 _ (p₁ .0),
+        if-on _ 2 _ (p₂ .0),
+        if-on _ 3 _ (p₃ .0),
+        if-on _ 4 _ (bound-within _ b w),
+      )
+      (p₄ .1)
 
 -- of a claim that a verdict accepts
 module _ (c : List ℕ) (v : Verdict) (e : says v ≡ claimAnswer c) (j : ℕ) (h : v ≡ Accepted j) where

@@ -81,7 +81,7 @@ module _ (s : List ℕ) (at : ℕ) (v : ℤ) where
   unfolding withI32 withBits
   written-before j h = sets-before (bytesOf (ofZ w32 v)) s at j h
 
-  written-after : (j : ℕ) → at + 4 ≤ j → getD (withI32 s at v) j 0 ≡ getD s j 0
+  pub written-after : (j : ℕ) → at + 4 ≤ j → getD (withI32 s at v) j 0 ≡ getD s j 0
   unfolding withI32 withBits
   written-after j h = sets-after (bytesOf (ofZ w32 v)) s at j h
 
@@ -94,6 +94,10 @@ module _ (s : List ℕ) (at : ℕ) (v : ℤ) where
   pub read-before : (p : ℕ) → p + 4 ≤ at → i32At (withI32 s at v) p ≡ i32At s p
   unfolding i32At
   read-before p h = ap (toZ w32) (same-bits (withI32 s at v) s p (λ k l. written-before (p + k) (omega arith)))
+
+  pub read-after : (p : ℕ) → at + 4 ≤ p → i32At (withI32 s at v) p ≡ i32At s p
+  unfolding i32At
+  read-after p h = ap (toZ w32) (same-bits (withI32 s at v) s p (λ k l. written-after (p + k) (omega arith)))
 
   -- and what is written reads back
   pub read-written : at + 4 ≤ length s → SFits w32 v → i32At (withI32 s at v) at ≡ v

@@ -1,13 +1,13 @@
 -- Laws of judgements: rows pass 17 to 19 exactly where they are within the limit and hold; the loop over all rows.
 use mathlib.Core.Path.{_≡_, refl, sym, _∙_}
-use mathlib.Core.Bool.{Bool, true, false, cond, _||_}
+use mathlib.Core.Bool.{Bool, true, false, cond, _||_, false≢true}
 use Prim.Native.Nat.{ℕ, _+_, _≤_, _<_}
 use native.Mathlib.Numerals.{add-one}
 use native.Mathlib.Omega.{arith}
 use lib.Dec.{eqb}
 use lib.IntN.{ℤ, pos, _*ℤ_}
 use lib.Signed.{ltZ, _≤ℤ_}
-use borrow.Author.Tests.{eqb-false, ne-eqb}
+use borrow.Author.Tests.{eqb-true, eqb-false, ne-eqb}
 use Rattle.integers.proofs.Integers.{ltZ-false, le-ltZ}
 use Rattle.integers.proofs.Tests.{never}
 use Rattle.bounds.specs.Bounds.{beyond}
@@ -123,26 +123,38 @@ numbered Beyond a b d = absurd (eqb-false 17 17 a refl)
 numbered Negative a b d = absurd (eqb-false 18 18 b refl)
 numbered Indefinite a b d = absurd (eqb-false 19 19 d refl)
 
+zero-holds : (j : Judgement) → eqb (numberOf j) 0 ≡ true → j ≡ Holds
+unfolding numberOf
+zero-holds Holds h = refl
+zero-holds Beyond h = absurd (false≢true h)
+zero-holds Negative h = absurd (false≢true h)
+zero-holds Indefinite h = absurd (false≢true h)
+
 module _ (limit : ℕ) (row : ℕ → Row) (k : ℕ) where
-  pub judged-passed : Passes (judgedAnswer (firstsTo limit row k) k) → (i : ℕ) → i < k
-      → Within limit (tripleFor (row i .weights)) × Formal.Holds (row i .weights)
-  unfolding judgedAnswer firstsTo judgedAs
-  judged-passed h i l =
+  pub each-holds : Passes (judgedAnswer (firstsTo limit row k) k) → (i : ℕ) → i < k
+      → judgedAs 0 limit row i ≡ true
+  unfolding judgedAnswer firstsTo judgedAs numberOf
+  each-holds h i l =
       let a = passes-at _ 17 _ refl h in
       let b = passes-at _ 18 _ refl (a .1) in
       let d = passes-at _ 19 _ refl (b .1) in
-      judged-holds limit (row i .weights)
-      (numbered _ (none-wrong _ k (a .0) i l) (none-wrong _ k (b .0) i l) (none-wrong _ k (d .0) i l))
+      rw (numbered (judgementOf limit (row i .weights)) (none-wrong _ k (a .0) i l) (none-wrong _ k (b .0) i l)
+      (none-wrong _ k (d .0) i l))
 
-  not-judged : (number i : ℕ) → eqb 0 number ≡ false → judgementOf limit (row i .weights) ≡ Holds
+  pub judged-passed : Passes (judgedAnswer (firstsTo limit row k) k) → (i : ℕ) → i < k
+      → Within limit (tripleFor (row i .weights)) × Formal.Holds (row i .weights)
+  unfolding judgedAs
+  judged-passed h i l = judged-holds limit (row i .weights) (zero-holds _ (each-holds h i l))
+
+  not-judged : (number i : ℕ) → eqb 0 number ≡ false → judgedAs 0 limit row i ≡ true
       → judgedAs number limit row i ≡ false
-  unfolding judgedAs numberOf
-  not-judged number i z h = rw h z
+  unfolding judgedAs
+  not-judged number i z h = rw (eqb-true (numberOf (judgementOf limit (row i .weights))) 0 h) z
 
-  pub judged-accepted : ((i : ℕ) → i < k → Within limit (tripleFor (row i .weights)) × Formal.Holds (row i .weights))
+  pub holds-accepted : ((i : ℕ) → i < k → judgedAs 0 limit row i ≡ true)
       → judgedAnswer (firstsTo limit row k) k ≡ accepted k
   unfolding judgedAnswer firstsTo
-  judged-accepted h =
+  holds-accepted h =
       sym
       (passed-at (Accepted k) Nothing _ 17 _ (none 17 (ne-eqb 0 17 (λ q. omega arith))) refl
       (passed-at (Accepted k) Nothing _ 18 _ (none 18 (ne-eqb 0 18 (λ q. omega arith))) refl
@@ -150,9 +162,13 @@ module _ (limit : ℕ) (row : ℕ → Row) (k : ℕ) where
       ∙ accepted-says k
     where
       none : (number : ℕ) → eqb 0 number ≡ false → Nothing ≡ first (judgedAs number limit row) k
-      none number z =
-          all-right _ k (λ i l. let w = h i l in not-judged number i z
-          (holds-judged limit (row i .weights) (w .0) (w .1)))
+      none number z = all-right _ k (λ i l. not-judged number i z (h i l))
+
+  pub judged-accepted : ((i : ℕ) → i < k → Within limit (tripleFor (row i .weights)) × Formal.Holds (row i .weights))
+      → judgedAnswer (firstsTo limit row k) k ≡ accepted k
+  unfolding judgedAs numberOf
+  judged-accepted h =
+      holds-accepted (λ i l. let w = h i l in rw (holds-judged limit (row i .weights) (w .0) (w .1)))
 
 pub judged-short : (limit : ℕ) (row : ℕ → Row) (k : ℕ) → k < 65536 → Short (judgedAnswer (firstsTo limit row k) k)
 unfolding judgedAnswer firstsTo

@@ -4,7 +4,7 @@ use mathlib.Core.Bool.{Bool, true, false}
 use Prim.Native.Nat.{ℕ, _*_, _^_, _≤_}
 use native.Mathlib.Nat.{mul-le-mul}
 use native.Mathlib.Omega.{arith}
-use lib.Dec.{lit<}
+use lib.Dec.{eqb, lit<}
 use lib.IntN.{ℤ, pos, natAbs, _*ℤ_}
 use lib.Signed.{ltZ}
 use mir.Syntax.{w64}
@@ -148,6 +148,11 @@ pub judged-pair : (limit : ℕ) (a : Weights) (row : Value.Row) (p p′ q q′ r
     → o ≡ judgementOf limit (row .weights)
 unfolding judgementOf
 judged-pair limit a row p p′ q q′ r r′ o eo ea er ep eq er′ = eo ∙ rw (ep, eq, er′, ← er, ea)
+
+-- ---- holds: v is the judgement as it was told
+
+pub told : (v j : Judgement) → j ≡ v → eqb (numberOf v) 0 ≡ eqb (numberOf j) 0
+told v j e = rw e
 
 -- ---- note
 

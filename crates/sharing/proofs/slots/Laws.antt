@@ -224,7 +224,7 @@ module _ (s : List ℕ) (sh : Shape) (f : ProofFacts s sh) (key : ℕ) (α : Exp
   pub key-bound : key < 2 ^ 63
   key-bound = omega (arith, e, carried-low (sh .n) α (f .header .room .few) carried)
 
-  tallied : (i : ℕ) → i ≤ sh .k → tallyOf key (slotsTo s sh i) .count ≡ count α (slotsTo s sh i)
+  pub tallied : (i : ℕ) → i ≤ sh .k → tallyOf key (slotsTo s sh i) .count ≡ count α (slotsTo s sh i)
   tallied i l = rw e (tally-count (sh .n) α carried (slotsTo s sh i) (slots-are s sh f i l .each))
 
   pub held-at : (i own : ℕ) → i ≤ sh .k → holdingOf key (slotsTo s sh (sh .k)) (slotsTo s sh i) own

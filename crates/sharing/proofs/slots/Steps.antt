@@ -249,7 +249,7 @@ module _ (s : List ℕ) (sh : Shape) (i : ℕ) (f : ProofFacts s sh) (l : i < sh
               count-small = omega (arith, bound-b .1, g .1);
             })
 
--- ---- scan and held
+-- ---- scan, slots_with and held
 
 pub scan-end : (s : List ℕ) (sh : Shape) (key i to : ℕ) (b : Tally) → b ≡ tallyOf key (slotsTo s sh i) → to ≤ i → i ≤ to
     → b ≡ tallyOf key (slotsTo s sh to)
@@ -258,6 +258,10 @@ scan-end s sh key i to b h l m = let q : i ≡ to = omega arith in rw q at h
 pub scan-start : (s : List ℕ) (sh : Shape) (key : ℕ) → record { sum = pos 0; count = 0 } ≡ tallyOf key (slotsTo s sh 0)
 unfolding tallyOf
 scan-start s sh key = rw (no-slots s sh, tally-nil)
+
+pub all-counted : (s : List ℕ) (sh : Shape) (key : ℕ) (all : Tally) → all ≡ tallyOf key (slotsTo s sh (sh .k))
+    → all .count ≡ tallyOf key (slotsTo s sh (sh .k)) .count
+all-counted s sh key all e = rw e
 
 module _ (s : List ℕ) (sh : Shape) (f : ProofFacts s sh) (key : ℕ) where
   module _ (i own : ℕ) (before all : Tally) (eb : before ≡ tallyOf key (slotsTo s sh i)) (l : i < sh .k) where

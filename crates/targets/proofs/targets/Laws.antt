@@ -1,13 +1,18 @@
 -- Laws of targets: the aim of checked sheets, and the target as document 01 has it.
-use mathlib.Core.Path.{_≡_, refl}
+use mathlib.Core.Path.{_≡_, refl, fun-ext}
 use mathlib.Core.List.{List}
 use Prim.Native.Nat.{ℕ, _≤_}
-use lib.IntN.{natAbs}
+use native.Mathlib.Omega.{arith}
+use lib.Dec.{lit<}
+use lib.IntN.{ℤ, natAbs}
+use lib.ListN.{length}
+use Rattle.integers.proofs.Integers.{fits-within}
 use Rattle.bounds.specs.Bounds.{greatestWeight, greatestScale}
 use Rattle.points.specs.Points.{Exponents}
 use Rattle.squares.specs.Targets.{lowered, target}
 use Rattle.sheets.specs.Layout.{variables}
-use Rattle.sheets.specs.ClaimSheet.{floorOf, termsOf}
+use Rattle.sheets.specs.ClaimSheet.{floorOf, withFloor, termsOf}
+use Rattle.sheets.proofs.claim_sheet.Laws.{floored-floor, floored-before, floored-terms}
 use Rattle.rows.specs.ProofSheet.{scaleOf}
 use Rattle.targets.specs.Targets.{AimWithin, aimOf, targetOf}
 use Rattle.targets.specs.declared.targets.Aim.{Aim}
@@ -31,3 +36,11 @@ pub target-of : (c : List ℕ) (a : Aim) (α : Exponents)
     → targetOf c a α ≡ target (a .scale) (lowered (variables c) (a .floor) (termsOf c)) α
 unfolding targetOf
 target-of c a α = refl
+
+-- with floor b in the claim they are those of the claim as it stands, for that floor
+pub targets-floored : (c s : List ℕ) (b : ℤ) → 8 ≤ length c → natAbs b ≤ greatestWeight
+    → targetOf (withFloor c b) (aimOf (withFloor c b) s) ≡ targetOf c (record { floor = b; scale = scaleOf s })
+unfolding targetOf aimOf
+targets-floored c s b l w =
+    let read = floored-floor c b l (fits-within b greatestWeight w (lit< tt)) in
+    fun-ext (λ α. rw (read, floored-terms c b, floored-before c b 0 (omega arith)))

@@ -1,5 +1,5 @@
 -- Laws of check 16: it is passed exactly where every target that is not zero has a slot.
-use mathlib.Core.Path.{_≡_, refl, sym, _∙_, ap}
+use mathlib.Core.Path.{_≡_, refl, sym, _∙_, ap, fun-ext}
 use mathlib.Core.Bool.{Bool, true, false, not, cond, _&&_, true≢false}
 use mathlib.Core.List.{List}
 use Prim.Native.Nat.{ℕ, zero, suc, _<_}
@@ -25,8 +25,8 @@ use Rattle.squares.specs.Rows.{slots}
 use Rattle.squares.proofs.Sums.{coefficient-none}
 use Rattle.squares.proofs.Targets.{target-zero, lowered-other}
 use Rattle.sheets.specs.Layout.{variables, termCount}
-use Rattle.sheets.specs.ClaimSheet.{termPoint, termOf, termsOf}
-use Rattle.sheets.proofs.claim_sheet.Laws.{terms-table, term-point, point-length}
+use Rattle.sheets.specs.ClaimSheet.{withFloor, termPoint, termOf, termsOf}
+use Rattle.sheets.proofs.claim_sheet.Laws.{terms-table, term-point, point-length, floored-before, floored-point}
 use Rattle.rows.specs.ProofSheet.{rowsOf}
 use Rattle.targets.specs.Targets.{targetOf}
 use Rattle.targets.specs.declared.targets.Aim.{Aim}
@@ -67,32 +67,40 @@ module _ (τ : Exponents → ℤ) (s : List ℕ) (α : Exponents) where
 met-zero : (τ : Exponents → ℤ) (s : List ℕ) (α : Exponents) → τ α ≡ pos 0 → unheldAt τ s α ≡ false
 met-zero τ s α e = zero-met τ s α (eq-eqb _ 0 (ap natAbs e))
 
+-- at the points that are looked at
+module _ (τ : Exponents → ℤ) (c s : List ℕ) where
+  pub none-passes : ((i : ℕ) → i < suc (termCount c) → unheld τ c s i ≡ false) → Passes (unheldAnswer τ c s)
+  unfolding unheldAnswer
+  none-passes h =
+      let none = all-right (unheld τ c s) (suc (termCount c)) h in
+      passed (Accepted 0) _ (passed-at _ Nothing _ 16 _ none refl (accepted-says 0)) 0 refl
+
+  pub passes-none : Passes (unheldAnswer τ c s) → (i : ℕ) → i < suc (termCount c) → unheld τ c s i ≡ false
+  unfolding unheldAnswer
+  passes-none h = none-wrong _ (suc (termCount c)) (passes-at _ 16 _ refl h .0)
+
+-- and at every other
 module _ (c s : List ℕ) (a : Aim) where
   abbrev τ : Exponents → ℤ
   τ = targetOf c a
 
   pub unheld-passes : ((α : Exponents) → length α ≡ variables c → unheldAt τ s α ≡ false) → Passes (unheldAnswer τ c s)
-  unfolding unheldAnswer unheld
-  unheld-passes h =
-      let none = all-right _ (suc (termCount c)) (λ i l. h _ (point-sized c (variables c) (termCount c) i)) in
-      passed (Accepted 0) _ (passed-at _ Nothing _ 16 _ none refl (accepted-says 0)) 0 refl
+  unfolding unheld
+  unheld-passes h = none-passes τ c s (λ i l. h _ (point-sized c (variables c) (termCount c) i))
 
   module _ (h : Passes (unheldAnswer τ c s)) where
-    listed : (i : ℕ) → i < suc (termCount c) → unheldAt τ s (pointFor c (variables c) (termCount c) i) ≡ false
-    unfolding unheldAnswer unheld
-    listed = none-wrong _ (suc (termCount c)) (passes-at _ 16 _ refl h .0)
-
     listed-constant : unheldAt τ s (replicate (variables c) 0) ≡ false
-    unfolding pointFor
-    listed-constant = rw (le-ltb (termCount c) (termCount c) (omega arith)) at (listed (termCount c) (omega arith))
+    unfolding unheld pointFor
+    listed-constant =
+        rw (le-ltb (termCount c) (termCount c) (omega arith)) at (passes-none τ c s h (termCount c) (omega arith))
 
     listed-terms : All (λ t. unheldAt τ s (t .0) ≡ false) (termsOf c)
-    unfolding pointFor
+    unfolding unheld pointFor
     listed-terms =
         rw (← (terms-table c (variables c) (termCount c) refl refl))
         (all-table (termOf c (variables c) (termCount c)) (λ t. unheldAt τ s (t .0) ≡ false) (termCount c)
         (λ i l. rw (term-point c (variables c) (termCount c) i)
-        (rw (lt-ltb i (termCount c) l) at (listed i (omega arith)))))
+        (rw (lt-ltb i (termCount c) l) at (passes-none τ c s h i (omega arith)))))
 
     -- a point outside the polynomial and its constant has no target
     elsewhere : (α : Exponents) → samePoint α (replicate (variables c) 0) ≡ false → unheldAt τ s α ≡ true → ⊥
@@ -130,6 +138,17 @@ module _ (τ : Exponents → ℤ) (s : List ℕ) (α : Exponents) where
       go : Dec (0 < count α (slots (rowsOf s))) → unheldAt τ s α ≡ false
       go (yes l) = held-met τ s α l
       go (no l) = met-zero τ s α (sym h ∙ unheld-adds τ s α (omega arith))
+
+-- the claim's own floor is not read, since it is in the targets
+module _ (τ : Exponents → ℤ) (c s : List ℕ) (b : ℤ) where
+  each-floored : unheld τ (withFloor c b) s ≡ unheld τ c s
+  unfolding unheld pointFor
+  each-floored = fun-ext (λ i.
+      rw (floored-before c b 0 (omega arith), floored-before c b 1 (omega arith), floored-point c b (variables c) i))
+
+  pub unheld-floored : unheldAnswer τ (withFloor c b) s ≡ unheldAnswer τ c s
+  unfolding unheldAnswer
+  unheld-floored = rw (each-floored, floored-before c b 1 (omega arith))
 
 pub unheld-short : (τ : Exponents → ℤ) (c s : List ℕ) → Bytes c → Short (unheldAnswer τ c s)
 unfolding unheldAnswer

@@ -2,7 +2,7 @@
 use mathlib.Core.Path.{_≡_, refl, sym, _∙_}
 use mathlib.Core.Bool.{Bool, true, false, cond}
 use mathlib.Core.List.{List}
-use Prim.Native.Nat.{ℕ, suc, _+_, _≤_, _<_}
+use Prim.Native.Nat.{ℕ, suc, _+_, _^_, _≤_, _<_}
 use native.Mathlib.Omega.{arith}
 use lib.Dec.{eqb, ltb}
 use lib.IntN.{ℤ, natAbs}
@@ -28,9 +28,9 @@ use Rattle.targets.specs.Targets.{targetOf, Targeted}
 use Rattle.targets.specs.declared.targets.Aim.{Aim}
 use Rattle.targets.proofs.Carried.{term-carried, constant-carried}
 use Rattle.sharing.specs.Sharing.{count}
-use Rattle.sharing.specs.Slots.{slotsTo, HoldsKey, holdsPoint}
+use Rattle.sharing.specs.Slots.{slotsTo, tallyOf, HoldsKey, holdsPoint}
 use Rattle.sharing.specs.Shifts.{CheckedSheets}
-use Rattle.sharing.proofs.slots.Laws.{point-held, point-unheld, all-slots}
+use Rattle.sharing.proofs.slots.Laws.{point-held, point-unheld, all-slots, key-bound, tallied}
 use Rattle.sharing.proofs.shifts.Laws.{proof-checked, targeted}
 use Rattle.weighing.specs.Unheld.{pointFor, unheldAt, unheld}
 use Rattle.weighing.proofs.unheld.Laws.{held-met, zero-met}
@@ -77,7 +77,7 @@ module _ (τ : Exponents → ℤ) (s : List ℕ) (α : Exponents) where
   unfolding unheldAt
   unmet h k = rw (h, eq-eqb _ 0 k)
 
--- ---- first_unheld: n, t and the shape are what the sheets say
+-- ---- is_unheld and first_unheld: n, t and the shape are what the sheets say
 
 module _ (c s : List ℕ) (a : Aim) (given : CheckedSheets c s a) (n t : ℕ) (sh : Shape) (en : n ≡ variables c)
     (et : t ≡ termCount c) (es : sh ≡ shapeOf s) where
@@ -89,6 +89,9 @@ module _ (c s : List ℕ) (a : Aim) (given : CheckedSheets c s a) (n t : ℕ) (s
 
   same-here : n ≡ sh .n
   same-here = en ∙ rw (es, given .same)
+
+  pub point-inside : (i : ℕ) → i ≤ termCount c → i ≤ t
+  point-inside i l = rw et l
 
   -- point i of those that are looked at
   module _ (i : ℕ) where
@@ -121,6 +124,9 @@ module _ (c s : List ℕ) (a : Aim) (given : CheckedSheets c s a) (n t : ℕ) (s
         pub targeted-here : Targeted c a (exponents p) key
         targeted-here = targeted c s a given sh es (exponents p) point-here key e
 
+        pub key-low : key < 2 ^ 63
+        key-low = key-bound s sh proof-here key α carried-too key-here
+
     pub key-carried : (key : ℕ) → key ≡ keyOf α → CarriedKey (sh .n) key
     key-carried key e = record { point = α; carried = carried-too; keyed = e }
 
@@ -143,6 +149,19 @@ module _ (c s : List ℕ) (a : Aim) (given : CheckedSheets c s a) (n t : ℕ) (s
 
       pub target-some : r ≡ false → eqb (natAbs (targetOf c a α)) 0 ≡ false
       target-some h = target-tested ∙ h
+
+      -- m is the number of slots with the point's key
+      module _ (key m : ℕ) (e : key ≡ keyOf (exponents p)) (em : m ≡ tallyOf key (slotsTo s sh (sh .k)) .count) where
+        counted : m ≡ count α (slots (rowsOf s))
+        counted = em ∙ tallied s sh proof-here key α carried-too (key-here p ep key e) (sh .k) (omega arith)
+            ∙ rw slots-here
+
+        pub unheld-counted : r ≡ false → eqb m 0 ≡ unheld (targetOf c a) c s i
+        unfolding unheldAt
+        unheld-counted h = sym (here ∙ rw (target-some h, ← counted))
+
+      pub unheld-zero : r ≡ true → false ≡ unheld (targetOf c a) c s i
+      unheld-zero h = sym (here ∙ zero-met (targetOf c a) s α (target-tested ∙ h))
 
     -- r is what row j answered for the key
     module _ (j key : ℕ) (r : Bool) (e : key ≡ keyOf α) (er : HoldsKey s sh key j r) where

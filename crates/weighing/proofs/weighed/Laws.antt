@@ -1,7 +1,8 @@
 -- Laws of 16 to 19: what it says of the shifted rows that they are passed.
 use mathlib.Core.Path.{_≡_, _∙_}
+use mathlib.Core.Bool.{true, false}
 use mathlib.Core.List.{List}
-use Prim.Native.Nat.{ℕ, _<_}
+use Prim.Native.Nat.{ℕ, suc, _<_}
 use lib.IntN.{ℤ}
 use Rattle.integers.proofs.words.Laws.{Bytes}
 use Rattle.bounds.specs.Bounds.{greatestWeight}
@@ -11,7 +12,8 @@ use Rattle.points.specs.Lists.{All}
 use Rattle.points.specs.Points.{Exponents}
 use Rattle.squares.specs.Rows.{slots, Holds}
 use Rattle.squares.specs.Decomposition.{AddsUp}
-use Rattle.sheets.specs.Layout.{variables, rowCount}
+use Rattle.sheets.specs.Layout.{variables, termCount, rowCount}
+use Rattle.sheets.specs.ClaimSheet.{withFloor}
 use Rattle.rows.specs.ProofSheet.{tripleFor}
 use Rattle.checks.specs.ProofChecks.{Within}
 use Rattle.checks.proofs.proof_checks.Laws.{rows-counted}
@@ -19,10 +21,31 @@ use Rattle.targets.specs.Targets.{targetOf}
 use Rattle.targets.specs.declared.targets.Aim.{Aim}
 use Rattle.sharing.specs.Shifts.{shiftedRow, shiftedRows}
 use Rattle.sharing.proofs.shifts.Laws.{rows-all, rows-each}
-use Rattle.judgements.proofs.judgements.Laws.{judged-passed, judged-accepted, judged-short}
+use Rattle.judgements.specs.Judgements.{judgedAs}
+use Rattle.judgements.proofs.judgements.Laws.{each-holds, holds-accepted, judged-passed, judged-accepted, judged-short}
+use Rattle.weighing.specs.Unheld.{unheld}
 use Rattle.weighing.specs.Exact.{weightsFor, AllWithin}
 use Rattle.weighing.specs.Weighed.{weighedAnswer}
-use Rattle.weighing.proofs.unheld.Laws.{unheld-passes, unheld-passed, met-adds, adds-met, unheld-short}
+use Rattle.weighing.proofs.unheld.Laws.{none-passes, passes-none, unheld-floored, unheld-passes, unheld-passed, met-adds, adds-met, unheld-short}
+
+-- ---- 16 to 19 are passed exactly where no point is unheld that is looked at, and every row is judged to hold
+
+module _ (τ : Exponents → ℤ) (c s : List ℕ) where
+  pub tests-passed : Passes (weighedAnswer τ c s)
+      → ((i : ℕ) → i < suc (termCount c) → unheld τ c s i ≡ false)
+      × ((i : ℕ) → i < rowCount s → judgedAs 0 greatestWeight (shiftedRow τ s) i ≡ true)
+  unfolding weighedAnswer
+  tests-passed h = let p = passes-then _ _ h in (passes-none τ c s (p .0), each-holds _ _ (rowCount s) (p .1))
+
+  pub tests-pass : ((i : ℕ) → i < suc (termCount c) → unheld τ c s i ≡ false)
+      → ((i : ℕ) → i < rowCount s → judgedAs 0 greatestWeight (shiftedRow τ s) i ≡ true)
+      → weighedAnswer τ c s ≡ accepted (rowCount s)
+  unfolding weighedAnswer
+  tests-pass points rows = then-on _ _ (none-passes τ c s points) ∙ holds-accepted _ _ (rowCount s) rows
+
+  pub weighed-floored : (b : ℤ) → weighedAnswer τ (withFloor c b) s ≡ weighedAnswer τ c s
+  unfolding weighedAnswer
+  weighed-floored b = rw (unheld-floored τ c s b)
 
 -- ---- 16 to 19 are passed exactly where the weights are within the limit, every row holds, and they add up
 
