@@ -13,7 +13,7 @@ use Prim.Native.Nat.{ℕ, zero, suc, _+_, _*_, _-_, _<_, _≤_, _^_, min}
 use native.Mathlib.Nat.{mul-le-mul-right}
 use native.Mathlib.Omega.{arith}
 use lib.Dec.{T, ltb, ltb→lt, nltb→le, leb→le, le→leb, lt→ltb}
-use lib.IntN.{ℤ, pos, negsuc, negℤ, natAbs, subℕ, _+ℤ_, _*ℤ_, zero-*ℤ, *ℤ-comm, negℤ-+ℤ, negℤ-negℤ}
+use lib.IntN.{ℤ, pos, negsuc, negℤ, natAbs, subℕ, _+ℤ_, _-ℤ_, _*ℤ_, zero-*ℤ, *ℤ-comm, negℤ-+ℤ, negℤ-negℤ}
 use lib.Signed.{mag, ltZ, leZ, nonNeg, _≤ℤ_, _<ℤ_, ≤ℤ-refl, ltZ-no}
 use mir.Syntax.{Width, w64}
 use mir.Val.{Fits, SFits, hbits, toZ, ofZ}
@@ -362,10 +362,16 @@ nonneg-cancel k (negsuc n) h l = let s = simp ring at (read-le l) in absurd (ome
 pub abs-add : (x y : ℤ) → natAbs (x +ℤ y) ≤ natAbs x + natAbs y
 abs-add x y = rw (by-abs (x +ℤ y)) (simp ring (omega (ints, sizes x, sizes y)))
 
+pub abs-between : {x y z : ℤ} (m : ℕ) → x ≤ℤ y → y ≤ℤ z → natAbs x ≤ m → natAbs z ≤ m → natAbs y ≤ m
+abs-between {x} {y} {z} m l h a b = omega (ints, l, h, a, b, sizes x, sizes y, sizes z)
+
 pub abs-neg : (x : ℤ) → natAbs (negℤ x) ≡ natAbs x
 abs-neg (pos zero) = refl
 abs-neg (pos (suc n)) = refl
 abs-neg (negsuc n) = refl
+
+pub abs-sub : (x y : ℤ) → natAbs (x -ℤ y) ≤ natAbs x + natAbs y
+abs-sub x y = omega (arith, abs-add x (negℤ y), abs-neg y)
 
 pub abs-mul : (x y : ℤ) → natAbs (x *ℤ y) ≡ natAbs x * natAbs y
 abs-mul (pos a) (pos b) = refl

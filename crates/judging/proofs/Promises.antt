@@ -137,7 +137,7 @@ module _ (c s out : List ℕ) where
   abbrev Passed : Type 0
   Passed = Passes (checkAnswer c s (length out))
 
-  written : Passed → outputOf c s out ≡ exactProof (targetsOf c s) s ++ drop (length s) out
+  pub written : Passed → outputOf c s out ≡ exactProof (targetsOf c s) s ++ drop (length s) out
   unfolding outputOf
   written h = rw h
 

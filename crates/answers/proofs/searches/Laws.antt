@@ -61,6 +61,12 @@ module _ (wrong : ℕ → Bool) where
   pub first-end : (n i : ℕ) → n ≤ i → i ≤ n → first wrong i ≡ Nothing → Nothing ≡ first wrong n
   first-end n i l m h = let q : i ≡ n = omega arith in sym (rw q at h)
 
+-- two tests that agree below n find the same
+pub first-same : (f g : ℕ → Bool) (n : ℕ) → ((i : ℕ) → i < n → f i ≡ g i) → first f n ≡ first g n
+unfolding first
+first-same f g zero h = refl
+first-same f g (suc n) h = rw (first-same f g n (λ i l. h i (omega arith)), h n (omega arith))
+
 -- where nothing is wrong at any index below n there is none
 pub all-right : (wrong : ℕ → Bool) (n : ℕ) → ((i : ℕ) → i < n → wrong i ≡ false) → Nothing ≡ first wrong n
 unfolding first kept

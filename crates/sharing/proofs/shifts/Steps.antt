@@ -6,13 +6,13 @@ use mathlib.Core.List.{List, [], _∷_}
 use Prim.Native.Nat.{ℕ, _+_, _*_, _^_, _<_, _≤_}
 use native.Mathlib.Omega.{arith}
 use lib.Dec.{lit<}
-use lib.IntN.{ℤ, negℤ, natAbs, _+ℤ_, _-ℤ_}
+use lib.IntN.{ℤ, natAbs, _+ℤ_, _-ℤ_}
 use borrow.Author.Tests.{eq-eqb}
 use mir.Syntax.{w64}
 use mir.Val.{SFits}
 use mir.Facts.{toZ-ofZ}
 use Rattle.integers.specs.Division.{share}
-use Rattle.integers.proofs.Integers.{back, abs-add, abs-neg, fits-within}
+use Rattle.integers.proofs.Integers.{back, abs-add, abs-sub, fits-within}
 use Rattle.integers.proofs.division.Laws.{share-abs}
 use Rattle.bounds.specs.Bounds.{greatestWeight}
 use Rattle.points.specs.Points.{Exponents, exponents, pointOf, samePoint, midpointOf}
@@ -47,7 +47,7 @@ use Rattle.sharing.proofs.shifts.Laws.{proof-checked}
 
 module _ (z z′ : ℤ) (h : Holding) (ha : natAbs z ≤ 2 ^ 51) (hs : natAbs (h .sum) ≤ 2 ^ 42) (ea : z′ ≡ z) where
   error-small : natAbs (z -ℤ h .sum) ≤ 2 ^ 52
-  error-small = omega (arith, abs-add z (negℤ (h .sum)), abs-neg (h .sum))
+  error-small = omega (arith, abs-sub z (h .sum))
 
   sum-back : back (h .sum) ≡ h .sum
   sum-back = toZ-ofZ (fits-within {w = w64} (h .sum) (2 ^ 42) hs (lit< tt))

@@ -15,7 +15,7 @@ use borrow.Author.Tests.{eq-eqb, ne-eqb}
 use mir.Syntax.{w64}
 use mir.Val.{SFits, toZ}
 use mir.Facts.{toZ-pos, toZ-ofZ}
-use Rattle.integers.proofs.Integers.{back, abs-add, abs-neg, abs-mul, fits-within, ltZ-true, ltZ-false}
+use Rattle.integers.proofs.Integers.{back, abs-sub, abs-neg, abs-mul, fits-within, ltZ-true, ltZ-false}
 use Rattle.bounds.specs.Bounds.{greatestWeight, greatestScale}
 use Rattle.answers.specs.Searches.{first}
 use Rattle.answers.specs.declared.searches.Found.{Found}
@@ -46,7 +46,7 @@ use Rattle.targets.proofs.Carried.{term-carried, constant-carried, carr
 -- ---- lowered_by: x is a coefficient
 
 difference-small : (x b : ℤ) → natAbs x ≤ greatestWeight → natAbs b ≤ greatestWeight → natAbs (x -ℤ b) ≤ 2 ^ 31
-difference-small x b hx hb = omega (arith, abs-add x (negℤ b), abs-neg b)
+difference-small x b hx hb = omega (arith, abs-sub x b)
 
 module _ (x x′ : ℤ) (a : Aim) (key : ℕ) (hx : natAbs x ≤ greatestWeight) (ha : AimWithin a) (ex : x′ ≡ x) where
   floor-back : back (a .floor) ≡ a .floor

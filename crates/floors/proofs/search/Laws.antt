@@ -1,0 +1,89 @@
+-- Laws of the search: the floors of a right range, and that 16 to 19 decide on each of them.
+use mathlib.Core.Path.{_≡_, refl, sym, _∙_, ap}
+use mathlib.Core.Bool.{false}
+use mathlib.Core.List.{List}
+use Prim.Native.Nat.{ℕ, suc, _<_, _≤_}
+use native.Mathlib.Omega.{arith}
+use lib.IntN.{ℤ, pos, natAbs, _-ℤ_}
+use lib.Signed.{_≤ℤ_}
+use Rattle.integers.proofs.Integers.{ring, ints, by-le, read-eq, ltZ-false, abs-nonneg, abs-between}
+use Rattle.integers.proofs.Tests.{nor}
+use Rattle.bounds.specs.Bounds.{greatestWeight, greatestSpan}
+use Rattle.bounds.proofs.bounds.Laws.{within-bound}
+use Rattle.answers.specs.Answers.{blameless, Passes}
+use Rattle.answers.specs.Searches.{first}
+use Rattle.answers.proofs.answers.Laws.{passes-then, passes-if}
+use Rattle.answers.proofs.searches.Laws.{first-same}
+use Rattle.checks.specs.Input.{inputAnswer}
+use Rattle.checks.proofs.input.Laws.{input-formed}
+use Rattle.sharing.specs.Shifts.{CheckedSheets}
+use Rattle.sharing.proofs.shifts.Laws.{sheets-checked}
+use Rattle.judging.proofs.check.Laws.{floored-answer}
+use Rattle.floors.specs.Search.{rangeWrong, rangeAnswer, floorCount, floorAfter, accepts, refusedBefore, aimAfter, passesAfter, Searchable}
+
+-- ---- a right range
+
+module _ (lo hi : ℤ) (h : rangeWrong lo hi ≡ false) where
+  pub ranged : (lo ≤ℤ hi) × (natAbs lo ≤ greatestWeight) × (natAbs hi ≤ greatestWeight)
+      × (natAbs (hi -ℤ lo) ≤ greatestSpan)
+  unfolding rangeWrong
+  ranged =
+      let d = nor _ _ h in
+      let b = nor _ _ (d .0) in
+      let a = nor _ _ (b .0) in (
+        ltZ-false hi lo (a .0),
+        within-bound greatestWeight lo (a .1),
+        within-bound greatestWeight hi (b .1),
+        within-bound greatestSpan (hi -ℤ lo) (d .1),
+      )
+
+  pub high-within : natAbs hi ≤ greatestWeight
+  high-within = ranged .2
+
+  -- the last floor is lo
+  pub span-whole : pos (natAbs (hi -ℤ lo)) ≡ hi -ℤ lo
+  span-whole = let l = ranged .0 in abs-nonneg (by-le (simp ring (omega (ints, l))))
+
+  -- the floor after i others
+  module _ (i : ℕ) (l : i < floorCount lo hi) where
+    pub after-few : i ≤ greatestSpan
+    unfolding floorCount
+    after-few = omega (arith, l, ranged .3)
+
+    pub after-low : lo ≤ℤ floorAfter hi i
+    unfolding floorAfter floorCount
+    after-low = let e = simp ring at (read-eq span-whole) in by-le (simp ring (omega (ints, e, l)))
+
+    pub after-high : floorAfter hi i ≤ℤ hi
+    unfolding floorAfter
+    after-high = by-le (simp ring (omega ints))
+
+    pub after-within : natAbs (floorAfter hi i) ≤ greatestWeight
+    after-within = abs-between greatestWeight after-low after-high (ranged .1) high-within
+
+-- ---- sheets and a range that pass 1 to 15 and 22
+
+module _ (c s : List ℕ) (lo hi : ℤ) (room : ℕ) (h : Passes (rangeAnswer c s lo hi room)) where
+  pub input-passed : Passes (inputAnswer c s room)
+  unfolding rangeAnswer
+  input-passed = passes-then _ _ h .0
+
+  pub range-passed : rangeWrong lo hi ≡ false
+  unfolding rangeAnswer
+  range-passed = passes-if _ 22 _ refl (passes-then _ _ h .1) .0
+
+  pub searchable : Searchable c s lo hi
+  searchable = record {
+    sheets = sheets-checked c s (input-formed c s room input-passed);
+    ranged = range-passed;
+  }
+
+  -- the check of each floor
+  pub accepts-after : (i : ℕ) → i < floorCount lo hi → accepts c s room (floorAfter hi i) ≡ passesAfter c s hi i
+  unfolding accepts passesAfter aimAfter
+  accepts-after i l =
+      ap blameless (floored-answer c s room input-passed (floorAfter hi i) (after-within lo hi range-passed i l))
+
+  pub refused-before : refusedBefore c s lo hi room ≡ first (passesAfter c s hi) (floorCount lo hi)
+  unfolding refusedBefore
+  refused-before = first-same _ _ (floorCount lo hi) accepts-after

@@ -1,0 +1,218 @@
+-- The steps of the search. A prime marks a number as the machine reads it back.
+use mathlib.Core.Path.{_≡_, refl, sym, _∙_, ap}
+use mathlib.Core.Bool.{Bool, true, false, _||_}
+use mathlib.Core.List.{List, _++_}
+use Prim.Native.Nat.{ℕ, suc, _+_, _<_, _≤_}
+use native.Mathlib.Omega.{arith}
+use lib.Dec.{lit<}
+use lib.IntN.{ℤ, pos, natAbs, _-ℤ_}
+use lib.ListN.{length, drop}
+use lib.Signed.{ltZ}
+use mir.Syntax.{w64}
+use mir.Val.{Fits, SFits, toZ}
+use mir.Facts.{toZ-ofZ, toZ-pos}
+use Rattle.integers.proofs.Integers.{back, abs-sub, fits-within}
+use Rattle.bounds.specs.Bounds.{greatestWeight, greatestSpan, beyond}
+use Rattle.bounds.proofs.bounds.Laws.{within-bound}
+use Rattle.answers.specs.Answers.{says, blameless}
+use Rattle.answers.specs.Searches.{first}
+use Rattle.answers.specs.declared.answers.Sheet.{Sheet}
+use Rattle.answers.specs.declared.answers.Sheet.the-variants.{Range}
+use Rattle.answers.specs.declared.answers.Verdict.{Verdict}
+use Rattle.answers.specs.declared.answers.Verdict.the-variants as Verdicts
+use Rattle.answers.specs.declared.searches.Found as Searches
+use Rattle.answers.specs.declared.searches.Found.the-variants.{At, Nothing}
+use Rattle.answers.proofs.answers.Laws.{then-refused, then-passed, refused-if, passed-if, refused-says, accepted-says}
+use Rattle.answers.proofs.searches.Laws.{first-stop, first-next, first-end, first-inside}
+use Rattle.checks.specs.Input.{inputAnswer}
+use Rattle.rows.specs.ProofSheet.{scaleOf}
+use Rattle.targets.specs.Targets.{targetOf}
+use Rattle.targets.specs.declared.targets.Aim.{Aim}
+use Rattle.sharing.specs.Shifts.{CheckedSheets}
+use Rattle.weighing.specs.Weighed.{weighedAnswer}
+use Rattle.floors.specs.Search.{rangeWrong, rangeAnswer, floorCount, floorAfter, aimAfter, passesAfter, Searchable}
+use Rattle.floors.specs.Trials.{testCount, turned, failsFrom}
+use Rattle.floors.proofs.search.Laws.{ranged, high-within, after-few, after-within}
+use Rattle.floors.proofs.trials.Laws.{ring-passed, ring-failed}
+use Rattle.floors.proofs.trials.Steps.{tests-few}
+
+-- ---- hi less lo
+
+module _ (lo hi lo′ hi′ : ℤ) (el : lo′ ≡ lo) (eh : hi′ ≡ hi) where
+  module _ (wl : natAbs lo ≤ greatestWeight) (wh : natAbs hi ≤ greatestWeight) where
+    difference-fits : SFits w64 (hi′ -ℤ lo′)
+    difference-fits =
+        rw (el, eh) (fits-within (hi -ℤ lo) (greatestWeight + greatestWeight) (omega (arith, abs-sub hi lo)) (lit< tt))
+
+    difference-is : back (hi′ -ℤ lo′) ≡ hi -ℤ lo
+    difference-is = toZ-ofZ difference-fits ∙ rw (el, eh)
+
+  -- ---- range_wrong: a and b are what the tests of lo and hi answered
+
+  pub range-order : ltZ hi′ lo′ ≡ true → true ≡ rangeWrong lo hi
+  unfolding rangeWrong
+  range-order h = let k : ltZ hi lo ≡ true = rw (el, eh) at h in rw k
+
+  module _ (o : ltZ hi′ lo′ ≡ false) (a : Bool) (ea : a ≡ beyond greatestWeight lo′) where
+    ordered : ltZ hi lo ≡ false
+    ordered = rw (el, eh) at o
+
+    low : beyond greatestWeight lo ≡ a
+    low = sym (ea ∙ rw el)
+
+    pub range-low : a ≡ true → true ≡ rangeWrong lo hi
+    unfolding rangeWrong
+    range-low h = rw (ordered, low, h)
+
+    module _ (ha : a ≡ false) (b : Bool) (eb : b ≡ beyond greatestWeight hi′) where
+      high : beyond greatestWeight hi ≡ b
+      high = sym (eb ∙ rw eh)
+
+      pub range-high : b ≡ true → true ≡ rangeWrong lo hi
+      unfolding rangeWrong
+      range-high h = rw (ordered, low, ha, high, h)
+
+      module _ (hb : b ≡ false) where
+        low-small : natAbs lo ≤ greatestWeight
+        low-small = within-bound greatestWeight lo (low ∙ ha)
+
+        high-small : natAbs hi ≤ greatestWeight
+        high-small = within-bound greatestWeight hi (high ∙ hb)
+
+        pub span-fits : SFits w64 (hi′ -ℤ lo′)
+        span-fits = difference-fits low-small high-small
+
+        pub range-span : (d : Bool) → d ≡ beyond greatestSpan (back (hi′ -ℤ lo′)) → d ≡ rangeWrong lo hi
+        unfolding rangeWrong
+        range-span d ed = ed ∙ rw (difference-is low-small high-small, ordered, low, ha, high, hb)
+
+  -- ---- floor_count: m is the size of the difference
+
+  module _ (h : rangeWrong lo hi ≡ false) where
+    pub count-fits : SFits w64 (hi′ -ℤ lo′)
+    count-fits = difference-fits (ranged lo hi h .1) (ranged lo hi h .2)
+
+    module _ (m : ℕ) (em : m ≡ natAbs (back (hi′ -ℤ lo′))) where
+      size : m ≡ natAbs (hi -ℤ lo)
+      size = em ∙ ap natAbs (difference-is (ranged lo hi h .1) (ranged lo hi h .2))
+
+      pub count-small : Fits w64 (m + 1)
+      count-small = omega (arith, size, ranged lo hi h .3)
+
+      pub count-is : m + 1 ≡ floorCount lo hi
+      unfolding floorCount
+      count-is = omega (arith, size)
+
+-- ---- check_range: v is the verdict on 1 to 15, r whether the range is wrong
+
+module _ (c s : List ℕ) (lo hi : ℤ) (room : ℕ) (v : Verdict) (e : says v ≡ inputAnswer c s room) where
+  pub input-refused : (x : Sheet) → v ≡ Verdicts.Refused x → says v ≡ rangeAnswer c s lo hi room
+  unfolding rangeAnswer
+  input-refused x h = then-refused v _ e x h _
+
+  module _ (j : ℕ) (h : v ≡ Verdicts.Accepted j) (r : Bool) (lo′ hi′ : ℤ) (er : r ≡ rangeWrong lo′ hi′)
+      (el : lo′ ≡ lo) (eh : hi′ ≡ hi) where
+    tested : (b : Bool) → r ≡ b → rangeWrong lo hi ≡ b
+    tested b w = sym (er ∙ rw (el, eh)) ∙ w
+
+    pub range-refused : r ≡ true → says (Verdicts.Refused (Range 22 0)) ≡ rangeAnswer c s lo hi room
+    unfolding rangeAnswer
+    range-refused w =
+        then-passed v _ e j h _ _ (refused-if _ _ 22 _ (tested true w) (refused-says (Range 22 0) 22 0 refl))
+
+    pub range-right : r ≡ false → says (Verdicts.Accepted 0) ≡ rangeAnswer c s lo hi room
+    unfolding rangeAnswer
+    range-right w = then-passed v _ e j h _ _ (passed-if _ _ 22 _ (tested false w) (accepted-says 0))
+
+-- ---- aim_after: S is the proof's scale
+
+module _ (s : List ℕ) (hi hi′ : ℤ) (i : ℕ) (eh : hi′ ≡ hi) (w : natAbs hi ≤ greatestWeight) (l : i ≤ greatestSpan) where
+  step-is : toZ w64 i ≡ pos i
+  step-is = toZ-pos w64 (omega arith)
+
+  pub after-fits : SFits w64 (hi′ -ℤ toZ w64 i)
+  after-fits =
+      rw (eh, step-is)
+      (fits-within (hi -ℤ pos i) (greatestWeight + greatestSpan) (omega (arith, abs-sub hi (pos i))) (lit< tt))
+
+  pub after-is : (S : ℕ) → S ≡ scaleOf s → record { floor = back (hi′ -ℤ toZ w64 i); scale = S } ≡ aimAfter s hi i
+  unfolding aimAfter floorAfter
+  after-is S eS = rw (toZ-ofZ after-fits, eh, step-is, eS)
+
+-- ---- walk: m is the number of floors and n that of the tests, a the aim of a floor, f what its trial found
+
+module _ (c s : List ℕ) (lo hi : ℤ) (given : Searchable c s lo hi) where
+  pub claim-eight : 8 ≤ length c
+  claim-eight = omega (arith, given .sheets .claim .sized)
+
+  pub proof-eight : 8 ≤ length s
+  proof-eight = omega (arith, given .sheets .proof .header .sized)
+
+  module _ (n : ℕ) (en : n ≡ testCount c s) where
+    pub tests-some : 0 < n
+    unfolding testCount
+    tests-some = omega (arith, en)
+
+    pub walk-tests : n ≤ 65536
+    walk-tests = tests-few c s n en _ (given .sheets)
+
+  module _ (lo′ hi′ : ℤ) (el : lo′ ≡ lo) (eh : hi′ ≡ hi) where
+    pub walk-end : (i m : ℕ) → m ≡ floorCount lo′ hi′ → m ≤ i → i ≤ m → first (passesAfter c s hi′) i ≡ Nothing
+        → Nothing ≡ first (passesAfter c s hi) (floorCount lo hi)
+    walk-end i m em l h before = rw (← eh, ← el) (first-end _ _ i (rw em at l) (rw em at h) before)
+
+    pub walk-range : rangeWrong lo′ hi′ ≡ false
+    walk-range = rw (el, eh) (given .ranged)
+
+    pub walk-high : natAbs hi′ ≤ greatestWeight
+    walk-high = rw eh (high-within lo hi (given .ranged))
+
+    module _ (i m : ℕ) (em : m ≡ floorCount lo′ hi′) (l : i < m) where
+      inside : i < floorCount lo hi
+      inside = rw (em, el, eh) at l
+
+      pub walk-few : i ≤ greatestSpan
+      walk-few = after-few lo hi (given .ranged) i inside
+
+      module _ (a : Aim) (ea : a ≡ aimAfter s hi′ i) where
+        pub walk-checked : CheckedSheets c s a
+        unfolding aimAfter
+        walk-checked =
+            let g = given .sheets in
+            rw (ea, eh)
+            (record {
+              claim = g .claim;
+              proof = g .proof;
+              same = g .same;
+              aim = record {
+                floor-within = after-within lo hi (given .ranged) i inside;
+                scale-within = g .proof .header .scale-within;
+              };
+            })
+
+        module _ (n last : ℕ) (en : n ≡ testCount c s) (ll : last < n) (f : Searches.Found)
+            (ef : f ≡ first (failsFrom (targetOf c a) c s last) n) where
+          from-inside : last < testCount c s
+          from-inside = rw en at ll
+
+          pub trial-passed : f ≡ Nothing → true ≡ passesAfter c s hi′ i
+          unfolding passesAfter
+          trial-passed h =
+              sym (rw (← ea) (ring-passed (targetOf c a) c s last from-inside (rw en at (sym ef ∙ h))))
+
+          module _ (j : ℕ) (h : f ≡ At j) where
+            pub trial-failed : false ≡ passesAfter c s hi′ i
+            unfolding passesAfter
+            trial-failed =
+                sym (rw (← ea) (ring-failed (targetOf c a) c s last from-inside j (rw en at (sym ef ∙ h))))
+
+            pub test-below : j < n
+            test-below = first-inside _ n j (sym ef ∙ h) .0
+
+      pub walk-next : false ≡ passesAfter c s hi′ i → first (passesAfter c s hi′) i ≡ Nothing
+          → first (passesAfter c s hi′) (i + 1) ≡ Nothing
+      walk-next h before = first-next _ i false before h refl
+
+      pub walk-stop : true ≡ passesAfter c s hi′ i → first (passesAfter c s hi′) i ≡ Nothing
+          → At i ≡ first (passesAfter c s hi) (floorCount lo hi)
+      walk-stop h before = rw (← eh, ← el) (first-stop _ (floorCount lo′ hi′) i true (rw em at l) before h refl)

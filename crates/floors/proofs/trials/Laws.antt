@@ -1,0 +1,105 @@
+-- Laws of trials: from wherever they are begun, none of the tests fails exactly where 16 to 19 are passed.
+use mathlib.Core.Path.{_≡_, sym, _∙_}
+use mathlib.Core.Bool.{Bool, true, false, not, true≢false}
+use mathlib.Core.List.{List}
+use Prim.Native.Nat.{ℕ, suc, _+_, _-_, _<_, _≤_}
+use native.Mathlib.Decide.{decLt}
+use native.Mathlib.Omega.{arith}
+use lib.IntN.{ℤ}
+use borrow.Author.Tests.{lt-ltb, le-ltb, not-false}
+use Rattle.bounds.specs.Bounds.{greatestWeight}
+use Rattle.answers.specs.Answers.{blameless, Passes}
+use Rattle.answers.specs.Searches.{first}
+use Rattle.answers.specs.declared.searches.Found.the-variants.{At, Nothing}
+use Rattle.answers.proofs.answers.Laws.{passes-or-fails, accepted-passes}
+use Rattle.answers.proofs.searches.Laws.{none-wrong, first-inside}
+use Rattle.points.specs.Points.{Exponents}
+use Rattle.sheets.specs.Layout.{termCount, rowCount}
+use Rattle.sharing.specs.Shifts.{shiftedRow}
+use Rattle.judgements.specs.Judgements.{judgedAs}
+use Rattle.weighing.specs.Unheld.{unheld}
+use Rattle.weighing.specs.Weighed.{weighedAnswer}
+use Rattle.weighing.proofs.weighed.Laws.{tests-passed, tests-pass}
+use Rattle.floors.specs.Trials.{pointCount, testCount, fails, turned, failsFrom}
+
+-- ---- the ring
+
+module _ (n from : ℕ) where
+  pub turned-on : (i : ℕ) → from + i < n → turned n from i ≡ from + i
+  unfolding turned
+  turned-on i l = rw (lt-ltb (from + i) n l)
+
+  pub turned-round : (i : ℕ) → n ≤ from + i → turned n from i ≡ from + i - n
+  unfolding turned
+  turned-round i l = rw (le-ltb (from + i) n l)
+
+  module _ (inside : from < n) where
+    turned-inside : (i : ℕ) → i < n → turned n from i < n
+    turned-inside i l = go (decLt (from + i) n)
+      where
+        go : Dec (from + i < n) → turned n from i < n
+        go (yes m) = rw (turned-on i m) m
+        go (no m) = rw (turned-round i (omega arith)) (omega arith)
+
+    -- every test is met
+    turned-all : (P : ℕ → Type 0) → ((i : ℕ) → i < n → P (turned n from i)) → (j : ℕ) → j < n → P j
+    turned-all P h j l = go (decLt j from)
+      where
+        go : Dec (j < from) → P j
+        go (no m) =
+            let i : ℕ = j - from in
+            let e : from + i ≡ j = omega arith in
+            rw (turned-on i (omega arith), e) at (h i (omega arith))
+        go (yes m) =
+            let i : ℕ = j + n - from in
+            let e : from + i - n ≡ j = omega arith in
+            rw (turned-round i (omega arith), e) at (h i (omega arith))
+
+-- ---- the tests
+
+module _ (τ : Exponents → ℤ) (c s : List ℕ) where
+  pub fails-point : (i : ℕ) → i < pointCount c → fails τ c s i ≡ unheld τ c s i
+  unfolding fails
+  fails-point i l = rw (lt-ltb i (pointCount c) l)
+
+  pub fails-row : (i : ℕ) → pointCount c ≤ i
+      → fails τ c s i ≡ not (judgedAs 0 greatestWeight (shiftedRow τ s) (i - pointCount c))
+  unfolding fails
+  fails-row i l = rw (le-ltb i (pointCount c) l)
+
+  none-fails : ((i : ℕ) → i < testCount c s → fails τ c s i ≡ false) → Passes (weighedAnswer τ c s)
+  unfolding testCount
+  none-fails h =
+      accepted-passes _ (rowCount s)
+      (tests-pass τ c s (λ i l. sym (fails-point i l) ∙ h i (omega arith))
+      (λ i l.
+      let e : pointCount c + i - pointCount c ≡ i = omega arith in
+      not-false _
+      (rw e at (sym (fails-row (pointCount c + i) (omega arith)) ∙ h (pointCount c + i) (omega arith)))))
+
+  passes-none : Passes (weighedAnswer τ c s) → (i : ℕ) → i < testCount c s → fails τ c s i ≡ false
+  unfolding testCount
+  passes-none h i l = go (decLt i (pointCount c))
+    where
+      go : Dec (i < pointCount c) → fails τ c s i ≡ false
+      go (yes m) = fails-point i m ∙ tests-passed τ c s h .0 i m
+      go (no m) =
+          fails-row i (omega arith) ∙ rw (tests-passed τ c s h .1 (i - pointCount c) (omega arith))
+
+  -- from any of them on
+  module _ (from : ℕ) (inside : from < testCount c s) where
+    pub ring-passed : first (failsFrom τ c s from) (testCount c s) ≡ Nothing → Passes (weighedAnswer τ c s)
+    unfolding failsFrom
+    ring-passed h =
+        none-fails (turned-all (testCount c s) from inside (λ j. fails τ c s j ≡ false) (none-wrong _ _ h))
+
+    pub ring-failed : (i : ℕ) → first (failsFrom τ c s from) (testCount c s) ≡ At i
+        → blameless (weighedAnswer τ c s) ≡ false
+    unfolding failsFrom
+    ring-failed i h =
+        let f = first-inside _ (testCount c s) i h in
+        passes-or-fails (weighedAnswer τ c s)
+        (λ p.
+        absurd
+        (true≢false (sym (f .1) ∙ passes-none p _ (turned-inside (testCount c s) from inside i (f .0)))))
+        (λ q. q)

@@ -1,0 +1,65 @@
+-- The steps of a trial.
+use mathlib.Core.Path.{_≡_, sym, _∙_}
+use mathlib.Core.Bool.{Bool, not}
+use mathlib.Core.List.{List}
+use Prim.Native.Nat.{ℕ, _+_, _-_, _<_, _≤_}
+use native.Mathlib.Omega.{arith}
+use lib.Dec.{eqb}
+use lib.IntN.{ℤ}
+use Rattle.bounds.specs.Bounds.{greatestWeight}
+use Rattle.points.specs.Points.{Exponents}
+use Rattle.sheets.specs.Layout.{termCount, rowCount}
+use Rattle.targets.specs.declared.targets.Aim.{Aim}
+use Rattle.sharing.specs.Shifts.{shiftedRow, CheckedSheets}
+use Rattle.judgements.specs.Judgements.{judgementOf, numberOf, judgedAs}
+use Rattle.judgements.specs.declared.judgements.Judgement.{Judgement}
+use Rattle.weighing.specs.Unheld.{unheld}
+use Rattle.floors.specs.Trials.{testCount, fails, turned, failsFrom}
+use Rattle.floors.proofs.trials.Laws.{turned-on, turned-round, fails-point, fails-row}
+
+-- ---- test_count and fails: t and k are what the sheets say
+
+module _ (c s : List ℕ) (t : ℕ) (et : t ≡ termCount c) where
+  pub tests-counted : (k : ℕ) → k ≡ rowCount s → t + 1 + k ≡ testCount c s
+  unfolding testCount
+  tests-counted k ek = omega (arith, et, ek)
+
+  module _ (τ : Exponents → ℤ) (i : ℕ) where
+    pub point-fails : (r : Bool) → r ≡ unheld τ c s i → i < t + 1 → r ≡ fails τ c s i
+    point-fails r e l = e ∙ sym (fails-point τ c s i (omega (arith, et)))
+
+    module _ (l : t + 1 ≤ i) where
+      pub row-inside : i < testCount c s → i - (t + 1) < rowCount s
+      unfolding testCount
+      row-inside m = omega (arith, et)
+
+      pub row-fails : (j : Judgement) (r : Bool) → j ≡ judgementOf greatestWeight (shiftedRow τ s (i - (t + 1)) .weights)
+          → r ≡ eqb (numberOf j) 0 → not r ≡ fails τ c s i
+      unfolding judgedAs
+      row-fails j r ej er =
+          let e : i - (t + 1) ≡ i - Prim.Native.Nat.suc (termCount c) = omega (arith, et) in
+          rw (er, ej, e) (sym (fails-row τ c s i (omega (arith, et))))
+
+-- ---- turn
+
+module _ (n from i : ℕ) where
+  pub turn-on : from + i < n → from + i ≡ turned n from i
+  turn-on l = sym (turned-on n from i l)
+
+  pub turn-round : n ≤ from + i → from + i - n ≡ turned n from i
+  turn-round l = sym (turned-round n from i l)
+
+-- ---- first_failing: n is the number of tests, j the test that is met
+
+module _ (c s : List ℕ) (n : ℕ) (en : n ≡ testCount c s) where
+  pub tests-few : (a : Aim) → CheckedSheets c s a → n ≤ 65536
+  unfolding testCount
+  tests-few a given = omega (arith, en, given .claim .room .terms, given .proof .header .room .rows)
+
+  module _ (τ : Exponents → ℤ) (from i j : ℕ) (ej : j ≡ turned n from i) where
+    pub test-met : (r : Bool) → r ≡ fails τ c s j → r ≡ failsFrom τ c s from i
+    unfolding failsFrom
+    test-met r e = e ∙ rw (ej, en)
+
+  pub test-inside : (j : ℕ) → j < n → j < testCount c s
+  test-inside j l = rw en at l

@@ -1,0 +1,119 @@
+// The search for the highest floor that a proof carries, from hi down to lo.
+use crate::trials::first_failing;
+use crate::trials::test_count;
+use crate::trials::turn;
+use answers::answers::Sheet;
+use answers::answers::Verdict;
+use answers::searches::Found;
+use bounds::bounds::GREATEST_SPAN;
+use bounds::bounds::GREATEST_WEIGHT;
+use bounds::bounds::is_beyond;
+use checks::input::check_input;
+use integers::magnitudes::magnitude;
+use rows::proof_sheet::row_count;
+use rows::proof_sheet::scale;
+use targets::targets::Aim;
+use weighing::exact::write_exact;
+ghost use mathlib.Core.Path.{_≡_};
+ghost use mathlib.Core.Bool.{false};
+ghost use Prim.Native.Nat.{_≤_, _<_};
+ghost use lib.IntN.{natAbs};
+ghost use lib.ListN.{length};
+ghost use Rattle.bounds.specs.Bounds.{greatestWeight, greatestSpan};
+ghost use Rattle.answers.specs.Answers.{says};
+ghost use Rattle.answers.specs.Searches.{first};
+ghost use Rattle.floors.specs.Search.{rangeWrong, rangeAnswer, floorCount, aimAfter, Searchable, passesAfter, found, tells, refusal, searchOf, searchOutput};
+
+// The highest floor that is accepted, how many floors were tried and the number of rows; or the sheet at fault.
+pub enum Searched {
+    Found(i64, u32, usize),
+    Refused(Sheet),
+}
+
+// 22: whether lo is over hi, either is beyond the greatest weight, or they are too far apart.
+fn range_wrong(lo: i64, hi: i64) -> bool
+    ensures { λ r. ⌜ r ≡ rangeWrong lo hi ⌝ }
+{
+    if hi < lo {
+        return true;
+    }
+    if is_beyond(lo, GREATEST_WEIGHT) {
+        return true;
+    }
+    if is_beyond(hi, GREATEST_WEIGHT) {
+        return true;
+    }
+    is_beyond(hi - lo, GREATEST_SPAN)
+}
+
+// The checks 1 to 15, then 22; the room is the output's length.
+fn check_range(claim: &[u8], proof: &[u8], lo: i64, hi: i64, room: usize) -> Verdict
+    ensures { λ r. ⌜ says r ≡ rangeAnswer (now (claim .entry)) (now (proof .entry)) lo hi room ⌝ }
+{
+    let formed = check_input(claim, proof, room);
+    let Verdict::Accepted(_) = formed else {
+        return formed;
+    };
+    if range_wrong(lo, hi) {
+        return Verdict::Refused(Sheet::Range(22, 0));
+    }
+    Verdict::Accepted(0)
+}
+
+// How many floors there are from lo to hi.
+fn floor_count(lo: i64, hi: i64) -> usize
+    requires { ⌜ rangeWrong lo hi ≡ false ⌝ }
+    ensures { λ r. ⌜ r ≡ floorCount lo hi ⌝ }
+{
+    magnitude(hi - lo) as usize + 1
+}
+
+// What is tried after i floors: the floor that many below hi, with the proof's scale.
+fn aim_after(proof: &[u8], hi: i64, i: usize) -> Aim
+    requires { ⌜ (8 ≤ length (now proof)) × (natAbs hi ≤ greatestWeight) × (i ≤ greatestSpan) ⌝ }
+    ensures { λ r. ⌜ r ≡ aimAfter (now (proof .entry)) hi i ⌝ }
+{
+    Aim {
+        floor: hi - i as i64,
+        scale: scale(proof),
+    }
+}
+
+// How many floors fail before the first that passes 16 to 19. Each is tried first by the test that refused the one
+// before; that test mostly refuses it too, and no answer depends on which it was.
+fn walk(claim: &[u8], proof: &[u8], lo: i64, hi: i64) -> Found
+    requires { ⌜ Searchable (now claim) (now proof) lo hi ⌝ }
+    ensures { λ r. ⌜ r ≡ first (passesAfter (now (claim .entry)) (now (proof .entry)) hi) (floorCount lo hi) ⌝ }
+{
+    let tests = test_count(claim, proof);
+    let floors = floor_count(lo, hi);
+    let mut last = 0;
+    let mut i = 0;
+    while i < floors {
+        let Found::At(j) = first_failing(claim, proof, aim_after(proof, hi, i), tests, last) else {
+            return Found::At(i);
+        };
+        last = turn(tests, last, j);
+        i += 1;
+    }
+    Found::Nothing
+}
+
+// Searches for the highest floor from hi down to lo whose check is accepted, and writes that floor's exact proof into
+// the output as its check does; a refusal writes nothing.
+pub fn search(claim: &[u8], proof: &[u8], lo: i64, hi: i64, output: &mut [u8]) -> Searched
+    ensures answer { λ r. ⌜ tells r
+        ≡ searchOf (now (claim .entry)) (now (proof .entry)) lo hi (length (now (output .entry))) ⌝ }
+    ensures written { λ r. ⌜ now (output .exit)
+        ≡ searchOutput (now (claim .entry)) (now (proof .entry)) lo hi (now (output .entry)) ⌝ }
+{
+    if let Verdict::Refused(sheet) = check_range(claim, proof, lo, hi, output.len()) {
+        return Searched::Refused(sheet);
+    }
+    let Found::At(i) = walk(claim, proof, lo, hi) else {
+        return Searched::Refused(Sheet::Range(23, 0));
+    };
+    let aim = aim_after(proof, hi, i);
+    write_exact(claim, proof, aim, output);
+    Searched::Found(aim.floor, i as u32 + 1, row_count(proof))
+}
