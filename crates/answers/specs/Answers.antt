@@ -100,7 +100,7 @@ andThen answer later = cond (blameless answer) later answer
 abbrev pub Passes : Answer → Type 0
 Passes answer = blameless answer ≡ true
 
--- a number and a value of 16 bits, as every check has them
-pub record Short (answer : Answer) : Type 0 where
-  pub number-short : answer .number < 65536
+-- a number below a limit, and a value of 16 bits, as every check has them
+pub record Short (limit : ℕ) (answer : Answer) : Type 0 where
+  pub number-short : answer .number < limit
   pub value-short : answer .value < 65536

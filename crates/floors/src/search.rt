@@ -20,9 +20,10 @@ ghost use Prim.Native.Nat.{_≤_, _<_};
 ghost use lib.IntN.{natAbs};
 ghost use lib.ListN.{length};
 ghost use Rattle.bounds.specs.Bounds.{greatestWeight, greatestSpan};
-ghost use Rattle.answers.specs.Answers.{says};
+ghost use Rattle.answers.specs.Answers.{says, refused};
 ghost use Rattle.answers.specs.Searches.{first};
-ghost use Rattle.floors.specs.Search.{rangeWrong, rangeAnswer, floorCount, aimAfter, Searchable, passesAfter, found, tells, refusal, searchOf, searchOutput};
+ghost use Rattle.floors.specs.Search.{rangeWrong, rangeAnswer, floorCount, aimAfter, Searchable, passesAfter, found, refusal, tells, searchOf, searchOutput};
+ghost use Rattle.floors.specs.Promises.{SearchPromises};
 
 // The highest floor that is accepted, how many floors were tried and the number of rows; or the sheet at fault.
 pub enum Searched {
@@ -106,6 +107,8 @@ pub fn search(claim: &[u8], proof: &[u8], lo: i64, hi: i64, output: &mut [u8]) -
         ≡ searchOf (now (claim .entry)) (now (proof .entry)) lo hi (length (now (output .entry))) ⌝ }
     ensures written { λ r. ⌜ now (output .exit)
         ≡ searchOutput (now (claim .entry)) (now (proof .entry)) lo hi (now (output .entry)) ⌝ }
+    ensures promises { λ r. ⌜ SearchPromises (now (claim .entry)) (now (proof .entry)) lo hi (now (output .entry))
+        (λ b tried k. tells r ≡ found b tried k) (tells r ≡ refusal (refused 23 0)) (now (output .exit)) ⌝ }
 {
     if let Verdict::Refused(sheet) = check_range(claim, proof, lo, hi, output.len()) {
         return Searched::Refused(sheet);

@@ -3,7 +3,8 @@ use mathlib.Core.Path.{_≡_, _∙_}
 use mathlib.Core.Bool.{false}
 use mathlib.Core.List.{List, _++_, append-nil}
 use mathlib.Core.Logic.{_↔_}
-use Prim.Native.Nat.{ℕ, _≤_}
+use Prim.Native.Nat.{ℕ, _<_, _≤_}
+use native.Mathlib.Omega.{arith}
 use lib.IntN.{ℤ}
 use lib.ListN.{length, take, drop}
 use lib.Seq.{drop-length, take-at, drop-at}
@@ -127,9 +128,10 @@ module _ (c s : List ℕ) where
     exact-bytes b = same-proof τ s (own .proof) exact b
 
   -- the answer is short
-  pub check-short : (room : ℕ) → Bytes c → Bytes s → Short (checkAnswer c s room)
+  pub check-short : {limit : ℕ} (room : ℕ) → 19 < limit → Bytes c → Bytes s → Short limit (checkAnswer c s room)
   unfolding checkAnswer targetsOf
-  check-short room bc bs = short-then _ _ (input-short c s room bc bs) (weighed-short c s (aimOf c s) bc bs)
+  check-short room h bc bs =
+      short-then _ _ (input-short c s room (omega arith) bc bs) (weighed-short c s (aimOf c s) h bc bs)
 
 -- ---- the promises, for whatever is to say that the check accepts, and with how many rows
 

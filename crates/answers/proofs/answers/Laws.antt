@@ -147,31 +147,31 @@ pub accepted-numbers : (a : Answer) (k : ℕ) → a ≡ accepted k → (a .numbe
 unfolding accepted
 accepted-numbers a k e = rw e (refl, refl)
 
--- ---- answers are short: a number and a value of 16 bits each
+-- ---- answers are short: a number below a limit, and a value of 16 bits
 
-pub short-accepted : (k : ℕ) → k < 65536 → Short (accepted k)
+pub short-accepted : {limit : ℕ} (k : ℕ) → 0 < limit → k < 65536 → Short limit (accepted k)
 unfolding accepted
-short-accepted k h = record { number-short = omega arith; value-short = h }
+short-accepted k l h = record { number-short = l; value-short = h }
 
-short-refused : (number index : ℕ) → number < 65536 → index < 65536 → Short (refused number index)
+short-refused : {limit : ℕ} (number index : ℕ) → number < limit → index < 65536 → Short limit (refused number index)
 unfolding refused
 short-refused number index h k = record { number-short = h; value-short = k }
 
-module _ (number : ℕ) (later : Answer) (h : number < 65536) (k : Short later) where
-  pub short-if : (b : Bool) → Short (refuseIf b number later)
+module _ {limit : ℕ} (number : ℕ) (later : Answer) (h : number < limit) (k : Short limit later) where
+  pub short-if : (b : Bool) → Short limit (refuseIf b number later)
   unfolding refuseIf
   short-if true = short-refused number 0 h (omega arith)
   short-if false = k
 
-  pub short-at : (wrong : ℕ → Bool) (n : ℕ) → n ≤ 65536 → Short (refuseAt (first wrong n) number later)
+  pub short-at : (wrong : ℕ → Bool) (n : ℕ) → n ≤ 65536 → Short limit (refuseAt (first wrong n) number later)
   unfolding refuseAt
   short-at wrong n l = go (first wrong n) refl
     where
-      go : (f : Found) → first wrong n ≡ f → Short (refuseAt f number later)
+      go : (f : Found) → first wrong n ≡ f → Short limit (refuseAt f number later)
       go (At i) e = let i-below = first-inside wrong n i e .0 in short-refused number i h (omega arith)
       go Nothing e = k
 
-pub short-then : (a later : Answer) → Short a → Short later → Short (andThen a later)
+pub short-then : {limit : ℕ} (a later : Answer) → Short limit a → Short limit later → Short limit (andThen a later)
 unfolding andThen
 short-then a later h k = passes-or-fails a (λ e. rw e k) (λ e. rw e h)
 

@@ -109,3 +109,16 @@ first-inside wrong (suc n) i h = go (first wrong n) (wrong n) refl refl (first-i
     go Nothing false e k below =
         let s : first wrong (suc n) ≡ Nothing = rw add-one at (first-next wrong n false e (sym k) refl) in
         never (cc)
+
+-- and nothing is wrong before it
+pub first-before : (wrong : ℕ → Bool) (n i : ℕ) → first wrong n ≡ At i → first wrong i ≡ Nothing
+first-before wrong n i h = go (first wrong i) refl
+  where
+    go : (f : Found) → first wrong i ≡ f → f ≡ Nothing
+    go Nothing e = refl
+    go (At j) e =
+        let i-below : i < n = first-inside wrong n i h .0 in
+        let j-below : j < i = first-inside wrong i j e .0 in
+        let stays = le-ind (λ m. first wrong m ≡ At j) e (λ m _. first-stays wrong m j) n (omega arith) in
+        let q : j ≡ i = cc in
+        absurd (omega arith)

@@ -26,11 +26,11 @@ use Rattle.burmelox.specs.Exports.{sheetUnit, numberUnit, codeOf, sheetI
 -- ---- code: x, m and i are the verdict's numbers
 
 module _ (v : Verdict) (x m : ℕ) (ex : x ≡ sheetNumber (says v .blamed)) (em : m ≡ says v .number) where
-  pub sheet-fits : x < 2 ^ 32 → Short (says v) → x * sheetUnit + m * numberUnit < 2 ^ 64
+  pub sheet-fits : x < 2 ^ 32 → Short 65536 (says v) → x * sheetUnit + m * numberUnit < 2 ^ 64
   sheet-fits l h = rw em (omega (arith, l, h .number-short))
 
   module _ (i : ℕ) (ei : i ≡ says v .value) where
-    pub code-fits : x < 2 ^ 32 → Short (says v) → x * sheetUnit + m * numberUnit + i < 2 ^ 64
+    pub code-fits : x < 2 ^ 32 → Short 65536 (says v) → x * sheetUnit + m * numberUnit + i < 2 ^ 64
     code-fits l h = rw (em, ei) (omega (arith, l, h .number-short, h .value-short))
 
     pub code-is : x * sheetUnit + m * numberUnit + i ≡ codeOf (says v)
@@ -51,7 +51,7 @@ module _ (a : Answer) (r : ℕ) (e : r ≡ codeOf a) where
   below-passed l = sheet-passed a (omega (arith, l, e))
 
   -- k is what an acceptance carries
-  module _ (short : Short a) (k : ℕ) (carried : Passes a → a ≡ accepted k) where
+  module _ (short : Short 65536 a) (k : ℕ) (carried : Passes a → a ≡ accepted k) where
     coded : Coded a r
     unfolding codeOf sheetIn numberIn indexIn
     coded = record {
@@ -68,8 +68,8 @@ module _ (a : Answer) (r : ℕ) (e : r ≡ codeOf a) where
 
 module _ (c s out : List ℕ) (v : Verdict) (e : says v ≡ checkAnswer c s (length out)) (bc : Bytes c)
     (bs : Bytes s) where
-  pub checked-short : Short (says v)
-  checked-short = rw e (check-short c s (length out) bc bs)
+  pub checked-short : Short 65536 (says v)
+  checked-short = rw e (check-short c s (length out) (omega arith) bc bs)
 
   module _ (r : ℕ) (er : r ≡ codeOf (says v)) where
     abbrev answer : Answer
@@ -80,7 +80,8 @@ module _ (c s out : List ℕ) (v : Verdict) (e : says v ≡ checkAnswer c s (len
 
     pub check-coded : Coded answer r
     check-coded =
-        coded answer r check-code (check-short c s (length out) bc bs) (rowCount s) (accepted-rows c s (length out))
+        coded answer r check-code (check-short c s (length out) (omega arith) bc bs) (rowCount s)
+        (accepted-rows c s (length out))
 
     pub check-promised : (o : List ℕ) → o ≡ outputOf c s out → CheckPromises c s out (Accepted r) r o
     check-promised =
@@ -91,8 +92,8 @@ module _ (c s out : List ℕ) (v : Verdict) (e : says v ≡ checkAnswer c s (len
 
 module _ (c : List ℕ) (x : List ℤ) (t : Evaluation) (e : tells t ≡ evaluationOf c x) where
   module _ (sheet : Sheet) (h : t ≡ Refused sheet) where
-    pub refused-short : Bytes c → Short (says (Verdicts.Refused sheet))
-    refused-short b = rw (tells-refusal c x t e sheet h) (evaluation-short c x b)
+    pub refused-short : Bytes c → Short 65536 (says (Verdicts.Refused sheet))
+    refused-short b = rw (tells-refusal c x t e sheet h) (evaluation-short c x (omega arith) b)
 
     pub refused-code : (r : ℕ) → r ≡ codeOf (says (Verdicts.Refused sheet)) → r ≡ codeOf (evaluationAnswer c x)
     refused-code r er = er ∙ ap codeOf (tells-refusal c x t e sheet h)
@@ -115,7 +116,7 @@ module _ (c : List ℕ) (x : List ℤ) (t : Evaluation) (e : tells t ≡ evaluat
 module _ (c : List ℕ) (x : List ℤ) (bc : Bytes c) (r : ℕ) (before after : ℤ) (er : r ≡ codeOf (evaluationAnswer c x))
     (ev : after ≡ toldValue (evaluationOf c x) before) where
   evaluation-coded : Coded (evaluationAnswer c x) r
-  evaluation-coded = coded (evaluationAnswer c x) r er (evaluation-short c x bc) 0 (evaluation-passed c x)
+  evaluation-coded = coded (evaluationAnswer c x) r er (evaluation-short c x (omega arith) bc) 0 (evaluation-passed c x)
 
   zero-coded : (r ≡ 0) ↔ Passes (evaluationAnswer c x)
   zero-coded = (λ q. below-passed _ r er (omega (arith, q)), λ h. accepted-code _ r er 0 (evaluation-passed c x h))

@@ -1,7 +1,7 @@
 -- Laws of the checks 1 to 15: what it says of two sheets that they are passed.
 use mathlib.Core.Path.{_≡_, refl}
 use mathlib.Core.List.{List}
-use Prim.Native.Nat.{ℕ, _≤_}
+use Prim.Native.Nat.{ℕ, _<_, _≤_}
 use native.Mathlib.Omega.{arith}
 use lib.IntN.{ℤ, natAbs}
 use lib.ListN.{length}
@@ -94,8 +94,9 @@ module _ (c s : List ℕ) (room : ℕ) where
         (then-passes _ _ (claim-floored c b w (d .0)) (rw (floored-before c b 0 (omega arith)) (d .1))) (a .1)
 
 -- every answer is short
-pub input-short : (c s : List ℕ) (room : ℕ) → Bytes c → Bytes s → Short (inputAnswer c s room)
+pub input-short : {limit : ℕ} (c s : List ℕ) (room : ℕ) → 15 < limit → Bytes c → Bytes s
+    → Short limit (inputAnswer c s room)
 unfolding inputAnswer headAnswer bodyAnswer roomAnswer
-input-short c s room bc bs =
-    short-then _ _ (short-then _ _ (claim-short c bc) (header-short (variables c) s))
-    (short-then _ _ (short-if 11 _ (omega arith) (short-accepted 0 (omega arith)) _) (rows-short s bs))
+input-short c s room h bc bs =
+    short-then _ _ (short-then _ _ (claim-short c (omega arith) bc) (header-short (variables c) s (omega arith)))
+    (short-then _ _ (short-if 11 _ (omega arith) (short-accepted 0 (omega arith) (omega arith)) _) (rows-short s h bs))

@@ -110,20 +110,20 @@ proof-facts s header h =
 
 -- ---- every number is document 01's, and an index is below a count that two bytes give
 
-pub header-short : (n : ℕ) (s : List ℕ) → Short (headerAnswer n s)
+pub header-short : {limit : ℕ} (n : ℕ) (s : List ℕ) → 10 < limit → Short limit (headerAnswer n s)
 unfolding headerAnswer
-header-short n s =
+header-short n s h =
     short-if 8 _ (omega arith)
-    (short-if 9 _ (omega arith) (short-if 10 _ (omega arith) (short-accepted 0 (omega arith)) _) _) _
+    (short-if 9 _ (omega arith) (short-if 10 _ (omega arith) (short-accepted 0 (omega arith) (omega arith)) _) _) _
 
 pub rows-counted : (s : List ℕ) → Bytes s → rowCount s < 65536
 rows-counted s b = omega (arith, b 2, b 3)
 
-pub rows-short : (s : List ℕ) → Bytes s → Short (rowsAnswer s (shapeOf s))
+pub rows-short : {limit : ℕ} (s : List ℕ) → 15 < limit → Bytes s → Short limit (rowsAnswer s (shapeOf s))
 unfolding rowsAnswer
-rows-short s b =
+rows-short s h b =
     let k : rowCount s ≤ 65536 = omega (arith, rows-counted s b) in
     short-at 12 _ (omega arith)
     (short-at 13 _ (omega arith)
     (short-at 14 _ (omega arith)
-    (short-at 15 _ (omega arith) (short-accepted 0 (omega arith)) _ _ k) _ _ k) _ _ k) _ _ k
+    (short-at 15 _ (omega arith) (short-accepted 0 (omega arith) (omega arith)) _ _ k) _ _ k) _ _ k) _ _ k

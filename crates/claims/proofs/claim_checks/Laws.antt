@@ -152,9 +152,9 @@ points-differ c n t f i j l h = go (samePoint (termPoint c n i) (termPoint c n j
     go false e r = refl
 
 -- every number is document 01's, and an index is below a count that a byte gives
-pub claim-short : (c : List ℕ) → Bytes c → Short (claimAnswer c)
+pub claim-short : {limit : ℕ} (c : List ℕ) → 7 < limit → Bytes c → Short limit (claimAnswer c)
 unfolding claimAnswer termsAnswer
-claim-short c b =
+claim-short c h b =
     let t : termCount c ≤ 65536 = omega (arith, b 1) in
     short-if 1 _ (omega arith)
     (short-if 2 _ (omega arith)
@@ -162,4 +162,4 @@ claim-short c b =
     (short-if 4 _ (omega arith)
     (short-at 5 _ (omega arith)
     (short-at 6 _ (omega arith)
-    (short-at 7 _ (omega arith) (short-accepted 0 (omega arith)) _ _ t) _ _ t) _ _ t) _) _) _) _
+    (short-at 7 _ (omega arith) (short-accepted 0 (omega arith) (omega arith)) _ _ t) _ _ t) _ _ t) _) _) _) _

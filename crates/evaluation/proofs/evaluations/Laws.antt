@@ -2,7 +2,7 @@
 use mathlib.Core.Path.{_≡_, refl, sym, _∙_, ap}
 use mathlib.Core.Bool.{false, not}
 use mathlib.Core.List.{List}
-use Prim.Native.Nat.{ℕ, _≤_}
+use Prim.Native.Nat.{ℕ, _<_, _≤_}
 use native.Mathlib.Omega.{arith}
 use lib.Dec.{eqb}
 use lib.IntN.{ℤ}
@@ -51,12 +51,12 @@ module _ (a : Answer) (z : ℤ) where
 -- ---- for the crates above
 
 module _ (c : List ℕ) (x : List ℤ) where
-  pub evaluation-short : Bytes c → Short (evaluationAnswer c x)
+  pub evaluation-short : {limit : ℕ} → 21 < limit → Bytes c → Short limit (evaluationAnswer c x)
   unfolding evaluationAnswer tooLargeAnswer
-  evaluation-short b =
+  evaluation-short h b =
       let t : termCount c ≤ 65536 = omega (arith, b 1) in
-      short-then _ _ (claim-short c b)
-      (short-if 20 _ (omega arith) (short-at 21 _ (omega arith) (short-accepted 0 (omega arith)) _ _ t) _)
+      short-then _ _ (claim-short c (omega arith) b)
+      (short-if 20 _ (omega arith) (short-at 21 _ (omega arith) (short-accepted 0 (omega arith) (omega arith)) _ _ t) _)
 
   module _ (h : Passes (evaluationAnswer c x)) where
     -- what it says of 1 to 7, of 20 and of 21

@@ -5,17 +5,20 @@ use mathlib.Core.List.{List}
 use Prim.Native.Nat.{ℕ, suc, _<_, _≤_}
 use native.Mathlib.Omega.{arith}
 use lib.IntN.{ℤ, pos, natAbs, _-ℤ_}
+use lib.ListN.{length}
 use lib.Signed.{_≤ℤ_}
 use Rattle.integers.proofs.Integers.{ring, ints, by-le, read-eq, ltZ-false, abs-nonneg, abs-between}
 use Rattle.integers.proofs.Tests.{nor}
+use Rattle.integers.proofs.words.Laws.{Bytes}
 use Rattle.bounds.specs.Bounds.{greatestWeight, greatestSpan}
 use Rattle.bounds.proofs.bounds.Laws.{within-bound}
-use Rattle.answers.specs.Answers.{blameless, Passes}
+use Rattle.answers.specs.Answers.{Answer, accepted, refused, blameless, Passes}
 use Rattle.answers.specs.Searches.{first}
-use Rattle.answers.proofs.answers.Laws.{passes-then, passes-if}
+use Rattle.answers.specs.declared.answers.Verdict.the-variants.{Accepted}
+use Rattle.answers.proofs.answers.Laws.{passes-then, passes-if, then-passes, passed, passed-if, accepted-says, short-accepted, short-if, short-then}
 use Rattle.answers.proofs.searches.Laws.{first-same}
-use Rattle.checks.specs.Input.{inputAnswer}
-use Rattle.checks.proofs.input.Laws.{input-formed}
+use Rattle.checks.specs.Input.{inputAnswer, WellFormed}
+use Rattle.checks.proofs.input.Laws.{input-formed, input-passes, input-short}
 use Rattle.sharing.specs.Shifts.{CheckedSheets}
 use Rattle.sharing.proofs.shifts.Laws.{sheets-checked}
 use Rattle.judging.proofs.check.Laws.{floored-answer}
@@ -87,3 +90,18 @@ module _ (c s : List ℕ) (lo hi : ℤ) (room : ℕ) (h : Passes (rangeAnswer c 
   pub refused-before : refusedBefore c s lo hi room ≡ first (passesAfter c s hi) (floorCount lo hi)
   unfolding refusedBefore
   refused-before = first-same _ _ (floorCount lo hi) accepts-after
+
+-- they pass where the sheets are well-formed, the output is long enough and the range is right; and 23 is not theirs
+module _ (c s : List ℕ) (lo hi : ℤ) (room : ℕ) where
+  pub range-passes : WellFormed c s → length s ≤ room → rangeWrong lo hi ≡ false → Passes (rangeAnswer c s lo hi room)
+  unfolding rangeAnswer
+  range-passes f l r =
+      then-passes _ _ (input-passes c s room f l)
+      (passed (Accepted 0) _ (passed-if (Accepted 0) _ 22 _ r (accepted-says 0)) 0 refl)
+
+  pub range-other : Bytes c → Bytes s → rangeAnswer c s lo hi room ≡ refused 23 0 → ⊥
+  unfolding rangeAnswer refused
+  range-other bc bs e =
+      let short = short-then _ _ (input-short {limit = 23} c s room (omega arith) bc bs)
+      (short-if 22 (accepted 0) (omega arith) (short-accepted 0 (omega arith) (omega arith)) (rangeWrong lo hi)) in
+      absurd (omega (arith, short .number-short, ap (λ (a : Answer). a .number) e))

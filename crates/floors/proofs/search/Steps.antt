@@ -3,18 +3,20 @@ use mathlib.Core.Path.{_≡_, refl, sym, _∙_, ap}
 use mathlib.Core.Bool.{Bool, true, false, _||_}
 use mathlib.Core.List.{List, _++_}
 use Prim.Native.Nat.{ℕ, suc, _+_, _<_, _≤_}
+use native.Mathlib.Numerals.{add-one}
 use native.Mathlib.Omega.{arith}
 use lib.Dec.{lit<}
 use lib.IntN.{ℤ, pos, natAbs, _-ℤ_}
 use lib.ListN.{length, drop}
 use lib.Signed.{ltZ}
-use mir.Syntax.{w64}
+use mir.Syntax.{w32, w64}
 use mir.Val.{Fits, SFits, toZ}
 use mir.Facts.{toZ-ofZ, toZ-pos}
 use Rattle.integers.proofs.Integers.{back, abs-sub, fits-within}
+use Rattle.integers.proofs.words.Laws.{Bytes}
 use Rattle.bounds.specs.Bounds.{greatestWeight, greatestSpan, beyond}
 use Rattle.bounds.proofs.bounds.Laws.{within-bound}
-use Rattle.answers.specs.Answers.{says, blameless}
+use Rattle.answers.specs.Answers.{refused, says, Passes}
 use Rattle.answers.specs.Searches.{first}
 use Rattle.answers.specs.declared.answers.Sheet.{Sheet}
 use Rattle.answers.specs.declared.answers.Sheet.the-variants.{Range}
@@ -22,17 +24,26 @@ use Rattle.answers.specs.declared.answers.Verdict.{Verdict}
 use Rattle.answers.specs.declared.answers.Verdict.the-variants as Verdicts
 use Rattle.answers.specs.declared.searches.Found as Searches
 use Rattle.answers.specs.declared.searches.Found.the-variants.{At, Nothing}
-use Rattle.answers.proofs.answers.Laws.{then-refused, then-passed, refused-if, passed-if, refused-says, accepted-says}
+use Rattle.answers.proofs.answers.Laws.{failed, passed, then-refused, then-passed, refused-if, passed-if, refused-says, accepted-says}
 use Rattle.answers.proofs.searches.Laws.{first-stop, first-next, first-end, first-inside}
+use Rattle.sheets.specs.Layout.{rowCount}
 use Rattle.checks.specs.Input.{inputAnswer}
+use Rattle.checks.proofs.input.Laws.{input-enough}
 use Rattle.rows.specs.ProofSheet.{scaleOf}
 use Rattle.targets.specs.Targets.{targetOf}
 use Rattle.targets.specs.declared.targets.Aim.{Aim}
 use Rattle.sharing.specs.Shifts.{CheckedSheets}
+use Rattle.weighing.specs.Exact.{exactProof, Writable}
 use Rattle.weighing.specs.Weighed.{weighedAnswer}
-use Rattle.floors.specs.Search.{rangeWrong, rangeAnswer, floorCount, floorAfter, aimAfter, passesAfter, Searchable}
+use Rattle.weighing.proofs.weighed.Laws.{weighed-within}
+use Rattle.judging.proofs.check.Laws.{floored-output}
+use Rattle.floors.specs.Search.{found, refusal, tells, rangeWrong, rangeAnswer, floorCount, floorAfter, refusedBefore, toldAfter, searchOf, outputBy, searchOutput, aimAfter, passesAfter, Searchable}
+use Rattle.floors.specs.Promises.{SearchPromises}
+use Rattle.floors.specs.declared.search.Searched.{Searched}
+use Rattle.floors.specs.declared.search.Searched.the-variants.{Found, Refused}
 use Rattle.floors.specs.Trials.{testCount, turned, failsFrom}
-use Rattle.floors.proofs.search.Laws.{ranged, high-within, after-few, after-within}
+use Rattle.floors.proofs.Promises.{search-promises}
+use Rattle.floors.proofs.search.Laws.{ranged, high-within, after-few, after-within, input-passed, range-passed, searchable, refused-before}
 use Rattle.floors.proofs.trials.Laws.{ring-passed, ring-failed}
 use Rattle.floors.proofs.trials.Steps.{tests-few}
 
@@ -216,3 +227,103 @@ module _ (c s : List ℕ) (lo hi : ℤ) (given : Searchable c s lo hi) where
       pub walk-stop : true ≡ passesAfter c s hi′ i → first (passesAfter c s hi′) i ≡ Nothing
           → At i ≡ first (passesAfter c s hi) (floorCount lo hi)
       walk-stop h before = rw (← eh, ← el) (first-stop _ (floorCount lo′ hi′) i true (rw em at l) before h refl)
+
+-- ---- search: v is the verdict on 1 to 15 and 22
+
+module _ (c s : List ℕ) (lo hi : ℤ) (out : List ℕ) (v : Verdict) (lo′ hi′ : ℤ)
+    (e : says v ≡ rangeAnswer c s lo′ hi′ (length out)) (el : lo′ ≡ lo) (eh : hi′ ≡ hi) where
+  ranged-is : says v ≡ rangeAnswer c s lo hi (length out)
+  ranged-is = e ∙ rw (el, eh)
+
+  pub search-refused : (x : Sheet) → v ≡ Verdicts.Refused x → tells (Refused x) ≡ searchOf c s lo hi (length out)
+  unfolding tells searchOf
+  search-refused x h = rw (failed v _ ranged-is x h) (ap refusal (sym (ap says h) ∙ ranged-is))
+
+  module _ (j : ℕ) (h : v ≡ Verdicts.Accepted j) where
+    ready : Passes (rangeAnswer c s lo hi (length out))
+    ready = passed v _ ranged-is j h
+
+    pub search-ready : Searchable c s lo′ hi′
+    search-ready = rw (el, eh) (searchable c s lo hi (length out) ready)
+
+    pub search-proof : 8 ≤ length s
+    search-proof = proof-eight c s lo hi (searchable c s lo hi (length out) ready)
+
+    -- f is what the walk found
+    module _ (f : Searches.Found) (ef : f ≡ first (passesAfter c s hi′) (floorCount lo′ hi′)) where
+      before : refusedBefore c s lo hi (length out) ≡ f
+      before = refused-before c s lo hi (length out) ready ∙ sym (ef ∙ rw (el, eh))
+
+      pub search-none : f ≡ Nothing → tells (Refused (Range 23 0)) ≡ searchOf c s lo hi (length out)
+      unfolding tells searchOf toldAfter
+      search-none q = rw (ready, before, q) (ap refusal (refused-says (Range 23 0) 23 0 refl))
+
+      module _ (i : ℕ) (q : f ≡ At i) where
+        found-inside : (i < floorCount lo hi) × (passesAfter c s hi i ≡ true)
+        found-inside = first-inside _ _ i (sym (refused-before c s lo hi (length out) ready) ∙ before ∙ q)
+
+        right : rangeWrong lo hi ≡ false
+        right = range-passed c s lo hi (length out) ready
+
+        pub search-high : natAbs hi′ ≤ greatestWeight
+        search-high = rw eh (high-within lo hi right)
+
+        pub search-few : i ≤ greatestSpan
+        search-few = after-few lo hi right i (found-inside .0)
+
+        pub tried-fits : Fits w32 (i + 1)
+        tried-fits = omega (arith, search-few)
+
+        pub index-fits : Fits w32 i
+        index-fits = omega (arith, search-few)
+
+        module _ (a : Aim) (ea : a ≡ aimAfter s hi′ i) where
+          aim-is : a ≡ aimAfter s hi i
+          aim-is = ea ∙ rw eh
+
+          weighed : Passes (weighedAnswer (targetOf c a) c s)
+          unfolding passesAfter
+          weighed = rw aim-is (found-inside .1)
+
+          pub search-writable : Writable c s a out
+          search-writable = record {
+            sheets = walk-checked c s lo hi (searchable c s lo hi (length out) ready) lo hi refl refl i _ refl
+                (found-inside .0) a aim-is;
+            light = weighed-within c s a weighed;
+            room = input-enough c s (length out) (input-passed c s lo hi (length out) ready);
+          }
+
+          module _ (b : ℤ) (t k : ℕ) (eb : b ≡ a .floor) (et : t ≡ i + 1) (ek : k ≡ rowCount s) where
+            pub search-found : tells (Found b t k) ≡ searchOf c s lo hi (length out)
+            unfolding tells searchOf toldAfter aimAfter
+            search-found = rw (eb, aim-is, et, ek, ready, before, q, add-one)
+
+          pub search-written : (o : List ℕ) → o ≡ exactProof (targetOf c a) s ++ drop (length s) out
+              → o ≡ searchOutput c s lo hi out
+          unfolding searchOutput outputBy searchOf toldAfter aimAfter
+          search-written o eo =
+              let exact =
+              floored-output c s (length out) (input-passed c s lo hi (length out) ready) (floorAfter hi i)
+              (after-within lo hi right i (found-inside .0)) out refl (rw aim-is at weighed) in
+              eo ∙ rw (ready, before, q, aim-is) (sym exact)
+
+-- r is what the search answers, o the output afterwards
+
+module _ (c s : List ℕ) (lo hi : ℤ) (out : List ℕ) (bc : Bytes c) (bs : Bytes s) where
+  abbrev Promised : Searched → List ℕ → Type 0
+  Promised r o = (tells r ≡ searchOf c s lo hi (length out)) × ((o ≡ searchOutput c s lo hi out)
+      × SearchPromises c s lo hi out (λ b tried k. tells r ≡ found b tried k) (tells r ≡ refusal (refused 23 0)) o)
+
+  pub promised : (r : Searched) (o : List ℕ) → tells r ≡ searchOf c s lo hi (length out)
+      → o ≡ searchOutput c s lo hi out → Promised r o
+  promised r o e eo = (
+    e,
+    (
+      eo,
+      search-promises c s lo hi out _ _ (λ b tried k. (λ q. sym e ∙ q, λ q. e ∙ q)) (λ q. sym e ∙ q) bc bs o eo,
+    ),
+  )
+
+  pub unwritten : (x : Sheet) → tells (Refused x) ≡ searchOf c s lo hi (length out) → Promised (Refused x) out
+  unfolding searchOutput outputBy tells
+  unwritten x e = promised (Refused x) out e (rw (← e))

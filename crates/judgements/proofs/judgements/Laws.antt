@@ -170,9 +170,10 @@ module _ (limit : ℕ) (row : ℕ → Row) (k : ℕ) where
   judged-accepted h =
       holds-accepted (λ i l. let w = h i l in rw (holds-judged limit (row i .weights) (w .0) (w .1)))
 
-pub judged-short : (limit : ℕ) (row : ℕ → Row) (k : ℕ) → k < 65536 → Short (judgedAnswer (firstsTo limit row k) k)
+pub judged-short : {m : ℕ} (limit : ℕ) (row : ℕ → Row) (k : ℕ) → 19 < m → k < 65536
+    → Short m (judgedAnswer (firstsTo limit row k) k)
 unfolding judgedAnswer firstsTo
-judged-short limit row k l =
+judged-short limit row k h l =
     short-at 17 _ (omega arith)
     (short-at 18 _ (omega arith)
-    (short-at 19 _ (omega arith) (short-accepted k l) _ _ (omega arith)) _ _ (omega arith)) _ _ (omega arith)
+    (short-at 19 _ (omega arith) (short-accepted k (omega arith) l) _ _ (omega arith)) _ _ (omega arith)) _ _ (omega arith)

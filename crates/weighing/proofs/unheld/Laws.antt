@@ -150,7 +150,8 @@ module _ (τ : Exponents → ℤ) (c s : List ℕ) (b : ℤ) where
   unfolding unheldAnswer
   unheld-floored = rw (each-floored, floored-before c b 1 (omega arith))
 
-pub unheld-short : (τ : Exponents → ℤ) (c s : List ℕ) → Bytes c → Short (unheldAnswer τ c s)
+pub unheld-short : {limit : ℕ} (τ : Exponents → ℤ) (c s : List ℕ) → 16 < limit → Bytes c
+    → Short limit (unheldAnswer τ c s)
 unfolding unheldAnswer
-unheld-short τ c s b =
-    short-at 16 _ (omega arith) (short-accepted 0 (omega arith)) _ _ (omega (arith, b 1))
+unheld-short τ c s h b =
+    short-at 16 _ (omega arith) (short-accepted 0 (omega arith) (omega arith)) _ _ (omega (arith, b 1))

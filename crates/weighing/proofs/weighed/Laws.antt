@@ -3,6 +3,7 @@ use mathlib.Core.Path.{_≡_, _∙_}
 use mathlib.Core.Bool.{true, false}
 use mathlib.Core.List.{List}
 use Prim.Native.Nat.{ℕ, suc, _<_}
+use native.Mathlib.Omega.{arith}
 use lib.IntN.{ℤ}
 use Rattle.integers.proofs.words.Laws.{Bytes}
 use Rattle.bounds.specs.Bounds.{greatestWeight}
@@ -83,8 +84,8 @@ module _ (c s : List ℕ) (a : Aim) where
       ∙ judged-accepted greatestWeight (shiftedRow τ s) (rowCount s)
       (λ i l. (w .within i l, rows-each τ s (λ r. Holds (r .weights)) h i l))
 
-  pub weighed-short : Bytes c → Bytes s → Short (weighedAnswer τ c s)
+  pub weighed-short : {limit : ℕ} → 19 < limit → Bytes c → Bytes s → Short limit (weighedAnswer τ c s)
   unfolding weighedAnswer
-  weighed-short bc bs =
-      short-then _ _ (unheld-short τ c s bc)
-      (judged-short greatestWeight (shiftedRow τ s) (rowCount s) (rows-counted s bs))
+  weighed-short h bc bs =
+      short-then _ _ (unheld-short τ c s (omega arith) bc)
+      (judged-short greatestWeight (shiftedRow τ s) (rowCount s) h (rows-counted s bs))
