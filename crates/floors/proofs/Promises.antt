@@ -13,23 +13,24 @@ use Rattle.integers.proofs.Integers.{ring, ints, by-le, by-eq, read-eq, abs-non
 use Rattle.integers.proofs.Tests.{never}
 use Rattle.integers.proofs.words.Laws.{Bytes}
 use Rattle.bounds.specs.Bounds.{greatestWeight}
-use Rattle.answers.specs.Answers.{accepted, refused, blameless, Passes}
+use Rattle.answers.specs.Answers.{Answer, accepted, refused, blameless, Passes, Short}
 use Rattle.answers.specs.Searches.{first}
 use Rattle.answers.specs.declared.searches.Found as Searches
 use Rattle.answers.specs.declared.searches.Found.the-variants.{At, Nothing}
-use Rattle.answers.proofs.answers.Laws.{passes-or-fails, passed-if, accepted-says}
+use Rattle.answers.proofs.answers.Laws.{passes-or-fails, accepted-numbers, refused-blames, refused-number, short-accepted, short-refused}
 use Rattle.answers.proofs.searches.Laws.{first-inside, first-before, none-wrong}
 use Rattle.squares.specs.Sums.{valueAt}
 use Rattle.sheets.specs.Layout.{rowCount}
 use Rattle.sheets.specs.ClaimSheet.{withFloor, termsOf}
 use Rattle.sheets.proofs.claim_sheet.Laws.{floored-floor, floored-terms}
 use Rattle.checks.specs.Input.{WellFormed}
+use Rattle.checks.proofs.proof_checks.Laws.{rows-counted}
 use Rattle.checks.proofs.input.Laws.{claim-formed, input-formed, input-passes}
 use Rattle.judging.specs.Check.{checkAnswer, outputOf}
 use Rattle.judging.proofs.Promises.{accepted-rows, floor-kept, check-promises}
-use Rattle.floors.specs.Search.{Told, found, refusal, rangeWrong, rangeAnswer, floorCount, floorAfter, accepts, refusedBefore, toldAfter, searchOf, outputBy, searchOutput}
+use Rattle.floors.specs.Search.{Told, found, refusal, answerOf, rangeWrong, rangeAnswer, floorCount, floorAfter, accepts, refusedBefore, toldAfter, searchOf, outputBy, searchOutput}
 use Rattle.floors.specs.Promises.{Some, SearchPromises}
-use Rattle.floors.proofs.search.Laws.{range-passed, input-passed, range-passes, range-other, after-low, after-high, after-within, span-whole}
+use Rattle.floors.proofs.search.Laws.{range-passed, input-passed, range-passes, range-short, after-low, after-high, after-within, span-whole}
 
 -- ---- a floor of the range, by the number of floors above it
 
@@ -137,17 +138,38 @@ module _ (c s : List ℕ) (lo hi : ℤ) (room : ℕ) where
       rw (above-after lo hi b right high)
       at (none-wrong _ _ e (natAbs (hi -ℤ b)) (above-inside lo hi b right high low))
 
-  told-none : Bytes c → Bytes s → told ≡ refusal (refused 23 0) → (b : ℤ) → lo ≤ℤ b → b ≤ℤ hi
-      → accepts c s room b ≡ false
+  -- a refusal is that of 1 to 15 and 22, or 23
+  told-refused : {A : Type 0} (a : Answer) → told ≡ refusal a
+      → (blameless (rangeAnswer c s lo hi room) ≡ false → a ≡ rangeAnswer c s lo hi room → A)
+      → (rangeWrong lo hi ≡ false → refusedBefore c s lo hi room ≡ Nothing → a ≡ refused 23 0 → A) → A
   unfolding searchOf toldAfter
-  told-none bc bs e =
+  told-refused {A} a e one other =
       passes-or-fails (rangeAnswer c s lo hi room) (λ h. go h (refusedBefore c s lo hi room) refl (rw h at e))
-      (λ h. let q = rw h at e in absurd (range-other c s lo hi room bc bs (cc)))
+      (λ h. let q = rw h at e in one h (cc))
     where
       go : Passes (rangeAnswer c s lo hi room) → (f : Searches.Found) → refusedBefore c s lo hi room ≡ f
-          → toldAfter s hi f ≡ refusal (refused 23 0) → (b : ℤ) → lo ≤ℤ b → b ≤ℤ hi → accepts c s room b ≡ false
+          → toldAfter s hi f ≡ refusal a → A
       go h (At i) ef q = never (cc)
-      go h Nothing ef q = none-accepted ef (range-passed c s lo hi room h)
+      go h Nothing ef q = other (range-passed c s lo hi room h) ef (cc)
+
+  pub told-fails : (a : Answer) → told ≡ refusal a → blameless a ≡ false
+  told-fails a e = told-refused a e (λ h q. rw q h) (λ h f q. rw q (refused-blames 23 0 refl))
+
+  module _ (bc : Bytes c) (bs : Bytes s) (a : Answer) (e : told ≡ refusal a) (n : a .number ≡ 23) where
+    not-before : {A : Type 0} → a ≡ rangeAnswer c s lo hi room → A
+    not-before q =
+        absurd (omega (
+          arith,
+          n,
+          ap (λ (a : Answer). a .number) q,
+          range-short c s lo hi room {limit = 23} (omega arith) bc bs .number-short,
+        ))
+
+    pub told-none : a ≡ refused 23 0
+    told-none = told-refused a e (λ h q. not-before q) (λ h f q. q)
+
+    none-carries : (b : ℤ) → lo ≤ℤ b → b ≤ℤ hi → accepts c s room b ≡ false
+    none-carries = told-refused a e (λ h q. not-before q) (λ h f q. none-accepted f h)
 
   told-some : Passes (rangeAnswer c s lo hi room) → (b : ℤ) → lo ≤ℤ b → b ≤ℤ hi → accepts c s room b ≡ true
       → Some (λ b tried k. told ≡ found b tried k)
@@ -158,6 +180,19 @@ module _ (c s : List ℕ) (lo hi : ℤ) (room : ℕ) where
       go (At i) ef = record { floor = floorAfter hi i; tried = suc i; rows = rowCount s; finds = rw (h, ef) }
       go Nothing ef =
           let q = none-accepted ef (range-passed c s lo hi room h) b low high in absurd (true≢false (sym a ∙ q))
+
+  -- ---- for the crates above: the answer is short
+
+  pub told-short : {limit : ℕ} → 23 < limit → Bytes c → Bytes s → Short limit (answerOf told)
+  unfolding answerOf
+  told-short {limit} h bc bs = go told refl
+    where
+      go : (t : Told) → told ≡ t → Short limit (answerOf t)
+      go (found b tried k) e =
+          short-accepted k (omega arith) (rw (walked b tried k e .rows-are) (rows-counted s bs))
+      go (refusal a) e =
+          told-refused a e (λ f q. rw q (range-short c s lo hi room (omega arith) bc bs))
+          (λ f g q. rw q (short-refused 23 0 h (omega arith)))
 
 -- ---- the promises, for whatever is to say that a floor is found, or none
 
@@ -191,7 +226,7 @@ module _ (c s : List ℕ) (lo hi : ℤ) (out : List ℕ) (Finds : ℤ → ℕ �
         check-promises (withFloor c b) s out (Finds b tried k) k
         (λ _. found-passes c s lo hi (length out) b tried k e, λ _. f)
         (λ _. walked c s lo hi (length out) b tried k e .rows-are) bs o (found-output b tried k f);
-    none = λ f. told-none c s lo hi (length out) bc bs (none-meant f);
+    none = λ f. none-carries c s lo hi (length out) bc bs _ (none-meant f) (refused-number 23 0);
     finds = λ formed enough right b low high a.
         let t = told-some c s lo hi (length out) (range-passes c s lo hi (length out) formed enough right) b low high a
         in

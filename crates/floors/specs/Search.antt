@@ -35,6 +35,11 @@ unfoldable pub tells : Searched → Told
 tells (Found floor tried k) = found floor tried k
 tells (Refused sheet) = refusal (says (Verdicts.Refused sheet))
 
+-- as an answer: accepted with the number of rows where a floor is found
+unfoldable pub answerOf : Told → Answer
+answerOf (found floor tried k) = accepted k
+answerOf (refusal answer) = answer
+
 -- ---- the range
 
 -- 22: "lo over hi, either beyond ±2^30, or hi − lo over 4,095"

@@ -47,7 +47,13 @@ pub(crate) fn turn(tests: usize, from: usize, i: usize) -> usize
 }
 
 // How many tests pass, from one on, before the first that fails.
-pub(crate) fn first_failing(claim: &[u8], proof: &[u8], aim: Aim, tests: usize, from: usize) -> Found
+pub(crate) fn first_failing(
+    claim: &[u8],
+    proof: &[u8],
+    aim: Aim,
+    tests: usize,
+    from: usize,
+) -> Found
     requires { ⌜ (CheckedSheets (now claim) (now proof) aim) × (tests ≡ testCount (now claim) (now proof))
         × (from < tests) ⌝ }
     ensures { λ r. ⌜ r

@@ -19,7 +19,7 @@ use Rattle.answers.proofs.searches.Laws.{first-inside}
 abbrev pub Blames : ℕ → Type 0
 Blames number = faultless (blames number) ≡ false
 
-refused-blames : (number index : ℕ) → Blames number → blameless (refused number index) ≡ false
+pub refused-blames : (number index : ℕ) → Blames number → blameless (refused number index) ≡ false
 unfolding blameless refused
 refused-blames number index h = h
 
@@ -147,13 +147,17 @@ pub accepted-numbers : (a : Answer) (k : ℕ) → a ≡ accepted k → (a .numbe
 unfolding accepted
 accepted-numbers a k e = rw e (refl, refl)
 
+pub refused-number : (number index : ℕ) → refused number index .number ≡ number
+unfolding refused
+refused-number number index = refl
+
 -- ---- answers are short: a number below a limit, and a value of 16 bits
 
 pub short-accepted : {limit : ℕ} (k : ℕ) → 0 < limit → k < 65536 → Short limit (accepted k)
 unfolding accepted
 short-accepted k l h = record { number-short = l; value-short = h }
 
-short-refused : {limit : ℕ} (number index : ℕ) → number < limit → index < 65536 → Short limit (refused number index)
+pub short-refused : {limit : ℕ} (number index : ℕ) → number < limit → index < 65536 → Short limit (refused number index)
 unfolding refused
 short-refused number index h k = record { number-short = h; value-short = k }
 

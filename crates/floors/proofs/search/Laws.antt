@@ -12,7 +12,7 @@ use Rattle.integers.proofs.Tests.{nor}
 use Rattle.integers.proofs.words.Laws.{Bytes}
 use Rattle.bounds.specs.Bounds.{greatestWeight, greatestSpan}
 use Rattle.bounds.proofs.bounds.Laws.{within-bound}
-use Rattle.answers.specs.Answers.{Answer, accepted, refused, blameless, Passes}
+use Rattle.answers.specs.Answers.{blameless, Passes, Short}
 use Rattle.answers.specs.Searches.{first}
 use Rattle.answers.specs.declared.answers.Verdict.the-variants.{Accepted}
 use Rattle.answers.proofs.answers.Laws.{passes-then, passes-if, then-passes, passed, passed-if, accepted-says, short-accepted, short-if, short-then}
@@ -91,7 +91,7 @@ module _ (c s : List ℕ) (lo hi : ℤ) (room : ℕ) (h : Passes (rangeAnswer c 
   unfolding refusedBefore
   refused-before = first-same _ _ (floorCount lo hi) accepts-after
 
--- they pass where the sheets are well-formed, the output is long enough and the range is right; and 23 is not theirs
+-- they pass where the sheets are well-formed, the output is long enough and the range is right; no number is over 22
 module _ (c s : List ℕ) (lo hi : ℤ) (room : ℕ) where
   pub range-passes : WellFormed c s → length s ≤ room → rangeWrong lo hi ≡ false → Passes (rangeAnswer c s lo hi room)
   unfolding rangeAnswer
@@ -99,9 +99,8 @@ module _ (c s : List ℕ) (lo hi : ℤ) (room : ℕ) where
       then-passes _ _ (input-passes c s room f l)
       (passed (Accepted 0) _ (passed-if (Accepted 0) _ 22 _ r (accepted-says 0)) 0 refl)
 
-  pub range-other : Bytes c → Bytes s → rangeAnswer c s lo hi room ≡ refused 23 0 → ⊥
-  unfolding rangeAnswer refused
-  range-other bc bs e =
-      let short = short-then _ _ (input-short {limit = 23} c s room (omega arith) bc bs)
-      (short-if 22 (accepted 0) (omega arith) (short-accepted 0 (omega arith) (omega arith)) (rangeWrong lo hi)) in
-      absurd (omega (arith, short .number-short, ap (λ (a : Answer). a .number) e))
+  pub range-short : {limit : ℕ} → 22 < limit → Bytes c → Bytes s → Short limit (rangeAnswer c s lo hi room)
+  unfolding rangeAnswer
+  range-short h bc bs =
+      short-then _ _ (input-short c s room (omega arith) bc bs)
+      (short-if 22 _ h (short-accepted 0 (omega arith) (omega arith)) _)
