@@ -5,6 +5,7 @@ use Prim.Native.Nat.{ℕ, _+_, _*_, _/_, _%_, _<_, _^_}
 use lib.IntN.{ℤ}
 use Rattle.answers.specs.Answers.{Answer, sheetNumber, Passes}
 use Rattle.evaluation.specs.Evaluations.{Told, value, refusal}
+use Rattle.floors.specs.Search as Floors
 
 -- what a refusal's sheet and number are multiplied by
 abbrev pub sheetUnit : ℕ
@@ -53,6 +54,21 @@ toldValue (refusal answer) before = before
 abbrev pub Stores : ℕ → ℤ → ℤ → Type 0
 Stores r after z = (r ≡ 0) × (after ≡ z)
 
--- any other answer leaves the value
-pub record Leaves (r : ℕ) (before after : ℤ) : Type 0 where
-  pub leaves : (r ≡ 0 → ⊥) → after ≡ before
+-- what stands behind a pointer stays where nothing was given
+pub record Leaves {A : Type 0} (Given : Type 0) (before after : A) : Type 0 where
+  pub leaves : (Given → ⊥) → after ≡ before
+
+-- ---- searches: r is the answer, b and m are the floor and the number of floors tried, as they are stored
+
+-- what is stored, or what stood there before
+unfoldable pub toldFloor : Floors.Told → ℤ → ℤ
+toldFloor (Floors.found floor tried k) before = floor
+toldFloor (Floors.refusal answer) before = before
+
+unfoldable pub toldTried : Floors.Told → ℕ → ℕ
+toldTried (Floors.found floor tried k) before = tried
+toldTried (Floors.refusal answer) before = before
+
+-- the answer is k, and a floor and the number of floors tried were stored
+abbrev pub Finds : ℕ → ℤ → ℕ → ℤ → ℕ → ℕ → Type 0
+Finds r b m floor tried k = Accepted r × (r ≡ k) × (b ≡ floor) × (m ≡ tried)

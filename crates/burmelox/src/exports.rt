@@ -3,6 +3,8 @@ use answers::answers::Verdict;
 use answers::answers::numbers_of;
 use evaluation::evaluations::Evaluation;
 use evaluation::evaluations::evaluate;
+use floors::search::Searched;
+use floors::search::search;
 use judging::check::check;
 ghost use mathlib.Core.Path.{_≡_};
 ghost use lib.ListN.{length};
@@ -10,7 +12,9 @@ ghost use Rattle.answers.specs.Answers.{says, Short};
 ghost use Rattle.judging.specs.Check.{checkAnswer, outputOf};
 ghost use Rattle.judging.specs.Promises.{CheckPromises};
 ghost use Rattle.evaluation.specs.Evaluations.{evaluationAnswer, evaluationOf, EvaluationPromises};
-ghost use Rattle.burmelox.specs.Exports.{codeOf, Accepted, Coded, toldValue, Stores, Leaves};
+ghost use Rattle.floors.specs.Search.{answerOf, searchOf, searchOutput};
+ghost use Rattle.floors.specs.Promises.{SearchPromises};
+ghost use Rattle.burmelox.specs.Exports.{numberIn, codeOf, Accepted, Coded, toldValue, Stores, toldFloor, toldTried, Finds, Leaves};
 
 // What a refusal's sheet and number are multiplied by.
 const SHEET_UNIT: u64 = 4294967296;
@@ -48,7 +52,7 @@ pub extern "C" fn burmelox_evaluate(claim: &[u8], offsets: &[i32], value: &mut i
     ensures answer { λ r. ⌜ Coded (evaluationAnswer (now (claim .entry)) (now (offsets .entry))) r ⌝ }
     ensures written { λ r. ⌜ now (value .exit)
         ≡ toldValue (evaluationOf (now (claim .entry)) (now (offsets .entry))) (now (value .entry)) ⌝ }
-    ensures kept { λ r. ⌜ Leaves r (now (value .entry)) (now (value .exit)) ⌝ }
+    ensures kept { λ r. ⌜ Leaves (r ≡ 0) (now (value .entry)) (now (value .exit)) ⌝ }
     ensures promises { λ r. ⌜ EvaluationPromises (now (claim .entry)) (now (offsets .entry))
         (Stores r (now (value .exit))) ⌝ }
 {
@@ -57,6 +61,43 @@ pub extern "C" fn burmelox_evaluate(claim: &[u8], offsets: &[i32], value: &mut i
         Evaluation::Value(v) => {
             *value = v;
             0
+        }
+    }
+}
+
+// Searches for the highest floor from hi down to lo that is accepted, and writes its exact proof into the output: the
+// number of rows, the floor and the number of floors tried, or the refusal's code and both as they were.
+#[no_mangle]
+pub extern "C" fn burmelox_search(
+    claim: &[u8],
+    proof: &[u8],
+    lo: i64,
+    hi: i64,
+    output: &mut [u8],
+    floor: &mut i64,
+    tried: &mut u32,
+) -> u64
+    ensures code { λ r. ⌜ r ≡ codeOf
+        (answerOf (searchOf (now (claim .entry)) (now (proof .entry)) lo hi (length (now (output .entry))))) ⌝ }
+    ensures answer { λ r. ⌜ Coded
+        (answerOf (searchOf (now (claim .entry)) (now (proof .entry)) lo hi (length (now (output .entry))))) r ⌝ }
+    ensures written { λ r. ⌜ now (output .exit)
+        ≡ searchOutput (now (claim .entry)) (now (proof .entry)) lo hi (now (output .entry)) ⌝ }
+    ensures floor { λ r. ⌜ now (floor .exit) ≡ toldFloor
+        (searchOf (now (claim .entry)) (now (proof .entry)) lo hi (length (now (output .entry)))) (now (floor .entry)) ⌝ }
+    ensures tried { λ r. ⌜ now (tried .exit) ≡ toldTried
+        (searchOf (now (claim .entry)) (now (proof .entry)) lo hi (length (now (output .entry)))) (now (tried .entry)) ⌝ }
+    ensures kept { λ r. ⌜ Leaves (Accepted r) (now (floor .entry)) (now (floor .exit))
+        × Leaves (Accepted r) (now (tried .entry)) (now (tried .exit)) ⌝ }
+    ensures promises { λ r. ⌜ SearchPromises (now (claim .entry)) (now (proof .entry)) lo hi (now (output .entry))
+        (Finds r (now (floor .exit)) (now (tried .exit))) (numberIn r ≡ 23) (now (output .exit)) ⌝ }
+{
+    match search(claim, proof, lo, hi, output) {
+        Searched::Refused(sheet) => code(Verdict::Refused(sheet)),
+        Searched::Found(b, m, k) => {
+            *floor = b;
+            *tried = m;
+            k as u64
         }
     }
 }

@@ -30,7 +30,7 @@ use Rattle.judging.specs.Check.{checkAnswer, outputOf}
 use Rattle.judging.proofs.Promises.{accepted-rows, floor-kept, check-promises}
 use Rattle.floors.specs.Search.{Told, found, refusal, answerOf, rangeWrong, rangeAnswer, floorCount, floorAfter, accepts, refusedBefore, toldAfter, searchOf, outputBy, searchOutput}
 use Rattle.floors.specs.Promises.{Some, SearchPromises}
-use Rattle.floors.proofs.search.Laws.{range-passed, input-passed, range-passes, range-short, after-low, after-high, after-within, span-whole}
+use Rattle.floors.proofs.search.Laws.{answer-found, answer-refusal, range-passed, input-passed, range-passes, range-short, after-low, after-high, after-within, span-whole}
 
 -- ---- a floor of the range, by the number of floors above it
 
@@ -181,18 +181,26 @@ module _ (c s : List ℕ) (lo hi : ℤ) (room : ℕ) where
       go Nothing ef =
           let q = none-accepted ef (range-passed c s lo hi room h) b low high in absurd (true≢false (sym a ∙ q))
 
-  -- ---- for the crates above: the answer is short
+  -- ---- for the crates above: the answer is short, and an acceptance carries k
 
   pub told-short : {limit : ℕ} → 23 < limit → Bytes c → Bytes s → Short limit (answerOf told)
-  unfolding answerOf
   told-short {limit} h bc bs = go told refl
     where
       go : (t : Told) → told ≡ t → Short limit (answerOf t)
       go (found b tried k) e =
-          short-accepted k (omega arith) (rw (walked b tried k e .rows-are) (rows-counted s bs))
+          rw (answer-found _ b tried k refl)
+          (short-accepted k (omega arith) (rw (walked b tried k e .rows-are) (rows-counted s bs)))
       go (refusal a) e =
-          told-refused a e (λ f q. rw q (range-short c s lo hi room (omega arith) bc bs))
-          (λ f g q. rw q (short-refused 23 0 h (omega arith)))
+          rw (answer-refusal _ a refl)
+          (told-refused a e (λ f q. rw q (range-short c s lo hi room (omega arith) bc bs))
+          (λ f g q. rw q (short-refused 23 0 h (omega arith))))
+
+  pub told-accepted : Passes (answerOf told) → answerOf told ≡ accepted (rowCount s)
+  told-accepted h = go told refl
+    where
+      go : (t : Told) → told ≡ t → answerOf told ≡ accepted (rowCount s)
+      go (found b tried k) e = answer-found _ b tried k e ∙ rw (walked b tried k e .rows-are)
+      go (refusal a) e = absurd (true≢false (sym h ∙ rw (answer-refusal _ a e) (told-fails a e)))
 
 -- ---- the promises, for whatever is to say that a floor is found, or none
 

@@ -1,5 +1,6 @@
 -- The steps of the exported functions.
 use mathlib.Core.Path.{_≡_, refl, sym, _∙_, ap}
+use mathlib.Core.Bool.{true≢false}
 use mathlib.Core.List.{List}
 use mathlib.Core.Logic.{_↔_}
 use Prim.Native.Nat.{ℕ, _+_, _*_, _<_, _^_}
@@ -7,7 +8,7 @@ use native.Mathlib.Omega.{arith}
 use lib.IntN.{ℤ}
 use lib.ListN.{length}
 use Rattle.integers.proofs.words.Laws.{Bytes}
-use Rattle.answers.specs.Answers.{Answer, sheetNumber, accepted, says, Passes, Short}
+use Rattle.answers.specs.Answers.{Answer, sheetNumber, accepted, refused, says, Passes, Short}
 use Rattle.answers.specs.declared.answers.Sheet.{Sheet}
 use Rattle.answers.specs.declared.answers.Verdict.{Verdict}
 use Rattle.answers.specs.declared.answers.Verdict.the-variants as Verdicts
@@ -21,7 +22,14 @@ use Rattle.evaluation.specs.declared.evaluations.Evaluation.{Evaluation}
 use Rattle.evaluation.specs.declared.evaluations.Evaluation.the-variants.{Value, Refused}
 use Rattle.evaluation.proofs.Promises.{evaluation-promises}
 use Rattle.evaluation.proofs.evaluations.Laws.{evaluation-short, evaluation-passed, passed-value, failed-refusal, value-passed, tells-value, tells-refusal}
-use Rattle.burmelox.specs.Exports.{sheetUnit, numberUnit, codeOf, sheetIn, numberIn, indexIn, Accepted, Coded, toldValue, Stores, Leaves}
+use Rattle.floors.specs.Search as Floors
+use Rattle.floors.specs.Search.{answerOf, searchOf, searchOutput}
+use Rattle.floors.specs.Promises.{SearchPromises}
+use Rattle.floors.specs.declared.search.Searched.{Searched}
+use Rattle.floors.specs.declared.search.Searched.the-variants as Searches
+use Rattle.floors.proofs.Promises.{told-short, told-accepted, told-fails, told-none, search-promises}
+use Rattle.floors.proofs.search.Laws.{tells-found, tells-refusal as tells-unfound, answer-found, answer-refusal}
+use Rattle.burmelox.specs.Exports.{sheetUnit, numberUnit, codeOf, sheetIn, numberIn, indexIn, Accepted, Coded, toldValue, Stores, toldFloor, toldTried, Finds, Leaves}
 
 -- ---- code: x, m and i are the verdict's numbers
 
@@ -121,7 +129,7 @@ module _ (c : List ℕ) (x : List ℤ) (bc : Bytes c) (r : ℕ) (before after : 
   zero-coded : (r ≡ 0) ↔ Passes (evaluationAnswer c x)
   zero-coded = (λ q. below-passed _ r er (omega (arith, q)), λ h. accepted-code _ r er 0 (evaluation-passed c x h))
 
-  leaves : Leaves r before after
+  leaves : Leaves (r ≡ 0) before after
   unfolding toldValue
   leaves = record {
     leaves = λ n.
@@ -137,6 +145,137 @@ module _ (c : List ℕ) (x : List ℤ) (bc : Bytes c) (r : ℕ) (before after : 
   )
 
   pub evaluated : (r ≡ codeOf (evaluationAnswer c x)) × (Coded (evaluationAnswer c x) r
-      × ((after ≡ toldValue (evaluationOf c x) before) × (Leaves r before after
+      × ((after ≡ toldValue (evaluationOf c x) before) × (Leaves (r ≡ 0) before after
       × EvaluationPromises c x (Stores r after))))
   evaluated = (er, (evaluation-coded, (ev, (leaves, evaluation-promises c x _ stores))))
+
+-- ---- burmelox_search: t is the search, r the answer, b and m what is stored, o the output afterwards
+
+module _ (c s : List ℕ) (lo hi : ℤ) (out : List ℕ) where
+  abbrev told : Floors.Told
+  told = searchOf c s lo hi (length out)
+
+  module _ (t : Searched) (lo′ hi′ : ℤ) (e : Floors.tells t ≡ searchOf c s lo′ hi′ (length out)) (el : lo′ ≡ lo)
+      (eh : hi′ ≡ hi) where
+    told-here : Floors.tells t ≡ told
+    told-here = e ∙ rw (el, eh)
+
+    module _ (sheet : Sheet) (h : t ≡ Searches.Refused sheet) where
+      unfound : told ≡ Floors.refusal (says (Verdicts.Refused sheet))
+      unfound = tells-unfound t _ told-here sheet h
+
+      pub search-short : Bytes c → Bytes s → Short 65536 (says (Verdicts.Refused sheet))
+      search-short bc bs =
+          rw (answer-refusal _ _ unfound) at (told-short c s lo hi (length out) {limit = 65536} (omega arith) bc bs)
+
+      pub unfound-code : (r : ℕ) → r ≡ codeOf (says (Verdicts.Refused sheet)) → r ≡ codeOf (answerOf told)
+      unfound-code r er = er ∙ ap codeOf (sym (answer-refusal _ _ unfound))
+
+      pub unfound-floor : (b : ℤ) → b ≡ toldFloor told b
+      unfolding toldFloor
+      unfound-floor b = rw unfound
+
+      pub unfound-tried : (m : ℕ) → m ≡ toldTried told m
+      unfolding toldTried
+      unfound-tried m = rw unfound
+
+    module _ (floor : ℤ) (tried k : ℕ) (h : t ≡ Searches.Found floor tried k) where
+      found : told ≡ Floors.found floor tried k
+      found = tells-found t _ told-here floor tried k h
+
+      pub found-code : k ≡ codeOf (answerOf told)
+      found-code = sym (accepted-code _ _ refl k (answer-found _ _ _ _ found))
+
+      pub found-floor : (b before : ℤ) → b ≡ floor → b ≡ toldFloor told before
+      unfolding toldFloor
+      found-floor b before eb = rw found eb
+
+      pub found-tried : (before : ℕ) → tried ≡ toldTried told before
+      unfolding toldTried
+      found-tried before = rw found
+
+  pub search-output : (o : List ℕ) (lo′ hi′ : ℤ) → o ≡ searchOutput c s lo′ hi′ out → lo′ ≡ lo → hi′ ≡ hi
+      → o ≡ searchOutput c s lo hi out
+  search-output o lo′ hi′ e el eh = e ∙ rw (el, eh)
+
+  module _ (bc : Bytes c) (bs : Bytes s) (r : ℕ) (b₀ b : ℤ) (m₀ m : ℕ) (o : List ℕ) (er : r ≡ codeOf (answerOf told))
+      (eb : b ≡ toldFloor told b₀) (em : m ≡ toldTried told m₀) (eo : o ≡ searchOutput c s lo hi out) where
+    search-coded : Coded (answerOf told) r
+    search-coded =
+        coded (answerOf told) r er (told-short c s lo hi (length out) (omega arith) bc bs) (rowCount s)
+        (told-accepted c s lo hi (length out))
+
+    -- what is told, by what the caller sees
+    module _ (floor : ℤ) (tried k : ℕ) where
+      seen-found : told ≡ Floors.found floor tried k → Finds r b m floor tried k
+      unfolding toldFloor toldTried
+      seen-found e =
+          let a = answer-found told floor tried k e in (
+            search-coded .accepted .1 (accepted-passes _ k a),
+            accepted-code _ r er k a,
+            rw e at eb,
+            rw e at em,
+          )
+
+      found-seen : Finds r b m floor tried k → told ≡ Floors.found floor tried k
+      unfolding toldFloor toldTried
+      found-seen q = go told refl
+        where
+          go : (t : Floors.Told) → told ≡ t → told ≡ Floors.found floor tried k
+          go (Floors.found f n j) e =
+              let a = accepted-code _ r er j (answer-found told f n j e) in
+              let ef : b ≡ f = rw e at eb in
+              let en : m ≡ n = rw e at em in
+              let q₁ = q .1 in
+              let q₂ = q .2 in
+              let q₃ = q .3 in
+              cc
+          go (Floors.refusal a) e =
+              let p = search-coded .accepted .0 (q .0) in
+              absurd (true≢false (sym p ∙ rw (answer-refusal told a e) (told-fails c s lo hi (length out) a e)))
+
+    none-seen : numberIn r ≡ 23 → told ≡ Floors.refusal (refused 23 0)
+    none-seen n = go told refl
+      where
+        number : answerOf told .number ≡ 23
+        number = sym (search-coded .number) ∙ n
+
+        go : (t : Floors.Told) → told ≡ t → told ≡ Floors.refusal (refused 23 0)
+        go (Floors.found f j k) e =
+            absurd (omega (arith, number, accepted-numbers _ k (answer-found told f j k e) .0))
+        go (Floors.refusal a) e =
+            e ∙ ap Floors.refusal
+            (told-none c s lo hi (length out) bc bs a e (rw (answer-refusal told a e) at number))
+
+    kept : {A : Type 0} (x₀ x : A) → ((answer : Answer) → told ≡ Floors.refusal answer → x ≡ x₀)
+        → Leaves (Accepted r) x₀ x
+    kept x₀ x h = record { leaves = λ n. go n told refl }
+      where
+        go : (Accepted r → ⊥) → (t : Floors.Told) → told ≡ t → x ≡ x₀
+        go n (Floors.found f j k) e = absurd (n (seen-found f j k e .0))
+        go n (Floors.refusal a) e = h a e
+
+    pub searched : (r ≡ codeOf (answerOf told)) × (Coded (answerOf told) r × ((o ≡ searchOutput c s lo hi out)
+        × ((b ≡ toldFloor told b₀) × ((m ≡ toldTried told m₀)
+        × ((Leaves (Accepted r) b₀ b × Leaves (Accepted r) m₀ m)
+        × SearchPromises c s lo hi out (Finds r b m) (numberIn r ≡ 23) o)))))
+    unfolding toldFloor toldTried
+    searched = (
+      er,
+      (
+        search-coded,
+        (
+          eo,
+          (
+            eb,
+            (
+              em,
+              (
+                (kept b₀ b (λ a e. eb ∙ rw e), kept m₀ m (λ a e. em ∙ rw e)),
+                search-promises c s lo hi out _ _ (λ f j k. (found-seen f j k, seen-found f j k)) none-seen bc bs o eo,
+              ),
+            ),
+          ),
+        ),
+      ),
+    )

@@ -1,4 +1,4 @@
--- Laws of the search: the floors of a right range, and that 16 to 19 decide on each of them.
+-- Laws of the search: what is told, the floors of a right range, and that 16 to 19 decide on each of them.
 use mathlib.Core.Path.{_≡_, refl, sym, _∙_, ap}
 use mathlib.Core.Bool.{false}
 use mathlib.Core.List.{List}
@@ -12,9 +12,10 @@ use Rattle.integers.proofs.Tests.{nor}
 use Rattle.integers.proofs.words.Laws.{Bytes}
 use Rattle.bounds.specs.Bounds.{greatestWeight, greatestSpan}
 use Rattle.bounds.proofs.bounds.Laws.{within-bound}
-use Rattle.answers.specs.Answers.{blameless, Passes, Short}
+use Rattle.answers.specs.Answers.{Answer, accepted, says, blameless, Passes, Short}
 use Rattle.answers.specs.Searches.{first}
-use Rattle.answers.specs.declared.answers.Verdict.the-variants.{Accepted}
+use Rattle.answers.specs.declared.answers.Sheet.{Sheet}
+use Rattle.answers.specs.declared.answers.Verdict.the-variants as Verdicts
 use Rattle.answers.proofs.answers.Laws.{passes-then, passes-if, then-passes, passed, passed-if, accepted-says, short-accepted, short-if, short-then}
 use Rattle.answers.proofs.searches.Laws.{first-same}
 use Rattle.checks.specs.Input.{inputAnswer, WellFormed}
@@ -22,7 +23,29 @@ use Rattle.checks.proofs.input.Laws.{input-formed, input-passes, input-short}
 use Rattle.sharing.specs.Shifts.{CheckedSheets}
 use Rattle.sharing.proofs.shifts.Laws.{sheets-checked}
 use Rattle.judging.proofs.check.Laws.{floored-answer}
-use Rattle.floors.specs.Search.{rangeWrong, rangeAnswer, floorCount, floorAfter, accepts, refusedBefore, aimAfter, passesAfter, Searchable}
+use Rattle.floors.specs.Search.{Told, found, refusal, tells, answerOf, rangeWrong, rangeAnswer, floorCount, floorAfter, accepts, refusedBefore, aimAfter, passesAfter, Searchable}
+use Rattle.floors.specs.declared.search.Searched.{Searched}
+use Rattle.floors.specs.declared.search.Searched.the-variants.{Found, Refused}
+
+-- ---- what is told
+
+module _ (r : Searched) (t : Told) (e : tells r ≡ t) where
+  pub tells-found : (floor : ℤ) (tried k : ℕ) → r ≡ Found floor tried k → t ≡ found floor tried k
+  unfolding tells
+  tells-found floor tried k h = sym e ∙ rw h
+
+  pub tells-refusal : (x : Sheet) → r ≡ Refused x → t ≡ refusal (says (Verdicts.Refused x))
+  unfolding tells
+  tells-refusal x h = sym e ∙ rw h
+
+module _ (t : Told) where
+  pub answer-found : (floor : ℤ) (tried k : ℕ) → t ≡ found floor tried k → answerOf t ≡ accepted k
+  unfolding answerOf
+  answer-found floor tried k e = rw e
+
+  pub answer-refusal : (a : Answer) → t ≡ refusal a → answerOf t ≡ a
+  unfolding answerOf
+  answer-refusal a e = rw e
 
 -- ---- a right range
 
@@ -97,7 +120,7 @@ module _ (c s : List ℕ) (lo hi : ℤ) (room : ℕ) where
   unfolding rangeAnswer
   range-passes f l r =
       then-passes _ _ (input-passes c s room f l)
-      (passed (Accepted 0) _ (passed-if (Accepted 0) _ 22 _ r (accepted-says 0)) 0 refl)
+      (passed (Verdicts.Accepted 0) _ (passed-if (Verdicts.Accepted 0) _ 22 _ r (accepted-says 0)) 0 refl)
 
   pub range-short : {limit : ℕ} → 22 < limit → Bytes c → Bytes s → Short limit (rangeAnswer c s lo hi room)
   unfolding rangeAnswer
