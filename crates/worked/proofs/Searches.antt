@@ -1,0 +1,47 @@
+-- The cases, computed.
+use mathlib.Core.Path.{refl}
+use Rattle.integers.specs.Words.{u32At, i32At, withBits, withI32}
+use Rattle.integers.specs.Division.{floorDiv, floorMod, share}
+use Rattle.bounds.specs.Bounds.{beyond}
+use Rattle.answers.specs.Answers.{accepted, refused, refuseIf, refuseAt, blameless, andThen}
+use Rattle.answers.specs.Searches.{kept, first}
+use Rattle.points.specs.Lists.{table}
+use Rattle.points.specs.Points.{bytesAt, every, everyPair, samePoint, risesTo, midpointOf, evenSum, hasMidpoint, exponentsWithin, keepsSign}
+use Rattle.squares.specs.Sums.{gathered, coefficient}
+use Rattle.squares.specs.Rows.{slotsAt}
+use Rattle.squares.specs.Targets.{lowered, worst, target}
+use Rattle.sheets.specs.ClaimSheet.{floorOf, withFloor, termPoint, coefficientOf, termOf, termsOf}
+use Rattle.rows.specs.ProofSheet.{scaleOf, vOf, wOf, wordsAt, tripleOf, weightsOf, rowOf, rowsOf, tripleFor}
+use Rattle.writing.specs.Writing.{withTriple, withWeights, withRows}
+use Rattle.claims.specs.ClaimChecks as C
+use Rattle.checks.specs.ProofChecks as P
+use Rattle.checks.specs.Input.{headAnswer, roomAnswer, bodyAnswer, inputAnswer}
+use Rattle.targets.specs.Targets.{aimOf, targetOf}
+use Rattle.sharing.specs.Sharing.{count, errorAt, shiftedWeight, rankOf}
+use Rattle.sharing.specs.Slots.{slotsTo}
+use Rattle.sharing.specs.Shifts.{shiftedWeights, shiftRow, slotsBefore, shiftedRow}
+use Rattle.judgements.specs.Judgements.{negative, indefinite, judgePair, judgeLone, judgementOf, numberOf, judgedAs, firstsTo, judgedAnswer}
+use Rattle.weighing.specs.Unheld.{pointFor, unheldAt, unheld, unheldAnswer}
+use Rattle.weighing.specs.Exact.{weightsFor, exactProof}
+use Rattle.weighing.specs.Weighed.{weighedAnswer}
+use Rattle.judging.specs.Check.{targetsOf, checkAnswer, outputOf}
+use Rattle.floors.specs.Search.{rangeWrong, rangeAnswer, floorCount, floorAfter, accepts, refusedBefore, toldAfter, searchOf, outputBy, searchOutput}
+use Rattle.worked.specs.Sheets.{joined, word, words, claimOf, proofOf, squareWith, square, squareProof, oneRow, bare, noRows, motzkin, motzkinProofBytes, oneTerm}
+use Rattle.worked.specs.Judging.{spare}
+use Rattle.worked.specs.Searches.{finds, refuses, heavy, loneZero, cases, ranges, worked, Worked}
+
+pub all-worked : Worked
+unfolding
+    u32At i32At withBits withI32 floorDiv floorMod share table bytesAt every everyPair samePoint risesTo
+    midpointOf evenSum hasMidpoint exponentsWithin keepsSign gathered coefficient slotsAt lowered worst target
+    floorOf termPoint coefficientOf termOf termsOf scaleOf vOf wOf wordsAt tripleOf weightsOf rowOf rowsOf
+    tripleFor withTriple withWeights withRows accepted refused refuseIf refuseAt blameless andThen kept first beyond
+    C.countsRight C.claimHeaderRight C.termBreaks C.termsAnswer C.claimAnswer P.proofHeaderRight P.headerAnswer
+    P.qOrR P.anyBeyond P.rowBreaks P.rowsAnswer joined word words claimOf proofOf squareWith square squareProof
+    oneRow count errorAt shiftedWeight aimOf targetOf slotsTo rankOf shiftedWeights shiftRow slotsBefore
+    shiftedRow headAnswer roomAnswer bodyAnswer inputAnswer pointFor unheldAt unheld unheldAnswer
+    negative indefinite judgePair judgeLone judgementOf numberOf judgedAs firstsTo judgedAnswer weightsFor
+    exactProof weighedAnswer targetsOf checkAnswer outputOf bare noRows motzkin motzkinProofBytes oneTerm
+    withFloor rangeWrong rangeAnswer floorCount floorAfter accepts refusedBefore toldAfter searchOf outputBy
+    searchOutput spare finds refuses heavy loneZero cases ranges worked
+all-worked = (refl, refl)
