@@ -84,9 +84,11 @@ pub extern "C" fn burmelox_search(
     ensures written { λ r. ⌜ now (output .exit)
         ≡ searchOutput (now (claim .entry)) (now (proof .entry)) lo hi (now (output .entry)) ⌝ }
     ensures floor { λ r. ⌜ now (floor .exit) ≡ toldFloor
-        (searchOf (now (claim .entry)) (now (proof .entry)) lo hi (length (now (output .entry)))) (now (floor .entry)) ⌝ }
+        (searchOf (now (claim .entry)) (now (proof .entry)) lo hi (length (now (output .entry))))
+        (now (floor .entry)) ⌝ }
     ensures tried { λ r. ⌜ now (tried .exit) ≡ toldTried
-        (searchOf (now (claim .entry)) (now (proof .entry)) lo hi (length (now (output .entry)))) (now (tried .entry)) ⌝ }
+        (searchOf (now (claim .entry)) (now (proof .entry)) lo hi (length (now (output .entry))))
+        (now (tried .entry)) ⌝ }
     ensures kept { λ r. ⌜ Leaves (Accepted r) (now (floor .entry)) (now (floor .exit))
         × Leaves (Accepted r) (now (tried .entry)) (now (tried .exit)) ⌝ }
     ensures promises { λ r. ⌜ SearchPromises (now (claim .entry)) (now (proof .entry)) lo hi (now (output .entry))

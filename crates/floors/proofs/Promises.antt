@@ -1,6 +1,6 @@
 -- The promises of the search, from what it tells.
 use mathlib.Core.Path.{_≡_, refl, sym, _∙_, ap}
-use mathlib.Core.Bool.{Bool, true, false, true≢false}
+use mathlib.Core.Bool.{true, false, true≢false}
 use mathlib.Core.List.{List}
 use mathlib.Core.Logic.{_↔_}
 use Prim.Native.Nat.{ℕ, suc, _<_, _≤_}
@@ -14,23 +14,21 @@ use Rattle.integers.proofs.Tests.{never}
 use Rattle.integers.proofs.words.Laws.{Bytes}
 use Rattle.bounds.specs.Bounds.{greatestWeight}
 use Rattle.answers.specs.Answers.{Answer, accepted, refused, blameless, Passes, Short}
-use Rattle.answers.specs.Searches.{first}
 use Rattle.answers.specs.declared.searches.Found as Searches
 use Rattle.answers.specs.declared.searches.Found.the-variants.{At, Nothing}
-use Rattle.answers.proofs.answers.Laws.{passes-or-fails, accepted-numbers, refused-blames, refused-number, short-accepted, short-refused}
+use Rattle.answers.proofs.answers.Laws.{passes-or-fails, refused-blames, refused-number, short-accepted, short-refused}
 use Rattle.answers.proofs.searches.Laws.{first-inside, first-before, none-wrong}
 use Rattle.squares.specs.Sums.{valueAt}
 use Rattle.sheets.specs.Layout.{rowCount}
 use Rattle.sheets.specs.ClaimSheet.{withFloor, termsOf}
 use Rattle.sheets.proofs.claim_sheet.Laws.{floored-floor, floored-terms}
-use Rattle.checks.specs.Input.{WellFormed}
 use Rattle.checks.proofs.proof_checks.Laws.{rows-counted}
-use Rattle.checks.proofs.input.Laws.{claim-formed, input-formed, input-passes}
+use Rattle.sharing.proofs.shifts.Laws.{claim-eight}
 use Rattle.judging.specs.Check.{checkAnswer, outputOf}
 use Rattle.judging.proofs.Promises.{accepted-rows, floor-kept, check-promises}
 use Rattle.floors.specs.Search.{Told, found, refusal, answerOf, rangeWrong, rangeAnswer, floorCount, floorAfter, accepts, refusedBefore, toldAfter, searchOf, outputBy, searchOutput}
 use Rattle.floors.specs.Promises.{Some, SearchPromises}
-use Rattle.floors.proofs.search.Laws.{answer-found, answer-refusal, range-passed, input-passed, range-passes, range-short, after-low, after-high, after-within, span-whole}
+use Rattle.floors.proofs.search.Laws.{answer-found, answer-refusal, searchable, range-passed, range-passes, range-short, after-low, after-high, after-within, span-whole}
 
 -- ---- a floor of the range, by the number of floors above it
 
@@ -124,9 +122,9 @@ module _ (c s : List ℕ) (lo hi : ℤ) (room : ℕ) where
 
     found-floors : (x : List ℤ) → b ≤ℤ valueAt x (termsOf c)
     found-floors x =
-        let formed = claim-formed c s (input-formed c s room (input-passed c s lo hi room (w .ready))) in
+        let long = claim-eight c s _ (searchable c s lo hi room (w .ready) .sheets) in
         let fits = fits-within b greatestWeight found-small (lit< tt) in
-        rw (floored-floor c b (omega (arith, formed .sized)) fits, floored-terms c b)
+        rw (floored-floor c b long fits, floored-terms c b)
         at (floor-kept (withFloor c b) s room found-passes x)
 
   -- ---- 23, and that a floor is found where there is one

@@ -22,8 +22,8 @@ pub record Some (Finds : ℤ → ℕ → ℕ → Type 0) : Type 0 where
   pub rows : ℕ
   pub finds : Finds floor tried rows
 
--- `Finds b tried k` says that the entry point found the floor b, and `FindsNone` that it answered 23, both as its caller
--- sees it; o is the output afterwards
+-- `Finds b tried k` says that the entry point found the floor b, and `FindsNone` that it answered 23, both as its
+-- caller sees them; o is the output afterwards
 pub record SearchPromises (c s : List ℕ) (lo hi : ℤ) (out : List ℕ) (Finds : ℤ → ℕ → ℕ → Type 0) (FindsNone : Type 0)
     (o : List ℕ) : Type 0 where
   -- "the greatest floor whose check is accepted": a floor of the range, accepted with k

@@ -1,4 +1,4 @@
--- The cases, computed.
+-- The cases of checks and of searches, computed.
 use mathlib.Core.Path.{refl}
 use Rattle.integers.specs.Words.{u32At, i32At, withBits, withI32}
 use Rattle.integers.specs.Division.{floorDiv, floorMod, share}
@@ -10,7 +10,7 @@ use Rattle.points.specs.Points.{bytesAt, every, everyPair, samePoint, risesTo, 
 use Rattle.squares.specs.Sums.{gathered, coefficient}
 use Rattle.squares.specs.Rows.{slotsAt}
 use Rattle.squares.specs.Targets.{lowered, worst, target}
-use Rattle.sheets.specs.ClaimSheet.{floorOf, termPoint, coefficientOf, termOf, termsOf}
+use Rattle.sheets.specs.ClaimSheet.{floorOf, withFloor, termPoint, coefficientOf, termOf, termsOf}
 use Rattle.rows.specs.ProofSheet.{scaleOf, vOf, wOf, wordsAt, tripleOf, weightsOf, rowOf, rowsOf, tripleFor}
 use Rattle.writing.specs.Writing.{withTriple, withWeights, withRows}
 use Rattle.claims.specs.ClaimChecks as C
@@ -25,10 +25,12 @@ use Rattle.weighing.specs.Unheld.{pointFor, unheldAt, unheld, unheldAnswer}
 use Rattle.weighing.specs.Exact.{weightsFor, exactProof}
 use Rattle.weighing.specs.Weighed.{weighedAnswer}
 use Rattle.judging.specs.Check.{targetsOf, checkAnswer, outputOf}
+use Rattle.floors.specs.Search as F
 use Rattle.worked.specs.Sheets.{joined, word, words, claimOf, proofOf, squareWith, square, squareProof, oneRow, bare, noRows, motzkin, motzkinProof, motzkinBytes, motzkinProofBytes, oneTerm}
 use Rattle.worked.specs.Judging.{spare, accepts, refuses, motzkinExact, marked, tabled, worked, Worked}
+use Rattle.worked.specs.Searches as S
 
-pub all-worked : Worked
+pub all-worked : Worked × S.Worked
 unfolding
     u32At i32At withBits withI32 floorDiv floorMod share table bytesAt every everyPair samePoint risesTo
     midpointOf evenSum hasMidpoint exponentsWithin keepsSign gathered coefficient slotsAt lowered worst target
@@ -40,5 +42,7 @@ unfolding
     shiftedRow shiftedRows headAnswer roomAnswer bodyAnswer inputAnswer pointFor unheldAt unheld unheldAnswer
     negative indefinite judgePair judgeLone judgementOf numberOf judgedAs firstsTo judgedAnswer weightsFor
     exactProof weighedAnswer targetsOf checkAnswer outputOf bare noRows motzkin motzkinProof motzkinBytes
-    motzkinProofBytes oneTerm spare accepts refuses motzkinExact marked tabled worked
-all-worked = refl
+    motzkinProofBytes oneTerm spare accepts refuses motzkinExact marked tabled worked withFloor F.rangeWrong
+    F.rangeAnswer F.floorCount F.floorAfter F.accepts F.refusedBefore F.toldAfter F.searchOf F.outputBy
+    F.searchOutput S.finds S.refuses S.heavy S.loneZero S.cases S.ranges S.worked
+all-worked = (refl, (refl, refl))

@@ -2,7 +2,7 @@
 use mathlib.Core.Path.{_≡_, refl, sym, _∙_, ap}
 use mathlib.Core.Bool.{false}
 use mathlib.Core.List.{List}
-use Prim.Native.Nat.{ℕ, suc, _<_, _≤_}
+use Prim.Native.Nat.{ℕ, _<_, _≤_}
 use native.Mathlib.Omega.{arith}
 use lib.IntN.{ℤ, pos, natAbs, _-ℤ_}
 use lib.ListN.{length}
@@ -20,7 +20,6 @@ use Rattle.answers.proofs.answers.Laws.{passes-then, passes-if, then-passes, pa
 use Rattle.answers.proofs.searches.Laws.{first-same}
 use Rattle.checks.specs.Input.{inputAnswer, WellFormed}
 use Rattle.checks.proofs.input.Laws.{input-formed, input-passes, input-short}
-use Rattle.sharing.specs.Shifts.{CheckedSheets}
 use Rattle.sharing.proofs.shifts.Laws.{sheets-checked}
 use Rattle.judging.proofs.check.Laws.{floored-answer}
 use Rattle.floors.specs.Search.{Told, found, refusal, tells, answerOf, rangeWrong, rangeAnswer, floorCount, floorAfter, accepts, refusedBefore, aimAfter, passesAfter, Searchable}

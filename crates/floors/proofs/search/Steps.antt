@@ -1,8 +1,8 @@
 -- The steps of the search. A prime marks a number as the machine reads it back.
 use mathlib.Core.Path.{_≡_, refl, sym, _∙_, ap}
-use mathlib.Core.Bool.{Bool, true, false, _||_}
+use mathlib.Core.Bool.{Bool, true, false}
 use mathlib.Core.List.{List, _++_}
-use Prim.Native.Nat.{ℕ, suc, _+_, _<_, _≤_}
+use Prim.Native.Nat.{ℕ, _+_, _<_, _≤_}
 use native.Mathlib.Numerals.{add-one}
 use native.Mathlib.Omega.{arith}
 use lib.Dec.{lit<}
@@ -33,6 +33,7 @@ use Rattle.rows.specs.ProofSheet.{scaleOf}
 use Rattle.targets.specs.Targets.{targetOf}
 use Rattle.targets.specs.declared.targets.Aim.{Aim}
 use Rattle.sharing.specs.Shifts.{CheckedSheets}
+use Rattle.sharing.proofs.shifts.Laws.{proof-eight}
 use Rattle.weighing.specs.Exact.{exactProof, Writable}
 use Rattle.weighing.specs.Weighed.{weighedAnswer}
 use Rattle.weighing.proofs.weighed.Laws.{weighed-within}
@@ -41,7 +42,7 @@ use Rattle.floors.specs.Search.{found, refusal, tells, rangeWrong, range
 use Rattle.floors.specs.Promises.{SearchPromises}
 use Rattle.floors.specs.declared.search.Searched.{Searched}
 use Rattle.floors.specs.declared.search.Searched.the-variants.{Found, Refused}
-use Rattle.floors.specs.Trials.{testCount, turned, failsFrom}
+use Rattle.floors.specs.Trials.{testCount, failsFrom}
 use Rattle.floors.proofs.Promises.{search-promises}
 use Rattle.floors.proofs.search.Laws.{ranged, high-within, after-few, after-within, input-passed, range-passed, searchable, refused-before}
 use Rattle.floors.proofs.trials.Laws.{ring-passed, ring-failed}
@@ -153,12 +154,6 @@ module _ (s : List ℕ) (hi hi′ : ℤ) (i : ℕ) (eh : hi′ ≡ hi) (w : natA
 -- ---- walk: m is the number of floors and n that of the tests, a the aim of a floor, f what its trial found
 
 module _ (c s : List ℕ) (lo hi : ℤ) (given : Searchable c s lo hi) where
-  pub claim-eight : 8 ≤ length c
-  claim-eight = omega (arith, given .sheets .claim .sized)
-
-  pub proof-eight : 8 ≤ length s
-  proof-eight = omega (arith, given .sheets .proof .header .sized)
-
   module _ (n : ℕ) (en : n ≡ testCount c s) where
     pub tests-some : 0 < n
     unfolding testCount
@@ -247,7 +242,7 @@ module _ (c s : List ℕ) (lo hi : ℤ) (out : List ℕ) (v : Verdict) (lo′ hi
     search-ready = rw (el, eh) (searchable c s lo hi (length out) ready)
 
     pub search-proof : 8 ≤ length s
-    search-proof = proof-eight c s lo hi (searchable c s lo hi (length out) ready)
+    search-proof = proof-eight c s _ (searchable c s lo hi (length out) ready .sheets)
 
     -- f is what the walk found
     module _ (f : Searches.Found) (ef : f ≡ first (passesAfter c s hi′) (floorCount lo′ hi′)) where

@@ -1,8 +1,8 @@
 -- Laws of trials: from wherever they are begun, none of the tests fails exactly where 16 to 19 are passed.
 use mathlib.Core.Path.{_≡_, sym, _∙_}
-use mathlib.Core.Bool.{Bool, true, false, not, true≢false}
+use mathlib.Core.Bool.{true, false, not, true≢false}
 use mathlib.Core.List.{List}
-use Prim.Native.Nat.{ℕ, suc, _+_, _-_, _<_, _≤_}
+use Prim.Native.Nat.{ℕ, _+_, _-_, _<_, _≤_}
 use native.Mathlib.Decide.{decLt}
 use native.Mathlib.Omega.{arith}
 use lib.IntN.{ℤ}
@@ -14,7 +14,7 @@ use Rattle.answers.specs.declared.searches.Found.the-variants.{At, Nothing}
 use Rattle.answers.proofs.answers.Laws.{passes-or-fails, accepted-passes}
 use Rattle.answers.proofs.searches.Laws.{none-wrong, first-inside}
 use Rattle.points.specs.Points.{Exponents}
-use Rattle.sheets.specs.Layout.{termCount, rowCount}
+use Rattle.sheets.specs.Layout.{rowCount}
 use Rattle.sharing.specs.Shifts.{shiftedRow}
 use Rattle.judgements.specs.Judgements.{judgedAs}
 use Rattle.weighing.specs.Unheld.{unheld}

@@ -11,10 +11,11 @@ use Rattle.points.specs.Points.{Exponents}
 use Rattle.sheets.specs.Layout.{termCount, rowCount}
 use Rattle.targets.specs.declared.targets.Aim.{Aim}
 use Rattle.sharing.specs.Shifts.{shiftedRow, CheckedSheets}
-use Rattle.judgements.specs.Judgements.{judgementOf, numberOf, judgedAs}
+use Rattle.judgements.specs.Judgements.{judgementOf, numberOf}
 use Rattle.judgements.specs.declared.judgements.Judgement.{Judgement}
+use Rattle.judgements.proofs.judgements.Laws.{holds-judged-as}
 use Rattle.weighing.specs.Unheld.{unheld}
-use Rattle.floors.specs.Trials.{testCount, fails, turned, failsFrom}
+use Rattle.floors.specs.Trials.{pointCount, testCount, fails, turned, failsFrom}
 use Rattle.floors.proofs.trials.Laws.{turned-on, turned-round, fails-point, fails-row}
 
 -- ---- test_count and fails: t and k are what the sheets say
@@ -33,12 +34,13 @@ module _ (c s : List ℕ) (t : ℕ) (et : t ≡ termCount c) where
       unfolding testCount
       row-inside m = omega (arith, et)
 
-      pub row-fails : (j : Judgement) (r : Bool) → j ≡ judgementOf greatestWeight (shiftedRow τ s (i - (t + 1)) .weights)
-          → r ≡ eqb (numberOf j) 0 → not r ≡ fails τ c s i
-      unfolding judgedAs
+      pub row-fails : (j : Judgement) (r : Bool)
+          → j ≡ judgementOf greatestWeight (shiftedRow τ s (i - (t + 1)) .weights) → r ≡ eqb (numberOf j) 0
+          → not r ≡ fails τ c s i
       row-fails j r ej er =
-          let e : i - (t + 1) ≡ i - Prim.Native.Nat.suc (termCount c) = omega (arith, et) in
-          rw (er, ej, e) (sym (fails-row τ c s i (omega (arith, et))))
+          let e : i - (t + 1) ≡ i - pointCount c = omega (arith, et) in
+          rw (er, holds-judged-as greatestWeight (shiftedRow τ s) _ j ej, e)
+          (sym (fails-row τ c s i (omega (arith, et))))
 
 -- ---- turn
 

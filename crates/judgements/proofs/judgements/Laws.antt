@@ -59,6 +59,12 @@ pub row-judged : (limit : ℕ) (row : Row) (a : Value.Row) (j : Judgement) → a
     → j ≡ judgementOf limit (a .weights) → j ≡ judgementOf limit (row .weights)
 row-judged limit row a j ea ej = ej ∙ rw (value-weights _ a ea)
 
+-- whether it holds, by its judgement
+pub holds-judged-as : (limit : ℕ) (row : ℕ → Row) (i : ℕ) (j : Judgement) → j ≡ judgementOf limit (row i .weights)
+    → eqb (numberOf j) 0 ≡ judgedAs 0 limit row i
+unfolding judgedAs
+holds-judged-as limit row i j e = rw e
+
 -- ---- a row is judged to hold exactly where its weights are within the limit and it holds
 
 not-negative : (x : ℤ) → pos 0 ≤ℤ x → negative x ≡ false
@@ -174,6 +180,7 @@ pub judged-short : {m : ℕ} (limit : ℕ) (row : ℕ → Row) (k : ℕ) → 19 
     → Short m (judgedAnswer (firstsTo limit row k) k)
 unfolding judgedAnswer firstsTo
 judged-short limit row k h l =
+    let few : k ≤ 65536 = omega arith in
     short-at 17 _ (omega arith)
     (short-at 18 _ (omega arith)
-    (short-at 19 _ (omega arith) (short-accepted k (omega arith) l) _ _ (omega arith)) _ _ (omega arith)) _ _ (omega arith)
+    (short-at 19 _ h (short-accepted k (omega arith) l) _ _ few) _ _ few) _ _ few

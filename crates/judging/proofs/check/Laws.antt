@@ -2,7 +2,6 @@
 use mathlib.Core.Path.{_≡_, _∙_}
 use mathlib.Core.List.{List, _++_}
 use Prim.Native.Nat.{ℕ, _≤_}
-use native.Mathlib.Omega.{arith}
 use lib.IntN.{ℤ, natAbs}
 use lib.ListN.{length, drop}
 use Rattle.bounds.specs.Bounds.{greatestWeight}
@@ -12,9 +11,10 @@ use Rattle.points.specs.Points.{Exponents}
 use Rattle.sheets.specs.ClaimSheet.{withFloor}
 use Rattle.rows.specs.ProofSheet.{scaleOf}
 use Rattle.checks.specs.Input.{inputAnswer}
-use Rattle.checks.proofs.input.Laws.{claim-formed, input-formed, input-floored}
+use Rattle.checks.proofs.input.Laws.{input-formed, input-floored}
 use Rattle.targets.specs.Targets.{targetOf}
 use Rattle.targets.proofs.targets.Laws.{targets-floored}
+use Rattle.sharing.proofs.shifts.Laws.{sheets-checked, claim-eight}
 use Rattle.weighing.specs.Exact.{exactProof}
 use Rattle.weighing.specs.Weighed.{weighedAnswer}
 use Rattle.weighing.proofs.weighed.Laws.{weighed-floored}
@@ -28,7 +28,7 @@ module _ (c s : List ℕ) (room : ℕ) (h : Passes (inputAnswer c s room)) (b : 
 
   targets : targetsOf (withFloor c b) s ≡ τ
   unfolding targetsOf
-  targets = targets-floored c s b (omega (arith, claim-formed c s (input-formed c s room h) .sized)) w
+  targets = targets-floored c s b (claim-eight c s _ (sheets-checked c s (input-formed c s room h))) w
 
   -- its check is that of 16 to 19
   pub floored-answer : checkAnswer (withFloor c b) s room ≡ weighedAnswer τ c s

@@ -2,7 +2,6 @@
 use mathlib.Core.Path.{_≡_, _∙_}
 use mathlib.Core.List.{List, _++_}
 use Prim.Native.Nat.{ℕ, _≤_}
-use native.Mathlib.Omega.{arith}
 use lib.ListN.{length, drop}
 use Rattle.integers.proofs.words.Laws.{Bytes}
 use Rattle.answers.specs.Answers.{says, Passes}
@@ -16,7 +15,7 @@ use Rattle.checks.proofs.input.Laws.{input-formed}
 use Rattle.targets.specs.Targets.{aimOf, targetOf}
 use Rattle.targets.specs.declared.targets.Aim.{Aim}
 use Rattle.sharing.specs.Shifts.{CheckedSheets}
-use Rattle.sharing.proofs.shifts.Laws.{sheets-checked}
+use Rattle.sharing.proofs.shifts.Laws.{sheets-checked, claim-eight, proof-eight}
 use Rattle.weighing.specs.Weighed.{weighedAnswer}
 use Rattle.weighing.specs.Exact.{Writable, exactProof}
 use Rattle.judging.specs.Check.{targetsOf, checkAnswer, outputOf}
@@ -25,18 +24,8 @@ use Rattle.judging.proofs.Promises.{accepted-formed, accepted-enough, a
 
 -- ---- what decide and check read of well-formed sheets: a is the aim that was read
 
-module _ (c s : List ℕ) (f : WellFormed c s) where
-  own : CheckedSheets c s (aimOf c s)
-  own = sheets-checked c s f
-
-  claim-eight : 8 ≤ length c
-  claim-eight = omega (arith, own .claim .sized)
-
-  proof-eight : 8 ≤ length s
-  proof-eight = omega (arith, own .proof .header .sized)
-
-  pub own-here : (a : Aim) → a ≡ aimOf c s → CheckedSheets c s a
-  own-here a e = rw e own
+pub own-here : (c s : List ℕ) → WellFormed c s → (a : Aim) → a ≡ aimOf c s → CheckedSheets c s a
+own-here c s f a e = rw e (sheets-checked c s f)
 
 -- ---- decide: v is the verdict on 1 to 15
 
@@ -50,10 +39,10 @@ module _ (c s : List ℕ) (room : ℕ) (v : Verdict) (e : says v ≡ inputAnswer
     input-accepted = input-formed c s room (passed v _ e j h)
 
     pub decided-claim : 8 ≤ length c
-    decided-claim = claim-eight c s input-accepted
+    decided-claim = claim-eight c s _ (sheets-checked c s input-accepted)
 
     pub decided-proof : 8 ≤ length s
-    decided-proof = proof-eight c s input-accepted
+    decided-proof = proof-eight c s _ (sheets-checked c s input-accepted)
 
     pub decided-weighed : (a : Aim) (r : Verdict) → says r ≡ weighedAnswer (targetOf c a) c s → a ≡ aimOf c s
         → says r ≡ checkAnswer c s room
@@ -82,10 +71,10 @@ module _ (c s out : List ℕ) (v : Verdict) (e : says v ≡ checkAnswer c s (len
     check-accepted = accepted-formed c s (length out) passes
 
     pub accepted-claim : 8 ≤ length c
-    accepted-claim = claim-eight c s check-accepted
+    accepted-claim = claim-eight c s _ (sheets-checked c s check-accepted)
 
     pub accepted-proof : 8 ≤ length s
-    accepted-proof = proof-eight c s check-accepted
+    accepted-proof = proof-eight c s _ (sheets-checked c s check-accepted)
 
     module _ (a : Aim) (ea : a ≡ aimOf c s) where
       pub writable : Writable c s a out

@@ -3,7 +3,8 @@
 use mathlib.Core.Path.{_≡_, refl, sym, _∙_, ap₂}
 use mathlib.Core.List.{List, _++_, append-nil, append-assoc}
 use mathlib.Core.Bool.{Bool, true, false}
-use Prim.Native.Nat.{ℕ, _<_}
+use Prim.Native.Nat.{ℕ, _<_, _≤_}
+use native.Mathlib.Omega.{arith}
 use lib.IntN.{ℤ, pos}
 use lib.ListN.{length}
 use Rattle.points.specs.Points.{Exponents, samePoint, midpointOf}
@@ -48,6 +49,13 @@ sheets-checked c s f =
     }
 
 -- ---- what they give the functions: sh is the shape that was read
+
+module _ (c s : List ℕ) (a : Aim) (given : CheckedSheets c s a) where
+  pub claim-eight : 8 ≤ length c
+  claim-eight = omega (arith, given .claim .sized)
+
+  pub proof-eight : 8 ≤ length s
+  proof-eight = omega (arith, given .proof .header .sized)
 
 module _ (c s : List ℕ) (a : Aim) (given : CheckedSheets c s a) (sh : Shape) (e : sh ≡ shapeOf s) where
   pub proof-checked : ProofFacts s sh

@@ -1,17 +1,11 @@
+use borrow.Author.Needs.{needs}
 use mir.Facts.{toZ-ofZ}
 use Rattle.floors.proofs.search.Steps.{count-fits, count-small, count-is}
-use borrow.Author.Needs.{needs}
 use Rattle.floors.proofs.search.floor_count.Statement.{statement}
 use Rattle.floors.proofs.search.floor_count.Tie as tie
-use Rattle.floors.proofs.search.floor_count.Reads as reads
-use Rattle.floors.proofs.search.floor_count.Lts as lts
-use Rattle.integers.proofs.magnitudes.magnitude.Reads as magnitude-reads
 
 sub-magnitude : tie.Need-sub-magnitude
 sub-magnitude c = search (count-fits, toZ-ofZ)
-
-magnitude-requires : tie.Need-magnitude-requires
-magnitude-requires c κs = search needs
 
 add-result : tie.Need-add-result
 add-result c = search (count-small, toZ-ofZ)
@@ -20,4 +14,4 @@ returns : tie.Need-returns
 returns c = search (count-is, toZ-ofZ)
 
 pub floor-count-spec : {M : Type 1} → statement M
-floor-count-spec = tie.close (tie.spec sub-magnitude magnitude-requires add-result returns)
+floor-count-spec = tie.close (tie.spec sub-magnitude (λ c κs. search needs) add-result returns)

@@ -1,26 +1,21 @@
-use borrow.Author.Needs.{needs}
 use mathlib.Core.Path.{_≡_}
 use Prim.Native.Nat.{_<_, _≤_, _-_}
+use borrow.Author.Needs.{needs}
 use mir.Syntax.{w64}
 use mir.Val.{toZ}
 use mir.Facts.{toZ-ofZ}
 use Rattle.answers.specs.Searches.{first}
 use Rattle.answers.specs.declared.searches.Found.the-variants.{Nothing}
 use Rattle.answers.proofs.searches.Laws.{first-start}
+use Rattle.sharing.proofs.shifts.Laws.{claim-eight, proof-eight}
 use Rattle.floors.specs.Search.{passesAfter}
-use Rattle.floors.proofs.search.Steps.{claim-eight, proof-eight, tests-some, walk-tests, walk-range, walk-high, walk-few, walk-checked, trial-passed, trial-failed, test-below, walk-stop, walk-next, walk-end}
+use Rattle.floors.proofs.search.Steps.{tests-some, walk-tests, walk-range, walk-high, walk-few, walk-checked, trial-passed, trial-failed, test-below, walk-stop, walk-next, walk-end}
 use Rattle.floors.proofs.search.walk.Statement.{statement}
 use Rattle.floors.proofs.search.walk.Tie as tie
-use Rattle.floors.proofs.search.walk.Reads as reads
-use Rattle.floors.proofs.search.walk.Lts as lts
-use Rattle.floors.proofs.search.aim_after.Reads as aim-after-reads
-use Rattle.floors.proofs.search.floor_count.Reads as floor-count-reads
-use Rattle.floors.proofs.trials.first_failing.Reads as first-failing-reads
-use Rattle.floors.proofs.trials.test_count.Reads as test-count-reads
-use Rattle.floors.proofs.trials.turn.Reads as turn-reads
 
 abbrev Inv-loop : tie.InvT-loop
-Inv-loop claim proof lo hi tests floors last₀ i₀ last i = (i ≤ floors) × (last < tests) × (first (passesAfter claim proof (toZ w64 hi)) i ≡ Nothing)
+Inv-loop claim proof lo hi tests floors last₀ i₀ last i =
+    (i ≤ floors) × (last < tests) × (first (passesAfter claim proof (toZ w64 hi)) i ≡ Nothing)
 
 abbrev μ-loop : tie.MeasureT-loop
 μ-loop claim proof lo hi tests floors last₀ i₀ last i = floors - i
@@ -40,23 +35,11 @@ aim-after-requires c κs = (search proof-eight, search (walk-high, toZ-ofZ), sea
 first-failing-requires : tie.Need-first-failing-requires Inv-loop μ-loop
 first-failing-requires c κs = (search (walk-checked, toZ-ofZ), search needs, search needs)
 
-enum-known-j : tie.Need-enum-known-j Inv-loop μ-loop
-enum-known-j c = search needs
-
-enum-told : tie.Need-enum-told Inv-loop μ-loop
-enum-told c = search needs
-
 returns : tie.Need-returns Inv-loop μ-loop
 returns c = search (walk-stop, trial-passed, toZ-ofZ)
 
 turn-requires : tie.Need-turn-requires Inv-loop μ-loop
 turn-requires c κs = (search walk-tests, search needs, search (test-below, toZ-ofZ))
-
-add-i : tie.Need-add-i Inv-loop μ-loop
-add-i c = search needs
-
-loop-less : tie.Need-loop-less Inv-loop μ-loop
-loop-less c = search needs
 
 loop-again : tie.Need-loop-again Inv-loop μ-loop
 loop-again c = (search needs, search needs, search (walk-next, trial-failed, toZ-ofZ))
@@ -67,19 +50,6 @@ returns-2 c = search (walk-end, toZ-ofZ)
 pub walk-spec : {M : Type 1} → statement M
 walk-spec =
     tie.close
-    (tie.spec
-    Inv-loop
-    μ-loop
-    test-count-requires
-    floor-count-requires
-    loop-holds
-    aim-after-requires
-    first-failing-requires
-    enum-known-j
-    enum-told
-    returns
-    turn-requires
-    add-i
-    loop-less
-    loop-again
-    returns-2)
+    (tie.spec Inv-loop μ-loop test-count-requires floor-count-requires loop-holds aim-after-requires
+    first-failing-requires (λ c. search needs) (λ c. search needs) returns turn-requires (λ c. search needs)
+    (λ c. search needs) loop-again returns-2)

@@ -1,6 +1,6 @@
-use borrow.Author.Needs.{needs}
 use mathlib.Core.Path.{_≡_}
 use Prim.Native.Nat.{_≤_, _-_}
+use borrow.Author.Needs.{needs}
 use Rattle.answers.specs.Searches.{first}
 use Rattle.answers.specs.declared.searches.Found.the-variants.{Nothing}
 use Rattle.answers.proofs.searches.Laws.{first-start, first-stop, first-next, first-end}
@@ -9,13 +9,10 @@ use Rattle.floors.specs.Trials.{failsFrom}
 use Rattle.floors.proofs.trials.Steps.{tests-few, test-met, test-inside}
 use Rattle.floors.proofs.trials.first_failing.Statement.{statement}
 use Rattle.floors.proofs.trials.first_failing.Tie as tie
-use Rattle.floors.proofs.trials.first_failing.Reads as reads
-use Rattle.floors.proofs.trials.first_failing.Lts as lts
-use Rattle.floors.proofs.trials.fails.Reads as fails-reads
-use Rattle.floors.proofs.trials.turn.Reads as turn-reads
 
 abbrev Inv-loop : tie.InvT-loop
-Inv-loop claim proof aim tests from i₀ i = (i ≤ tests) × (first (failsFrom (targetOf claim aim) claim proof from) i ≡ Nothing)
+Inv-loop claim proof aim tests from i₀ i =
+    (i ≤ tests) × (first (failsFrom (targetOf claim aim) claim proof from) i ≡ Nothing)
 
 abbrev μ-loop : tie.MeasureT-loop
 μ-loop claim proof aim tests from i₀ i = tests - i
@@ -32,12 +29,6 @@ fails-requires c κs = (search needs, search test-inside)
 returns : tie.Need-returns Inv-loop μ-loop
 returns c = search (first-stop, test-met)
 
-add-i : tie.Need-add-i Inv-loop μ-loop
-add-i c = search needs
-
-loop-less : tie.Need-loop-less Inv-loop μ-loop
-loop-less c = search needs
-
 loop-again : tie.Need-loop-again Inv-loop μ-loop
 loop-again c = (search needs, search (first-next, test-met))
 
@@ -47,14 +38,5 @@ returns-2 c = search first-end
 pub first-failing-spec : {M : Type 1} → statement M
 first-failing-spec =
     tie.close
-    (tie.spec
-    Inv-loop
-    μ-loop
-    loop-holds
-    turn-requires
-    fails-requires
-    returns
-    add-i
-    loop-less
-    loop-again
-    returns-2)
+    (tie.spec Inv-loop μ-loop loop-holds turn-requires fails-requires returns (λ c. search needs)
+    (λ c. search needs) loop-again returns-2)

@@ -1,12 +1,7 @@
-use Rattle.floors.proofs.trials.Steps.{turn-on, turn-round}
 use borrow.Author.Needs.{needs}
+use Rattle.floors.proofs.trials.Steps.{turn-on, turn-round}
 use Rattle.floors.proofs.trials.turn.Statement.{statement}
 use Rattle.floors.proofs.trials.turn.Tie as tie
-use Rattle.floors.proofs.trials.turn.Reads as reads
-use Rattle.floors.proofs.trials.turn.Lts as lts
-
-add-at : tie.Need-add-at
-add-at c = search needs
 
 returns : tie.Need-returns
 returns c = (search turn-on, search needs)
@@ -15,4 +10,4 @@ returns-2 : tie.Need-returns-2
 returns-2 c = (search turn-round, search needs)
 
 pub turn-spec : {M : Type 1} → statement M
-turn-spec = tie.close (tie.spec add-at returns returns-2)
+turn-spec = tie.close (tie.spec (λ c. search needs) returns returns-2)
