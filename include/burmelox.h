@@ -1,14 +1,14 @@
 /*
- * Burmelox: floors under polynomials, checked and evaluated. docs/FORMAT.md has the layout of both
- * sheets, what each refusal means and what to do about it.
+ * Burmelox: floors under polynomials, checked and searched, and the polynomials evaluated.
+ * docs/FORMAT.md has the layout of both sheets, what each refusal means and what to do about it.
  *
  * Sheets, outputs and offsets may be of any length and content: what is wrong is refused, and a
  * refusal writes nothing. The functions keep no state and allocate nothing, so any thread may call
  * them at any time with buffers of its own.
  *
  * A pointer whose length is 0 is not read through and may be null. Every other pointer leads to as
- * many elements as its length says, `value` to one; what is written overlaps nothing else that is
- * handed over.
+ * many elements as its length says, `value`, `floor` and `tried` to one each; what is written
+ * overlaps nothing else that is handed over.
  */
 #ifndef BURMELOX_H
 #define BURMELOX_H
@@ -39,7 +39,8 @@ enum burmelox_sheet {
     BURMELOX_CLAIM = 1,
     BURMELOX_PROOF = 2,
     BURMELOX_OUTPUT = 3,
-    BURMELOX_OFFSETS = 4
+    BURMELOX_OFFSETS = 4,
+    BURMELOX_RANGE = 5
 };
 
 /* The number of a refusal; its index is that of a term or a row where the comment says so. */
@@ -64,10 +65,15 @@ enum burmelox_refusal {
     BURMELOX_SHIFTED_NEGATIVE = 18,     /* p or q; row */
     BURMELOX_CROSS_TOO_LARGE = 19,      /* r * r over 4 * p * q; row */
     BURMELOX_OFFSETS_COUNT = 20,        /* not n */
-    BURMELOX_TERM_TOO_LARGE = 21        /* over 2^56; term */
+    BURMELOX_TERM_TOO_LARGE = 21,       /* over 2^56; term */
+    BURMELOX_RANGE_WRONG = 22,          /* lo over hi, either beyond the limit, or too many floors */
+    BURMELOX_NO_FLOOR = 23              /* from lo to hi none is accepted */
 };
 
-/* Limits; floors, coefficients and weights are within plus and minus the greatest weight. */
+/*
+ * Limits; floors, coefficients and weights are within plus and minus the greatest weight, and the
+ * greatest span is that of hi - lo in a search.
+ */
 #define BURMELOX_MOST_VARIABLES 8
 #define BURMELOX_MOST_TERMS 64
 #define BURMELOX_MOST_ROWS 256
@@ -75,6 +81,7 @@ enum burmelox_refusal {
 #define BURMELOX_GREATEST_SCALE 1048576
 #define BURMELOX_GREATEST_WEIGHT 1073741824
 #define BURMELOX_GREATEST_VALUE 72057594037927936
+#define BURMELOX_GREATEST_SPAN 4095
 
 /* The length of a claim of n variables and t terms, and of a proof of n variables and k rows. */
 #define BURMELOX_CLAIM_LENGTH(n, t) ((size_t)8 + (size_t)(t) * ((size_t)(n) + 4))
@@ -102,6 +109,20 @@ uint64_t burmelox_check(const uint8_t *claim, size_t claim_len,
 uint64_t burmelox_evaluate(const uint8_t *claim, size_t claim_len,
                            const int32_t *offsets, size_t offsets_len,
                            int64_t *value);
+
+/*
+ * Searches the floors from hi down to lo for the highest that the proof shows; the claim's own floor
+ * is not used, though it has to be within the limits. Where one is found, the answer is the number
+ * of rows, the floor is stored, and as `tried` the number of floors tried, hi - floor + 1; the
+ * output's first proof_len bytes are the exact proof of this floor and later ones keep their values.
+ * The polynomial is then at least that floor at all integers, and a check of any higher floor up to
+ * hi is refused. Any other answer is a refusal, and both numbers stay as they were.
+ */
+uint64_t burmelox_search(const uint8_t *claim, size_t claim_len,
+                         const uint8_t *proof, size_t proof_len,
+                         int64_t lo, int64_t hi,
+                         uint8_t *output, size_t output_len,
+                         int64_t *floor, uint32_t *tried);
 
 #ifdef __cplusplus
 }

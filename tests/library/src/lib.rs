@@ -20,6 +20,19 @@ extern "C" {
         offsets_len: usize,
         value: *mut i64,
     ) -> u64;
+
+    fn burmelox_search(
+        claim: *const u8,
+        claim_len: usize,
+        proof: *const u8,
+        proof_len: usize,
+        lo: i64,
+        hi: i64,
+        output: *mut u8,
+        output_len: usize,
+        floor: *mut i64,
+        tried: *mut u32,
+    ) -> u64;
 }
 
 /// Checks a proof of a claim. Answers the number of rows where it is accepted, and the first bytes
@@ -44,5 +57,35 @@ pub fn evaluate(claim: &[u8], offsets: &[i32], value: &mut i64) -> u64 {
     // SAFETY: each pointer comes with the length of its slice, and `value` is one number.
     unsafe {
         burmelox_evaluate(claim.as_ptr(), claim.len(), offsets.as_ptr(), offsets.len(), value)
+    }
+}
+
+/// Searches the floors from `hi` down to `lo` for the highest whose check is accepted. Answers the
+/// number of rows, stores the floor and how many were tried, and the first bytes of the output are
+/// then that floor's exact proof; else a refusal as the check does, and nothing is stored.
+pub fn search(
+    claim: &[u8],
+    proof: &[u8],
+    lo: i64,
+    hi: i64,
+    output: &mut [u8],
+    floor: &mut i64,
+    tried: &mut u32,
+) -> u64 {
+    // SAFETY: each pointer comes with the length of its slice; `floor` and `tried` are one number
+    // each.
+    unsafe {
+        burmelox_search(
+            claim.as_ptr(),
+            claim.len(),
+            proof.as_ptr(),
+            proof.len(),
+            lo,
+            hi,
+            output.as_mut_ptr(),
+            output.len(),
+            floor,
+            tried,
+        )
     }
 }
