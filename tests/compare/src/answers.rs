@@ -2,7 +2,7 @@
 
 use crate::program;
 use crate::report::Outcome;
-use oracle::{Integer, Refusal};
+use oracle::{Accepted, Found, Integer, Refusal};
 use refusals::EntryPoint;
 use sheets::random::Rng;
 use sheets::Case;
@@ -11,36 +11,81 @@ use std::fmt::{self, Display};
 /// Bytes before and after the output that must keep their values.
 const GUARD: usize = 16;
 
-/// The number that a check or an evaluation ended with, 0 where nothing was refused.
-type Number = u32;
+/// What both answered, or how they differ.
+type Compared<T> = Result<Result<T, Refusal>, String>;
 
-/// Compares what an entry point answers to a case.
-pub fn compare(entry_point: EntryPoint, case: &Case, rng: &mut Rng) -> Result<Number, String> {
-    match entry_point {
-        EntryPoint::Check => check(case, rng),
-        EntryPoint::Evaluation => evaluate(case, rng),
-        EntryPoint::Program => text(case),
+/// Compares what an entry point answers to a case, and gives the refusal where it is one.
+pub fn compare(
+    entry_point: EntryPoint,
+    case: &Case,
+    rng: &mut Rng,
+) -> Result<Option<Refusal>, String> {
+    Ok(match entry_point {
+        EntryPoint::Check => check(case, rng)?.err(),
+        EntryPoint::Evaluation => evaluate(case, rng)?.err(),
+        EntryPoint::Search => search(case, rng)?.err(),
+        EntryPoint::Program => text(case)?.err(),
+    })
+}
+
+/// An output of random bytes between others, which are not lent.
+struct Output {
+    before: Vec<u8>,
+    bytes: Vec<u8>,
+}
+
+impl Output {
+    fn new(rng: &mut Rng, room: usize) -> Output {
+        let before = rng.bytes(GUARD + room + GUARD);
+        Output { bytes: before.clone(), before }
+    }
+
+    fn lent(&mut self) -> &mut [u8] {
+        let end = self.bytes.len() - GUARD;
+        &mut self.bytes[GUARD..end]
+    }
+
+    /// Compares every byte: of an acceptance the first ones are the exact proof, and all others are
+    /// as they were.
+    fn compare(mut self, accepted: Option<&Accepted>, case: &Case) -> Outcome {
+        let exact = accepted.map_or(&[][..], |accepted| &accepted.bytes);
+        self.before[GUARD..][..exact.len()].copy_from_slice(exact);
+        same("output", &Hex(&self.before), &Hex(&self.bytes), case)
     }
 }
 
-/// Compares a check by the library: its answer and every byte of the output, which is filled with
-/// random bytes before.
-pub fn check(case: &Case, rng: &mut Rng) -> Result<Number, String> {
+/// Compares a check by the library: its answer and every byte of the output.
+pub fn check(case: &Case, rng: &mut Rng) -> Compared<Accepted> {
     let verdict = oracle::check(&case.claim, &case.proof, case.room);
-    let before = rng.bytes(GUARD + case.room + GUARD);
-    let mut written = before.clone();
-    let output = &mut written[GUARD..GUARD + case.room];
-    let answer = library::check(&case.claim, &case.proof, output);
+    let mut output = Output::new(rng, case.room);
+    let answer = library::check(&case.claim, &case.proof, output.lent());
 
-    let mut expected = before;
+    same("check", &code(verdict.as_ref(), rows), &answer, case)?;
+    output.compare(verdict.as_ref().ok(), case)?;
     if let Ok(accepted) = &verdict {
-        expected[GUARD..][..accepted.bytes.len()].copy_from_slice(&accepted.bytes);
         keeps_exact(case, &accepted.bytes)?;
     }
-    let verdict = verdict.map(|accepted| accepted.weights.len() as u64);
-    same("check", &verdict.unwrap_or_else(Refusal::code), &answer, case)?;
-    same("output", &Hex(&expected), &Hex(&written), case)?;
-    Ok(number(verdict))
+    Ok(verdict)
+}
+
+/// Compares a search by the library: its answer, the floor and the number of floors tried, which
+/// are random before, and every byte of the output.
+pub fn search(case: &Case, rng: &mut Rng) -> Compared<Found> {
+    let Case { claim, proof, room, lo, hi, .. } = case;
+    let found = oracle::search(claim, proof, *room, *lo, *hi);
+    let mut output = Output::new(rng, *room);
+    let (mut floor, mut tried) = (rng.bits() as i64, rng.bits() as u32);
+    let before = (floor, tried);
+    let answer = library::search(claim, proof, *lo, *hi, output.lent(), &mut floor, &mut tried);
+
+    let verdict = found.as_ref().map(|found| &found.accepted);
+    let stored = found.as_ref().map(|found| (found.accepted.floor.into(), found.tried));
+    let expected = stored.unwrap_or(before);
+    same("search", &code(verdict, rows), &answer, case)?;
+    same("floor", &expected.0, &floor, case)?;
+    same("number of floors tried", &expected.1, &tried, case)?;
+    output.compare(verdict.ok(), case)?;
+    Ok(found)
 }
 
 /// An exact proof, whose weights add up, is accepted again and written as it is.
@@ -52,25 +97,23 @@ fn keeps_exact(case: &Case, exact: &[u8]) -> Outcome {
 }
 
 /// Compares an evaluation by the library: its answer, and the value, which is random before.
-fn evaluate(case: &Case, rng: &mut Rng) -> Result<Number, String> {
+fn evaluate(case: &Case, rng: &mut Rng) -> Compared<Integer> {
     let exact = oracle::evaluate(&case.claim, &case.offsets);
-    let before = rng.bits() as i64;
-    let mut value = before;
+    let mut value = rng.bits() as i64;
+    let before = Integer::from(value);
     let answer = library::evaluate(&case.claim, &case.offsets, &mut value);
 
-    let verdict = exact.as_ref().map(|_| 0).map_err(|refusal| *refusal);
-    let expected = exact.unwrap_or(Integer::from(before));
-    same("evaluation", &verdict.unwrap_or_else(Refusal::code), &answer, case)?;
-    same("value", &expected, &Integer::from(value), case)?;
-    Ok(number(verdict))
+    same("evaluation", &code(exact.as_ref(), |_| 0), &answer, case)?;
+    same("value", exact.as_ref().unwrap_or(&before), &Integer::from(value), case)?;
+    Ok(exact)
 }
 
 /// Compares the text that the program prints.
-fn text(case: &Case) -> Result<Number, String> {
+fn text(case: &Case) -> Compared<Accepted> {
     let input = case.input();
     let verdict = oracle::verdict(&input);
     same("text", &oracle::printed(&verdict), &program::print(&input)?, case)?;
-    Ok(number(verdict))
+    Ok(verdict)
 }
 
 fn same<T: PartialEq + Display>(what: &str, oracle: &T, other: &T, case: &Case) -> Outcome {
@@ -79,16 +122,23 @@ fn same<T: PartialEq + Display>(what: &str, oracle: &T, other: &T, case: &Case) 
     }
     Err(format!(
         "{what} differs\noracle   {oracle}\nanswered {other}\nclaim    {}\nproof    {}\n\
-         output   of {} bytes\noffsets  {:?}",
+         output   of {} bytes\noffsets  {:?}\nfloors   from {} to {}",
         Hex(&case.claim),
         Hex(&case.proof),
         case.room,
-        case.offsets
+        case.offsets,
+        case.lo,
+        case.hi
     ))
 }
 
-fn number<T>(verdict: Result<T, Refusal>) -> Number {
-    verdict.err().map_or(0, |refusal| refusal.number)
+/// A verdict as the library answers it, with the answer where nothing is refused.
+fn code<T>(verdict: Result<&T, &Refusal>, answer: fn(&T) -> u64) -> u64 {
+    verdict.map_or_else(|refusal| refusal.code(), answer)
+}
+
+fn rows(accepted: &Accepted) -> u64 {
+    accepted.weights.len() as u64
 }
 
 /// Bytes that are shown in hex.

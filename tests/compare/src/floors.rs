@@ -17,8 +17,15 @@ const MOST_READING: i32 = 1023;
 /// Where Post 9 is under its floor, which no reading finds.
 const LOW_PLACE: [i32; 2] = [2000, 1];
 
+/// Gives a floor under the claim of an accepted case, where there is one.
+type FloorOf = fn(&Case, &mut Rng) -> Result<Option<i32>, String>;
+
 pub fn run(report: &mut Report) {
-    report.add("values at least the floor", are_at_least_the_floor());
+    let floors: [(&str, FloorOf); 2] =
+        [("the floor", accepted_floor), ("the found floor", found_floor)];
+    for (name, floor_of) in floors {
+        report.add(&format!("values at least {name}"), are_at_least(name, floor_of));
+    }
     for (post, low_value) in [(post_4(), 0), (post_9(), -1)] {
         let name = post.name;
         report.add(&format!("{name} within ±{MOST_READING}"), has_no_low_reading(&post));
@@ -26,30 +33,34 @@ pub fn run(report: &mut Report) {
     }
 }
 
-/// Accepted claims, evaluated exactly at numbers of any size; some of the values are the floor.
-fn are_at_least_the_floor() -> Outcome {
+/// Claims evaluated exactly at numbers of any size; some of the values are the floor.
+fn are_at_least(name: &str, floor_of: FloorOf) -> Outcome {
     let mut rng = Rng::new(1);
     let mut are_floors = Vec::new();
-    for kind in [Kind::Accepted, Kind::Extreme] {
+    for kind in [Kind::Accepted, Kind::Extreme, Kind::Found] {
         for _ in 0..SHEETS {
             let case = kind.case(&mut rng);
-            let floor = accepted_floor(&case, &mut rng)?;
+            let Some(floor) = floor_of(&case, &mut rng)? else { continue };
             for _ in 0..PLACES {
                 let numbers = numbers(&mut rng, case.offsets.len());
-                are_floors.push(is_floor(&floor, &case.claim, &numbers)?);
+                are_floors.push(is_floor(&floor.into(), &case.claim, &numbers)?);
             }
         }
     }
     let floors = are_floors.iter().filter(|&&is_floor| is_floor).count();
-    println!("values at least the floor: {}, equal to it: {floors}", are_floors.len());
+    println!("values at least {name}: {}, equal to it: {floors}", are_floors.len());
     equal("some values equal the floor", &true, &(floors > 0))
 }
 
 /// The floor of a claim that the oracle and the library accept.
-fn accepted_floor(case: &Case, rng: &mut Rng) -> Result<Integer, String> {
-    answers::check(case, rng)?;
-    let verdict = oracle::check(&case.claim, &case.proof, case.room);
-    verdict.map(|accepted| accepted.floor.into()).map_err(|refusal| refusal.to_string())
+fn accepted_floor(case: &Case, rng: &mut Rng) -> Result<Option<i32>, String> {
+    let verdict = answers::check(case, rng)?;
+    verdict.map(|accepted| Some(accepted.floor)).map_err(|refusal| refusal.to_string())
+}
+
+/// The floor that a search by the oracle and by the library finds, which it does not always.
+fn found_floor(case: &Case, rng: &mut Rng) -> Result<Option<i32>, String> {
+    Ok(answers::search(case, rng)?.ok().map(|found| found.accepted.floor))
 }
 
 /// The polynomial's value is the floor rather than more. Less is a mistake.

@@ -1,4 +1,5 @@
-//! Holds the program and the library against the oracle, which was written from document 01 alone.
+//! Holds the program and the library against the oracle, which was written from documents 01 and 02
+//! alone.
 //!
 //!     cargo run --bin compare [-- --seed N --cases N --library]
 //!
@@ -16,7 +17,7 @@ mod program;
 mod random;
 mod report;
 
-use refusals::EntryPoint::{Check, Evaluation, Program};
+use refusals::{EntryPoint::Program, LIBRARY};
 use report::Report;
 use std::process::ExitCode;
 
@@ -47,7 +48,7 @@ fn main() -> ExitCode {
 
 /// The options in the arguments: the seed is fixed unless one is given.
 fn options(mut arguments: impl Iterator<Item = String>) -> Result<random::Options, String> {
-    let entry_points = vec![Check, Evaluation, Program];
+    let entry_points = LIBRARY.into_iter().chain([Program]).collect();
     let mut options = random::Options { seed: 1, cases: 20_000, entry_points };
     while let Some(name) = arguments.next() {
         let mut number = || {
@@ -57,7 +58,7 @@ fn options(mut arguments: impl Iterator<Item = String>) -> Result<random::Option
         match name.as_str() {
             "--seed" => options.seed = number()?,
             "--cases" => options.cases = number()? as usize,
-            "--library" => options.entry_points = vec![Check, Evaluation],
+            "--library" => options.entry_points = LIBRARY.to_vec(),
             _ => return Err(format!("{name} is unknown")),
         }
     }

@@ -1,8 +1,10 @@
-//! Tests of single sheets: the examples, the table of refusals, the program's input, C.
+//! Tests of single sheets: the examples, the table of refusals, searches, the program's input, C.
 
 use crate::report::{equal, Outcome, Report};
 use crate::{answers, files, program};
+use oracle::Refusal;
 use sheets::random::Rng;
+use sheets::searches::{searches, Found, Search};
 use sheets::worked::{power_claim, square_input, SQUARE_CUTS};
 use sheets::{table, Case, Example};
 use std::process::Command;
@@ -34,6 +36,9 @@ pub fn run(report: &mut Report) {
     report.add("no other examples", are_all(&examples));
     for entry in table::entries() {
         report.add(&format!("table {}", entry.number), refuses(&entry));
+    }
+    for search in searches() {
+        report.add(&format!("search {}", search.name), comes_to_its_outcome(&search));
     }
     report.add("evaluation J", reaches_2_to_56());
     for (length, text) in SQUARE_CUTS {
@@ -69,18 +74,22 @@ fn are_all(examples: &[Example]) -> Outcome {
 /// The table's example is refused by its number at its index: by the library, and by the program
 /// where it can be shown to it.
 fn refuses(entry: &table::Entry) -> Outcome {
-    let case = &entry.case;
-    let answer = if entry.is_evaluation() {
-        library::evaluate(&case.claim, &case.offsets, &mut 0)
-    } else {
-        library::check(&case.claim, &case.proof, &mut vec![0; case.room])
-    };
-    equal("the answer", &refusals::code(entry.number, entry.index), &answer)?;
-    if entry.is_for_program() {
-        let text = format!("refused {} at {}\n", entry.number, entry.index);
-        equal("the text", &text, &program::print(&case.input())?)?;
-    }
-    Ok(())
+    let expected = Some(Refusal { number: entry.number, index: entry.index });
+    entry.entry_points().try_for_each(|entry_point| {
+        let refusal = answers::compare(entry_point, &entry.case, &mut Rng::new(0))?;
+        equal(&format!("{entry_point:?}"), &expected, &refusal)
+    })
+}
+
+/// The library and the oracle come to the outcome of a named search.
+fn comes_to_its_outcome(search: &Search) -> Outcome {
+    let outcome = answers::search(&search.case, &mut Rng::new(0))?.map(|found| Found {
+        floor: found.accepted.floor.into(),
+        tried: found.tried,
+        exact: found.accepted.bytes,
+    });
+    let expected = search.outcome.clone();
+    equal("the outcome", &expected.map_err(|number| Refusal { number, index: 0 }), &outcome)
 }
 
 fn reaches_2_to_56() -> Outcome {

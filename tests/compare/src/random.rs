@@ -2,7 +2,7 @@
 
 use crate::answers;
 use crate::report::{Outcome, Report};
-use refusals::EntryPoint::{self, Check, Evaluation, Program};
+use refusals::EntryPoint::{self, Check, Evaluation, Program, Search};
 use sheets::random::{Kind, Rng};
 use std::collections::BTreeMap;
 
@@ -46,9 +46,9 @@ fn run_case(
     let case = kind.case(rng);
     for &entry_point in entry_points {
         let met = answers::compare(entry_point, &case, rng)?;
+        let met = met.map_or(0, |refusal| refusal.number);
         *counts.0.entry((entry_point, met)).or_default() += 1;
-        let is_other = |(at, made_for)| at == entry_point && made_for != met;
-        if kind.expected().is_some_and(is_other) {
+        if kind.expected(entry_point).is_some_and(|made_for| made_for != met) {
             return Err(format!("comes to {met} and was not made for that: {case:?}"));
         }
     }
@@ -64,6 +64,7 @@ impl Counts {
         };
         println!("the library's checks by number, 0 for accepted: {}", line(Check));
         println!("the library's evaluations by number, 0 for a value: {}", line(Evaluation));
+        println!("the library's searches by number, 0 for a floor: {}", line(Search));
         if entry_points.contains(&Program) {
             println!("the program by number, 0 for accepted: {}", line(Program));
         } else {

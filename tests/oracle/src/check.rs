@@ -1,7 +1,7 @@
 //! The check: targets, sharing the error, judging (refusals 16 to 19) and the exact proof.
 
 use crate::claim::{self, Claim};
-use crate::proof::{self, Row};
+use crate::proof::{self, Proof, Row};
 use crate::verdict::{refuse_at, Accepted, Verdict};
 use crate::{Integer, Point};
 use std::collections::BTreeMap;
@@ -17,18 +17,23 @@ type Slots = BTreeMap<Point, Vec<(usize, usize)>>;
 pub fn check(claim: &[u8], proof: &[u8], room: usize) -> Verdict {
     let polynomial = claim::read(claim)?;
     let squares = proof::read(proof, polynomial.variables, room)?;
-    let targets = targets(&polynomial, squares.scale);
-    let slots = slots(&squares.rows);
-    refuse_at(16, without_slot(&polynomial, &targets, &slots))?;
+    judge(&polynomial, &squares, proof)
+}
 
-    let shifted = shift(&squares.rows, &targets, &slots);
+/// The verdict on sheets that passed the checks 1 to 15, with the bytes of the proof.
+pub fn judge(claim: &Claim, proof: &Proof, bytes: &[u8]) -> Verdict {
+    let targets = targets(claim, proof.scale);
+    let slots = slots(&proof.rows);
+    refuse_at(16, without_slot(claim, &targets, &slots))?;
+
+    let shifted = shift(&proof.rows, &targets, &slots);
     refuse_at(17, shifted.iter().position(is_beyond))?;
     refuse_at(18, shifted.iter().position(has_negative_end))?;
     refuse_at(19, shifted.iter().position(has_large_cross))?;
 
     let weights: Vec<[i32; 3]> = shifted.iter().map(narrow).collect();
-    let bytes = written(proof, &weights);
-    Ok(Accepted { floor: polynomial.floor, scale: squares.scale, weights, bytes })
+    let bytes = written(bytes, &weights);
+    Ok(Accepted { floor: claim.floor, scale: proof.scale, weights, bytes })
 }
 
 /// The target at each point of g, which is f with the floor taken from its constant.

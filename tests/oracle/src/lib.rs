@@ -1,20 +1,23 @@
-//! An independent checker of floors, written from document 01 alone, with big integers.
+//! An independent checker of floors, written from documents 01 and 02 alone, with big integers.
 //!
 //! Sheets are parsed into structures, targets and slots are kept in maps by point, and every
 //! number that is computed is an [`Integer`]. One module a section: `claim`, `proof`, `check`
-//! (targets, sharing, judging), `evaluate`, `text` (what the program prints).
+//! (targets, sharing, judging), `evaluate`, `text` (what the program prints), and `search` for note 1
+//! of document 02.
 
 mod check;
 mod claim;
 mod evaluate;
 mod integer;
 mod proof;
+mod search;
 mod text;
 mod verdict;
 
 pub use check::check;
 pub use evaluate::{evaluate, value};
 pub use integer::Integer;
+pub use search::{search, Found};
 pub use text::{printed, text, verdict};
 pub use verdict::{Accepted, Refusal, Verdict};
 

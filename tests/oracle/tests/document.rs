@@ -1,12 +1,14 @@
-//! The oracle against document 01: the examples, the table of refusals, the program's input and
-//! evaluations.
+//! The oracle against documents 01 and 02: the examples, the table of refusals, the program's input,
+//! evaluations and searches.
 
-use oracle::{check, evaluate, text, Integer, Refusal};
+mod common;
+
+use oracle::{check, evaluate, search, text, Integer, Refusal};
 use refusals::{rule, said_by, EntryPoint, Sheet, RULES};
 use sheets::worked::{
     motzkin_claim, power_claim, square_claim, square_input, square_proof, SQUARE_CUTS,
 };
-use sheets::{posts, table, Claim, Proof};
+use sheets::{posts, searches, table, Case, Claim, Proof};
 use std::collections::BTreeSet;
 
 #[test]
@@ -30,12 +32,10 @@ fn every_example_of_the_table_is_refused_by_its_number() {
     let entries = table::entries();
     for entry in &entries {
         let table::Entry { number, index, ref case } = *entry;
-        let answer = if entry.is_evaluation() {
-            evaluate(&case.claim, &case.offsets).unwrap_err()
-        } else {
-            check(&case.claim, &case.proof, case.room).unwrap_err()
-        };
-        assert_eq!(answer, Refusal { number, index });
+        for entry_point in entry.entry_points() {
+            let answer = common::refusal(entry_point, case);
+            assert_eq!(answer, Some(Refusal { number, index }), "{entry_point:?}");
+        }
     }
     let shown: BTreeSet<u32> = entries.iter().map(|entry| entry.number).collect();
     assert_eq!(shown, RULES.iter().map(|rule| rule.number).collect());
@@ -48,6 +48,7 @@ fn refusals_blame_a_sheet() {
         (Sheet::Proof, vec![8, 9, 10, 12, 13, 14, 15, 16, 17, 18, 19]),
         (Sheet::Output, vec![11]),
         (Sheet::Offsets, vec![20]),
+        (Sheet::Range, vec![22, 23]),
     ];
     for (sheet, numbers) in blamed {
         for number in numbers {
@@ -58,12 +59,13 @@ fn refusals_blame_a_sheet() {
     assert_eq!(third_row.code(), (2 << 32) + (19 << 16) + 2);
 }
 
-/// Of the numbers that document 01 defines, up to 21.
+/// Of the numbers that document 01 and note 1 of document 02 define, up to 23.
 #[test]
 fn entry_points_say_their_numbers_in_the_order_of_checks() {
-    let said = |entry_point| said_by(entry_point).filter(|&number| number <= 21);
+    let said = |entry_point| said_by(entry_point).filter(|&number| number <= 23);
     assert!(said(EntryPoint::Check).eq(1..=19));
     assert!(said(EntryPoint::Evaluation).eq((1..=7).chain([20, 21])));
+    assert!(said(EntryPoint::Search).eq((1..=15).chain([22, 23])));
     assert!(said(EntryPoint::Program).eq((1..=10).chain(12..=19)));
 }
 
@@ -105,4 +107,17 @@ fn a_zero_offset_makes_its_term_zero_however_large_the_rest() {
     let claim = Claim::new(0, &[([0, 0], 7), ([120, 1], 1)]).bytes();
     assert_eq!(evaluate(&claim, &[i32::MIN, 0]), Ok(Integer::from(7)));
     assert_eq!(evaluate(&claim, &[i32::MIN, 1]), Err(Refusal { number: 21, index: 1 }));
+}
+
+#[test]
+fn searches_come_to_their_outcomes() {
+    for searches::Search { name, case, outcome } in searches::searches() {
+        let Case { claim, proof, room, lo, hi, .. } = case;
+        let found = search(&claim, &proof, room, lo, hi).map(|found| searches::Found {
+            floor: found.accepted.floor.into(),
+            tried: found.tried,
+            exact: found.accepted.bytes,
+        });
+        assert_eq!(found, outcome.map_err(|number| Refusal { number, index: 0 }), "{name}");
+    }
 }

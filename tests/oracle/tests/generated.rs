@@ -1,7 +1,9 @@
 //! The oracle against sheets made backwards, which say themselves what they must come to.
 
-use oracle::{check, evaluate, verdict, Integer};
-use refusals::EntryPoint;
+mod common;
+
+use oracle::{check, evaluate, search, Integer, Refusal};
+use refusals::LIBRARY;
 use sheets::random::{Kind, Plan, Rng, Shape};
 use sheets::MOST;
 
@@ -24,15 +26,37 @@ fn every_kind_comes_to_what_it_was_made_for() {
         let mut rng = Rng::new(2);
         for _ in 0..200 {
             let case = kind.case(&mut rng);
-            let Some((entry_point, expected)) = kind.expected() else { continue };
-            let refusal = match entry_point {
-                EntryPoint::Check => check(&case.claim, &case.proof, case.room).err(),
-                EntryPoint::Evaluation => evaluate(&case.claim, &case.offsets).err(),
-                EntryPoint::Program => verdict(&case.input()).err(),
-            };
-            assert_eq!(refusal.map_or(0, |refusal| refusal.number), expected, "{kind}");
+            for entry_point in LIBRARY {
+                let Some(expected) = kind.expected(entry_point) else { continue };
+                let refusal = common::refusal(entry_point, &case);
+                assert_eq!(refusal.map_or(0, |refusal| refusal.number), expected, "{kind}");
+            }
         }
     }
+}
+
+/// A search finds the highest of the carried floors, and none past the lowest.
+#[test]
+fn carried_floors_are_found() {
+    const TOP: i64 = MOST as i64;
+    let mut rng = Rng::new(5);
+    let mut lowest = 0;
+    for _ in 0..1000 {
+        let plan = Plan::random(&mut rng, Shape::random, &[]);
+        let (claim, proof) = (plan.claim.bytes(), plan.proof.bytes());
+        let found = |lo, hi| search(&claim, &proof, proof.len(), lo, hi);
+        let (low, high) = plan.carried().into_inner();
+        let highest = found((high - 2).max(-TOP), (high + 2).min(TOP)).expect("one is carried");
+        let tried = (high + 2).min(TOP) - high + 1;
+        assert_eq!((highest.accepted.floor.into(), highest.tried.into()), (high, tried));
+        if low > -TOP {
+            lowest += 1;
+            let floor = found(low, low).map(|found| found.accepted.floor.into());
+            assert_eq!(floor, Ok(low));
+            assert_eq!(found(low - 1, low - 1), Err(Refusal { number: 23, index: 0 }));
+        }
+    }
+    assert!(lowest > 100, "{lowest} plans have a lowest floor");
 }
 
 #[test]

@@ -1,8 +1,8 @@
 //! The table of refusal numbers: the sheet each of them blames, the entry points that say it, and
 //! the order of checks. A request that adds a number adds a row here.
 
-use EntryPoint::{Check, Evaluation, Program};
-use Sheet::{Claim, Offsets, Output, Proof};
+use EntryPoint::{Check, Evaluation, Program, Search};
+use Sheet::{Claim, Offsets, Output, Proof, Range};
 
 /// The sheet at fault, numbered as the library's answers have it.
 #[derive(Clone, Copy, Debug, PartialEq, Eq)]
@@ -20,19 +20,23 @@ pub enum Sheet {
     Site = 11,
 }
 
-/// Where refusals are said: the library's check, its evaluation, and the program.
+/// Where refusals are said: the library's check, its evaluation, its search, and the program.
 #[derive(Clone, Copy, Debug, PartialEq, Eq, PartialOrd, Ord)]
 pub enum EntryPoint {
     Check,
     Evaluation,
+    Search,
     Program,
 }
+
+/// The library's entry points.
+pub const LIBRARY: [EntryPoint; 3] = [Check, Evaluation, Search];
 
 /// A row of the table.
 pub struct Rule {
     pub number: u32,
     pub sheet: Sheet,
-    entry_points: &'static [EntryPoint],
+    pub entry_points: &'static [EntryPoint],
 }
 
 impl Rule {
@@ -46,15 +50,18 @@ impl Rule {
 }
 
 /// What reads a claim.
-const CLAIM_READERS: &[EntryPoint] = &[Check, Evaluation, Program];
+const CLAIM_READERS: &[EntryPoint] = &[Check, Evaluation, Search, Program];
 
 /// What reads a proof.
-const PROOF_READERS: &[EntryPoint] = &[Check, Program];
+const PROOF_READERS: &[EntryPoint] = &[Check, Search, Program];
+
+/// What judges a proof of one floor. A search says none of why a floor is refused.
+const JUDGES: &[EntryPoint] = &[Check, Program];
 
 /// The rules in the order of their checks: the place in this list is the place in that order, and
-/// the number says nothing of it. Today's numbers rise, later ones do not: requests put 38, 26 and
-/// 27 before 1, then 39, 24 and 25 between 10 and 11, and 34 between 12 and 13. The program never
-/// says 11, since its output is as long as the proof.
+/// the number says nothing of it: 22 stands after 15. Later requests put 38, 26 and 27 before 1,
+/// then 39, 24 and 25 between 10 and 11, and 34 between 12 and 13. The program never says 11, since
+/// its output is as long as the proof.
 pub const RULES: &[Rule] = &[
     Rule::new(1, Claim, CLAIM_READERS),
     Rule::new(2, Claim, CLAIM_READERS),
@@ -66,17 +73,19 @@ pub const RULES: &[Rule] = &[
     Rule::new(8, Proof, PROOF_READERS),
     Rule::new(9, Proof, PROOF_READERS),
     Rule::new(10, Proof, PROOF_READERS),
-    Rule::new(11, Output, &[Check]),
+    Rule::new(11, Output, &[Check, Search]),
     Rule::new(12, Proof, PROOF_READERS),
     Rule::new(13, Proof, PROOF_READERS),
     Rule::new(14, Proof, PROOF_READERS),
     Rule::new(15, Proof, PROOF_READERS),
-    Rule::new(16, Proof, PROOF_READERS),
-    Rule::new(17, Proof, PROOF_READERS),
-    Rule::new(18, Proof, PROOF_READERS),
-    Rule::new(19, Proof, PROOF_READERS),
+    Rule::new(22, Range, &[Search]),
+    Rule::new(16, Proof, JUDGES),
+    Rule::new(17, Proof, JUDGES),
+    Rule::new(18, Proof, JUDGES),
+    Rule::new(19, Proof, JUDGES),
     Rule::new(20, Offsets, &[Evaluation]),
     Rule::new(21, Claim, &[Evaluation]),
+    Rule::new(23, Range, &[Search]),
 ];
 
 /// The rule of a number.

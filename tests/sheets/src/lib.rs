@@ -1,11 +1,13 @@
 //! Builder of claims and proofs in bytes, and the sheets that tests are made of.
 //!
 //! `worked`, `posts` and `papers` hold sheets with the text the program prints for them, `table`
-//! the examples of the table of refusals, `random` the generators.
+//! the examples of the table of refusals, `searches` searches with what they find, `random` the
+//! generators.
 
 pub mod papers;
 pub mod posts;
 pub mod random;
+pub mod searches;
 pub mod table;
 pub mod worked;
 
@@ -55,14 +57,16 @@ pub struct Example {
     pub text: &'static str,
 }
 
-/// What one test hands to the check (both sheets and an output of `room` bytes) and to an
-/// evaluation (the claim and the offsets).
+/// What one test hands to the check (both sheets and an output of `room` bytes), to an evaluation
+/// (the claim and the offsets) and to a search (as to the check, and floors from `lo` to `hi`).
 #[derive(Clone, Debug)]
 pub struct Case {
     pub claim: Vec<u8>,
     pub proof: Vec<u8>,
     pub room: usize,
     pub offsets: Vec<i32>,
+    pub lo: i64,
+    pub hi: i64,
 }
 
 impl Claim {
@@ -136,10 +140,12 @@ impl Example {
 }
 
 impl Case {
-    /// A check with an output as long as the proof, and an evaluation at zeros.
+    /// A check with an output as long as the proof, an evaluation at zeros, and a search among the
+    /// claim's own floor alone.
     pub fn new(claim: &Claim, proof: &Proof) -> Case {
-        let (claim, proof, offsets) = (claim.bytes(), proof.bytes(), vec![0; claim.n.into()]);
-        Case { room: proof.len(), claim, proof, offsets }
+        let (floor, offsets) = (claim.floor.into(), vec![0; claim.n.into()]);
+        let (claim, proof) = (claim.bytes(), proof.bytes());
+        Case { room: proof.len(), claim, proof, offsets, lo: floor, hi: floor }
     }
 
     /// The program's input: the claim and directly after it the proof.

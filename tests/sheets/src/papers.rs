@@ -107,7 +107,7 @@ fn one_simplex() -> Example {
 
 /// Document 002, Example 4.5, with its best floor 1: the constant's target is zero and needs no
 /// slot, and one term is a lone row.
-fn toy_circuits() -> Example {
+pub fn toy_circuits() -> Example {
     Example {
         name: "toy-circuits",
         claim: Claim::new(1, &[([0, 0], 1), ([0, 2], 1), ([2, 2], -1), ([2, 6], 1), ([6, 2], 1)]),

@@ -1,4 +1,4 @@
-//! The examples in document 01's table of refusals.
+//! The examples in document 01's table of refusals, and those of the numbers that requests added.
 
 use crate::worked::{power_claim, square_claim, square_proof};
 use crate::{Case, Claim, Proof, MOST};
@@ -12,15 +12,12 @@ pub struct Entry {
 }
 
 impl Entry {
-    /// The number refuses evaluations alone.
-    pub fn is_evaluation(&self) -> bool {
-        !rule(self.number).is_said_by(EntryPoint::Check)
-    }
-
-    /// The program can be shown the example of every number that it says but 3, where it takes
+    /// The entry points that say the number and can be shown the example: for 3 the program takes
     /// the ninth byte for the proof's.
-    pub fn is_for_program(&self) -> bool {
-        rule(self.number).is_said_by(EntryPoint::Program) && self.number != 3
+    pub fn entry_points(&self) -> impl Iterator<Item = EntryPoint> {
+        let rule = rule(self.number);
+        let is_shown = |at: &EntryPoint| *at != EntryPoint::Program || rule.number != 3;
+        rule.entry_points.iter().copied().filter(is_shown)
     }
 }
 
@@ -61,7 +58,7 @@ pub fn entries() -> Vec<Entry> {
     let no_terms = Claim::new::<1>(0, &[]);
     let no_rows = Proof::new::<1>(1, &[]);
     let cases = [
-        (1, 0, Case { claim: vec![], proof: vec![], room: 0, offsets: vec![] }),
+        (1, 0, Case { claim: vec![], proof: vec![], ..square() }),
         (2, 0, square_with_claim(Claim::new::<0>(0, &[]))),
         (3, 0, Case { claim: with_ninth_byte(no_terms.bytes()), ..square() }),
         (4, 0, square_with_claim(square_claim(MOST + 1, -2))),
@@ -82,6 +79,8 @@ pub fn entries() -> Vec<Entry> {
         (19, 0, square_with_claim(square_claim(1, -2))),
         (20, 0, Case { offsets: vec![1, 1], ..square() }),
         (21, 0, Case { claim: power_claim(57).bytes(), offsets: vec![2], ..square() }),
+        (22, 0, Case { lo: 1, hi: 0, ..square() }),
+        (23, 0, Case { lo: -4, hi: -1, ..lone(0, MOST, 1) }),
     ];
     cases.into_iter().map(|(number, index, case)| Entry { number, index, case }).collect()
 }

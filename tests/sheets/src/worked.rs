@@ -35,7 +35,7 @@ pub fn motzkin_claim() -> Claim {
 }
 
 /// The proof of Motzkin's polynomial with a first cross weight.
-fn motzkin_proof(first_cross: i32) -> Proof {
+pub fn motzkin_proof(first_cross: i32) -> Proof {
     Proof::new(
         1,
         &[

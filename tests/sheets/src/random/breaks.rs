@@ -1,7 +1,7 @@
 //! Faults put into well-formed sheets, one for each number that the bytes of a single sheet, the
-//! output's length or the count of offsets can break.
+//! output's length, the ends of a range or the count of offsets can break.
 
-use super::Rng;
+use super::{ranges, Rng};
 use crate::Case;
 use std::ops::{Range, RangeInclusive};
 
@@ -27,6 +27,7 @@ const BREAKS: &[(u32, Break)] = &[
     (14, |rng, case| spoil_lone_row(rng, &mut case.proof)),
     (15, |rng, case| spoil_weight(rng, &mut case.proof)),
     (20, |rng, case| spoil_count(rng, &mut case.offsets)),
+    (22, |rng, case| (case.lo, case.hi) = ranges::wrong(rng)),
 ];
 
 /// The fault of a number, where it has one of this sort.

@@ -2,10 +2,11 @@
 
 use super::breaks::{self, Break};
 use super::offsets::{largest_terms, offsets, over_largest_term};
+use super::ranges::{around, down_to, outside, wrong, Floors};
 use super::rows::JUDGED;
 use super::{Plan, Rng, Shape};
 use crate::{Case, Claim, Proof, MOST_TERMS};
-use refusals::EntryPoint::{self, Check, Evaluation};
+use refusals::EntryPoint::{self, Check, Evaluation, Program, Search};
 use std::fmt;
 
 /// A kind of random cases.
@@ -15,9 +16,11 @@ pub enum Kind {
     Accepted,
     /// Accepted, at the limits of weights, scale, exponents, rows, terms and variables.
     Extreme,
+    /// Accepted, with a search down from floors that the rows begin to carry one after another.
+    Found,
     /// Terms of exactly ±2^56.
     Largest,
-    /// Refused by the number: the check, or the evaluation where only that says the number.
+    /// Refused by the number, in each of the library's entry points that say it.
     Refused(u32),
     /// Cut, lengthened, with bits or bytes changed.
     Damaged,
@@ -30,20 +33,22 @@ impl Kind {
     pub fn all() -> Vec<Kind> {
         use Kind::*;
         let refused = refusals::RULES.iter().map(|rule| Refused(rule.number));
-        [Accepted, Extreme, Largest, Damaged, Noise].into_iter().chain(refused).collect()
+        [Accepted, Extreme, Found, Largest, Damaged, Noise].into_iter().chain(refused).collect()
     }
 
     /// What a case must come to by the way it was made, where that is known: the number that the
-    /// entry point ends with, 0 where it accepts or gives a value.
-    pub fn expected(self) -> Option<(EntryPoint, u32)> {
-        match self {
-            Kind::Accepted | Kind::Extreme => Some((Check, 0)),
-            Kind::Largest => Some((Evaluation, 0)),
-            Kind::Refused(number) if refusals::rule(number).is_said_by(Check) => {
-                Some((Check, number))
+    /// entry point ends with, 0 where it accepts or gives a value. The program may part its input
+    /// elsewhere.
+    pub fn expected(self, entry_point: EntryPoint) -> Option<u32> {
+        match (self, entry_point) {
+            (_, Program) => None,
+            (Kind::Accepted | Kind::Extreme | Kind::Found, Check) => Some(0),
+            (Kind::Found, Search) => Some(0),
+            (Kind::Largest, Evaluation) => Some(0),
+            (Kind::Refused(number), _) => {
+                refusals::rule(number).is_said_by(entry_point).then_some(number)
             }
-            Kind::Refused(number) => Some((Evaluation, number)),
-            Kind::Damaged | Kind::Noise => None,
+            _ => None,
         }
     }
 
@@ -52,9 +57,11 @@ impl Kind {
         match self {
             Kind::Accepted => planned(rng, Shape::random, &[]),
             Kind::Extreme => planned(rng, Shape::extreme, &[]),
-            Kind::Largest => evaluated(largest_terms(rng)),
+            Kind::Found => found(rng),
+            Kind::Largest => evaluated(rng, largest_terms),
             Kind::Refused(16) => without_slot(rng),
-            Kind::Refused(21) => evaluated(over_largest_term(rng)),
+            Kind::Refused(21) => evaluated(rng, over_largest_term),
+            Kind::Refused(23) => without_floor(rng),
             Kind::Refused(number) if JUDGED.contains(&number) => misjudged(rng, number),
             Kind::Refused(number) => broken(rng, number),
             Kind::Damaged => damaged(rng),
@@ -68,6 +75,7 @@ impl fmt::Display for Kind {
         match self {
             Kind::Accepted => write!(f, "accepted"),
             Kind::Extreme => write!(f, "accepted at the limits"),
+            Kind::Found => write!(f, "found floors"),
             Kind::Largest => write!(f, "terms of 2^56"),
             Kind::Refused(number) => write!(f, "refused {number}"),
             Kind::Damaged => write!(f, "damaged"),
@@ -76,22 +84,28 @@ impl fmt::Display for Kind {
     }
 }
 
-/// A planned case, with an output as long as the proof or longer.
+/// A planned case, with a search around the carried floors.
 fn planned(rng: &mut Rng, shape: fn(&mut Rng) -> Shape, faults: &[u32]) -> Case {
     let plan = Plan::random(rng, shape, faults);
-    case_of(rng, &plan.claim, &plan.proof)
+    let floors = around(rng, &plan.carried(), plan.proof.rows.len());
+    case_of(rng, &plan.claim, &plan.proof, floors)
 }
 
-fn case_of(rng: &mut Rng, claim: &Claim, proof: &Proof) -> Case {
+/// A case with an output as long as the proof or longer.
+fn case_of(rng: &mut Rng, claim: &Claim, proof: &Proof, floors: Floors) -> Case {
     let case = Case::new(claim, proof);
     let longer = if rng.once_in(2) { 0 } else { rng.below(40) };
-    Case { room: case.room + longer, offsets: offsets(rng, claim.n.into()), ..case }
+    let offsets = offsets(rng, claim.n.into());
+    let (lo, hi) = floors.into_inner();
+    Case { room: case.room + longer, offsets, lo, hi, ..case }
 }
 
 /// A case for an evaluation, with a proof of no rows.
-fn evaluated((claim, offsets): (Claim, Vec<i32>)) -> Case {
+fn evaluated(rng: &mut Rng, terms: fn(&mut Rng) -> (Claim, Vec<i32>)) -> Case {
+    let (claim, offsets) = terms(rng);
     let proof = Proof { n: claim.n, scale: 1, rows: vec![] };
-    Case { offsets, ..Case::new(&claim, &proof) }
+    let floors = around(rng, &(0..=0), 0);
+    Case { offsets, ..case_of(rng, &claim, &proof, floors) }
 }
 
 /// Shapes at the limits once in eight.
@@ -121,7 +135,9 @@ fn some_faults(rng: &mut Rng, number: u32) -> Vec<u32> {
 fn without_slot(rng: &mut Rng) -> Case {
     loop {
         let faults = some_faults(rng, 16);
-        let Plan { mut claim, proof, .. } = Plan::random(rng, Shape::random, &faults);
+        let plan = Plan::random(rng, Shape::random, &faults);
+        let floors = around(rng, &plan.carried(), plan.proof.rows.len());
+        let Plan { mut claim, proof, .. } = plan;
         let held = |point: &[u8]| {
             proof.rows.iter().flat_map(|row| row.slots()).any(|(slot, _)| slot == point)
         };
@@ -129,13 +145,31 @@ fn without_slot(rng: &mut Rng) -> Case {
         let point: Vec<u8> = origin.iter().map(|_| rng.below(121) as u8).collect();
         if !held(&origin) && rng.once_in(2) {
             claim.floor += if claim.floor > 0 { -1 } else { 1 };
-            return case_of(rng, &claim, &proof);
+            return case_of(rng, &claim, &proof, floors);
         }
         if !held(&point) && point != origin && claim.terms.len() < MOST_TERMS {
             claim.terms.retain(|(other, _)| *other != point);
             claim.terms.push((point, rng.pick(&[1, -1, 1 << 30])));
             claim.terms.sort();
-            return case_of(rng, &claim, &proof);
+            return case_of(rng, &claim, &proof, floors);
+        }
+    }
+}
+
+/// A case with a search that finds the highest of the carried floors.
+fn found(rng: &mut Rng) -> Case {
+    let plan = Plan::random(rng, Shape::low, &[]);
+    let floors = down_to(rng, &plan.carried());
+    case_of(rng, &plan.claim, &plan.proof, floors)
+}
+
+/// A case with a search among floors none of which is accepted, often with faulty rows as well.
+fn without_floor(rng: &mut Rng) -> Case {
+    loop {
+        let faults = some_faults(rng, 16);
+        let plan = Plan::random(rng, any_shape, &faults);
+        if let Some(floors) = outside(rng, &plan.carried(), plan.proof.rows.len()) {
+            return case_of(rng, &plan.claim, &plan.proof, floors);
         }
     }
 }
@@ -164,7 +198,8 @@ fn with_terms_and_rows(rng: &mut Rng, number: u32) -> Case {
     }
 }
 
-/// A case of another kind, with one to three damages and an output of any length.
+/// A case of another kind, with one to three damages, an output of any length, and sometimes a
+/// wrong range.
 fn damaged(rng: &mut Rng) -> Case {
     let kind = rng.pick(&[Kind::Accepted, Kind::Accepted, Kind::Extreme, Kind::Largest]);
     let mut case = kind.case(rng);
@@ -175,6 +210,9 @@ fn damaged(rng: &mut Rng) -> Case {
     if rng.once_in(8) {
         let count = rng.below(10);
         case.offsets = offsets(rng, count);
+    }
+    if rng.once_in(8) {
+        (case.lo, case.hi) = wrong(rng);
     }
     case.room = if rng.once_in(8) { rng.below(9000) } else { case.proof.len() };
     case
@@ -214,5 +252,6 @@ fn noise(rng: &mut Rng) -> Case {
         }
     }
     let offsets = offsets(rng, n);
-    Case { room: proof.len(), claim, proof, offsets }
+    let (lo, hi) = around(rng, &(0..=0), k).into_inner();
+    Case { room: proof.len(), claim, proof, offsets, lo, hi }
 }

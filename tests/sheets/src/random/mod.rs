@@ -1,13 +1,14 @@
 //! Generators of random sheets.
 //!
 //! `plan` makes sheets backwards, from the weights they are to have after the shift, by a `shape`
-//! and `rows`; `breaks` puts faults into their bytes; `offsets` has evaluations and 21; `kinds`
-//! lists what is generated.
+//! and `rows`; `breaks` puts faults into their bytes; `offsets` has evaluations and 21, `ranges` the
+//! floors of searches; `kinds` lists what is generated.
 
 mod breaks;
 mod kinds;
 mod offsets;
 mod plan;
+mod ranges;
 mod rng;
 mod rows;
 mod shape;
@@ -15,5 +16,6 @@ mod shape;
 pub use kinds::Kind;
 pub use offsets::offsets;
 pub use plan::Plan;
+pub use ranges::Floors;
 pub use rng::Rng;
 pub use shape::Shape;

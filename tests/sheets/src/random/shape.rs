@@ -57,6 +57,21 @@ impl Shape {
         }
     }
 
+    /// A shape of few rows with small weights, many of them at the constant.
+    pub fn low(rng: &mut Rng) -> Shape {
+        let n = rng.pick(&[1, 2, 3]);
+        let sides = [1 + rng.below(4), 1 + rng.below(3)];
+        Shape {
+            pool: grid(rng, n, sides, 2, false),
+            closed: rng.once_in(2),
+            only_pairs: false,
+            rows: 1 + rng.below(12),
+            least_rows: 0,
+            scale: rng.pick(&[1, 1, 2, 7]),
+            weight: rng.pick(&[9, 99, 999]),
+        }
+    }
+
     /// A shape of so many pairs of 8 variables, with terms at up to 64 points.
     pub fn pairs(rng: &mut Rng, rows: usize) -> Shape {
         Shape {

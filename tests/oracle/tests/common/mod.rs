@@ -1,0 +1,16 @@
+//! What both files of tests ask of the oracle.
+
+use oracle::{check, evaluate, search, verdict, Refusal};
+use refusals::EntryPoint;
+use sheets::Case;
+
+/// The refusal that an entry point answers to a case, where it refuses.
+pub fn refusal(entry_point: EntryPoint, case: &Case) -> Option<Refusal> {
+    let Case { claim, proof, room, offsets, lo, hi } = case;
+    match entry_point {
+        EntryPoint::Check => check(claim, proof, *room).err(),
+        EntryPoint::Evaluation => evaluate(claim, offsets).err(),
+        EntryPoint::Search => search(claim, proof, *room, *lo, *hi).err(),
+        EntryPoint::Program => verdict(&case.input()).err(),
+    }
+}
