@@ -12,10 +12,21 @@ static void print(const char *call, uint64_t answer) {
     }
 }
 
+static const uint8_t claim[BURMELOX_CLAIM_LENGTH(1, 0)] = {1, 0, 0, 0, 0, 0, 0, 0};
+static const uint8_t proof[BURMELOX_PROOF_LENGTH(1, 0)] = {1, 0, 0, 0, 1, 0, 0, 0};
+static uint8_t output[sizeof proof];
+static int64_t found = 8;
+static uint32_t tried = 9;
+
+static uint64_t search(int64_t lo, int64_t hi) {
+    return burmelox_search(claim, sizeof claim, proof, sizeof proof, lo, hi, output, sizeof output, &found, &tried);
+}
+
+static void print_found(void) {
+    printf("floor %" PRId64 ", tried %" PRIu32 "\n", found, tried);
+}
+
 int main(void) {
-    const uint8_t claim[BURMELOX_CLAIM_LENGTH(1, 0)] = {1, 0, 0, 0, 0, 0, 0, 0};
-    const uint8_t proof[BURMELOX_PROOF_LENGTH(1, 0)] = {1, 0, 0, 0, 1, 0, 0, 0};
-    uint8_t output[sizeof proof];
     int64_t value = 7;
 
     print("no claim", burmelox_check(NULL, 0, NULL, 0, NULL, 0));
@@ -25,6 +36,17 @@ int main(void) {
     print("no claim to evaluate", burmelox_evaluate(NULL, 0, NULL, 0, &value));
     print("no offsets", burmelox_evaluate(claim, sizeof claim, NULL, 0, &value));
     printf("value %" PRId64 "\n", value);
+    print("no claim to search", burmelox_search(NULL, 0, NULL, 0, 0, 0, NULL, 0, &found, &tried));
+    print("no proof to search", burmelox_search(claim, sizeof claim, NULL, 0, 0, 0, NULL, 0, &found, &tried));
+    print("no output to search",
+          burmelox_search(claim, sizeof claim, proof, sizeof proof, 0, 0, NULL, 0, &found, &tried));
+    print("lo over hi", search(1, 0));
+    print("one floor too many", search(0, BURMELOX_GREATEST_SPAN + 1));
+    print("all numbers", search(INT64_MIN, INT64_MAX));
+    print("no floor", search(1, BURMELOX_GREATEST_SPAN));
+    print_found();
+    print("last floor", search(0, BURMELOX_GREATEST_SPAN));
+    print_found();
     printf("greatest lengths %zu and %zu\n", BURMELOX_MOST_CLAIM, BURMELOX_MOST_PROOF);
     print("last row", (uint64_t)BURMELOX_PROOF << 32 | BURMELOX_CROSS_TOO_LARGE << 16 | 255);
     print("most rows", BURMELOX_MOST_ROWS);

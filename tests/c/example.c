@@ -1,4 +1,7 @@
-/* Checks the square x^2 - 2x + 1 and its floor 0 through the library, then evaluates it at -3. */
+/*
+ * Checks the square x^2 - 2x + 1 and its floor 0 through the library, evaluates it at -3, and searches
+ * the floors from -3 to 3 for the highest that the proof shows.
+ */
 #include "burmelox.h"
 #include <inttypes.h>
 #include <stdio.h>
@@ -26,6 +29,8 @@ int main(void) {
     uint8_t output[sizeof proof];
     const int32_t offsets[] = {-3};
     int64_t value = 0;
+    int64_t floor = 0;
+    uint32_t tried = 0;
 
     uint64_t answer = burmelox_check(claim, sizeof claim, proof, sizeof proof, output, sizeof output);
     if (!BURMELOX_ACCEPTED(answer)) {
@@ -38,5 +43,12 @@ int main(void) {
         return refused(answer);
     }
     printf("value %" PRId64 "\n", value);
+
+    answer = burmelox_search(claim, sizeof claim, proof, sizeof proof, -3, 3, output, sizeof output,
+                             &floor, &tried);
+    if (!BURMELOX_ACCEPTED(answer)) {
+        return refused(answer);
+    }
+    printf("floor %" PRId64 ", tried %" PRIu32 "\n", floor, tried);
     return 0;
 }

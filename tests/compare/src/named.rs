@@ -12,7 +12,7 @@ use std::{env, fs, process};
 
 /// The programs in `tests/c` and what they print.
 const C_PROGRAMS: [(&str, &str); 2] = [
-    ("example", "accepted rows 1\nvalue 16\n"),
+    ("example", "accepted rows 1\nvalue 16\nfloor 0, tried 4\n"),
     (
         "edges",
         "no claim: refused 1 at 0, sheet 1\n\
@@ -22,6 +22,16 @@ const C_PROGRAMS: [(&str, &str); 2] = [
          no claim to evaluate: refused 1 at 0, sheet 1\n\
          no offsets: refused 20 at 0, sheet 4\n\
          value 7\n\
+         no claim to search: refused 1 at 0, sheet 1\n\
+         no proof to search: refused 8 at 0, sheet 2\n\
+         no output to search: refused 11 at 0, sheet 3\n\
+         lo over hi: refused 22 at 0, sheet 5\n\
+         one floor too many: refused 22 at 0, sheet 5\n\
+         all numbers: refused 22 at 0, sheet 5\n\
+         no floor: refused 23 at 0, sheet 5\n\
+         floor 8, tried 9\n\
+         last floor: 0\n\
+         floor 0, tried 4096\n\
          greatest lengths 776 and 7176\n\
          last row: refused 19 at 255, sheet 2\n\
          most rows: 256\n",
