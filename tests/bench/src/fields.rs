@@ -24,7 +24,7 @@ pub fn refuse_at(number: u32, found: Option<usize>) -> Result<(), Refusal> {
     }
 }
 
-fn refuse_if(number: u32, wrong: bool) -> Result<(), Refusal> {
+pub fn refuse_if(number: u32, wrong: bool) -> Result<(), Refusal> {
     refuse_at(number, wrong.then_some(0))
 }
 

@@ -22,24 +22,28 @@ pub fn check<M: Method>(claim: &[u8], proof: &[u8], output: &mut [u8]) -> u64 {
 fn accept<M: Method>(claim: &[u8], proof: &[u8], output: &mut [u8]) -> Result<u64, Refusal> {
     let sheets = Sheets::of(claim, proof, output.len())?;
     let method = M::new(&sheets);
-    refuse_at(16, without_slot(&sheets, &method))?;
+    refuse_at(16, (0..=sheets.t).find(|&place| misses(&sheets, &method, place)))?;
     judge(&sheets, &method)?;
+    write(&sheets, &method, proof, output);
+    Ok(sheets.k as u64)
+}
+
+/// The exact proof in the output.
+pub fn write<M: Method>(sheets: &Sheets, method: &M, proof: &[u8], output: &mut [u8]) {
     output[..proof.len()].copy_from_slice(proof);
     for row in 0..sheets.k {
         let place = sheets.weights_place(row);
-        for (offset, weight) in [0, 4, 8].into_iter().zip(method.shifted(&sheets, row)) {
+        for (offset, weight) in [0, 4, 8].into_iter().zip(method.shifted(sheets, row)) {
             let bytes = (weight as i32).to_le_bytes();
             output[place + offset..][..4].copy_from_slice(&bytes);
         }
     }
-    Ok(sheets.k as u64)
 }
 
-fn without_slot<M: Method>(sheets: &Sheets, method: &M) -> Option<usize> {
-    let origin = &[0; 8][..sheets.n];
-    let misses = |point| sheets.target(point) != 0 && !method.holds(sheets, point);
-    let term = (0..sheets.t).find(|&term| misses(sheets.point(term)));
-    term.or_else(|| misses(origin).then_some(sheets.t))
+/// No row has a slot for the target of a term, or of the constant, which is the place after them.
+pub fn misses<M: Method>(sheets: &Sheets, method: &M, place: usize) -> bool {
+    let point = if place < sheets.t { sheets.point(place) } else { &[0; 8][..sheets.n] };
+    sheets.target(point) != 0 && !method.holds(sheets, point)
 }
 
 /// The first row beyond ±2^30, else the first with a negative end, else the first with too large
@@ -47,14 +51,26 @@ fn without_slot<M: Method>(sheets: &Sheets, method: &M) -> Option<usize> {
 fn judge<M: Method>(sheets: &Sheets, method: &M) -> Result<(), Refusal> {
     let (mut negative, mut crossed) = (None, None);
     for row in 0..sheets.k {
-        let [p, q, r] = method.shifted(sheets, row);
-        refuse_at(17, [p, q, r].iter().any(|weight| weight.abs() > MOST).then_some(row))?;
-        if p < 0 || q < 0 {
-            negative = negative.or(Some(row));
-        } else if r * r > 4 * p * q {
-            crossed = crossed.or(Some(row));
+        match fault(method.shifted(sheets, row)) {
+            Some(17) => return refuse_at(17, Some(row)),
+            Some(18) => negative = negative.or(Some(row)),
+            Some(_) => crossed = crossed.or(Some(row)),
+            None => {}
         }
     }
     refuse_at(18, negative)?;
     refuse_at(19, crossed)
+}
+
+/// The number that refuses a row with the shifted weights, where one does.
+pub fn fault([p, q, r]: [i64; 3]) -> Option<u32> {
+    if [p, q, r].iter().any(|weight| weight.abs() > MOST) {
+        Some(17)
+    } else if p < 0 || q < 0 {
+        Some(18)
+    } else if r * r > 4 * p * q {
+        Some(19)
+    } else {
+        None
+    }
 }

@@ -1,6 +1,7 @@
-//! The sheets that checks are timed with: accepted ones of `k` pairs in 8 variables.
+//! The sheets that checks and searches are timed with, of `k` pairs in 8 variables. The checks'
+//! are accepted.
 
-use sheets::random::{Plan, Rng, Shape};
+use sheets::random::{Floors, Plan, Rng, Shape};
 use sheets::{Claim, Point, Proof, Row, MOST_TERMS};
 
 /// A way to lay out `k` pairs, by name.
@@ -12,7 +13,19 @@ pub const LAYOUTS: [Layout; 3] = [
     ("rows all alike", rows_all_alike),
 ];
 
-/// The weights proposed for every row below; those with targets are shifted to 1, 1, −2.
+/// The greatest hi − lo of a search, which then has 4,096 floors.
+const SPAN: i64 = 4095;
+
+/// A way to lay out `k` pairs and the floors of a search, by name.
+pub type SearchLayout = (&'static str, fn(usize) -> (Claim, Proof, Floors));
+
+pub const SEARCH_LAYOUTS: [SearchLayout; 3] = [
+    ("rows hold one after another", rows_hold_in_turn),
+    ("no slot at the constant", no_slot_at_constant),
+    ("no row holds", no_row_holds),
+];
+
+/// The weights proposed for every row of the three layouts below; those with targets are shifted to 1, 1, −2.
 const PROPOSED: [i32; 3] = [3, 2, -1];
 
 /// As in practice: of many plans the one with the most terms.
@@ -52,4 +65,43 @@ fn sheets(mut terms: Vec<(Point, i32)>, ends: Vec<(Point, Point)>) -> (Claim, Pr
     terms.sort();
     let rows = ends.into_iter().map(|(v, w)| Row { v, w, weights: PROPOSED }).collect();
     (Claim { n: 8, floor: 0, terms }, Proof { n: 8, scale: 1, rows })
+}
+
+/// Every row has an end at the constant. From one floor down to the next each p rises by one, and a
+/// row holds from k on; so each row has to wait for some floors more than the one before it, the last
+/// row for the last floor.
+fn rows_hold_in_turn(k: usize) -> (Claim, Proof, Floors) {
+    let point = |place: usize, half: usize| -> Point {
+        let (first, second) = (2 + 4 * (place % 6), 2 + 4 * (place / 6));
+        [first, second, 4, 4, 4, 4, 4, 4].map(|exponent| (exponent / half) as u8).to_vec()
+    };
+    let places = k.min((MOST_TERMS - 1) / 2);
+    let constant = vec![0; 8];
+    let mut terms = vec![(constant.clone(), 1)];
+    for place in 0..places {
+        let rows = (place..k).step_by(places).count() as i32;
+        terms.extend([(point(place, 1), rows), (point(place, 2), -2 * rows)]);
+    }
+    let ends = (0..k).map(|row| (constant.clone(), point(row % places, 1)));
+    let (claim, mut proof) = sheets(terms, ends.collect());
+    let waits: Vec<i32> = (1..=k).map(|rows| (SPAN as usize * rows / k) as i32).collect();
+    proof.scale = k as u32;
+    for (row, wait) in proof.rows.iter_mut().zip(&waits) {
+        row.weights = [-wait, 0, 0];
+    }
+    let hi = 1 - k as i64 + i64::from(waits.iter().sum::<i32>()) / k as i64;
+    (claim, proof, hi - SPAN..=hi)
+}
+
+/// Floors over 0, the one that 16 lets pass.
+fn no_slot_at_constant(k: usize) -> (Claim, Proof, Floors) {
+    let (claim, proof) = points_all_different(k);
+    (claim, proof, 1..=1 + SPAN)
+}
+
+/// Floors above those at which rows begin to hold.
+fn no_row_holds(k: usize) -> (Claim, Proof, Floors) {
+    let (claim, proof, floors) = rows_hold_in_turn(k);
+    let above = floors.end() + 1;
+    (claim, proof, above..=above + SPAN)
 }

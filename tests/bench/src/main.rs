@@ -1,10 +1,12 @@
-//! The library's time beside the same method in Rust and beside a hash map of sums.
+//! The library's time beside the same method in Rust, and beside a hash map of sums for checks and
+//! beside a naive walk for searches.
 //!
 //!     cargo run --release --bin bench
 //!
-//! All are given the same sheets in the same run, laid out in three ways by `layouts`. `judging` is
-//! common to both checks in Rust, `scanning` and `hashed` find the shifted weights; `evaluation` is
-//! the library's method for values. `timing` takes the CPU time of the thread.
+//! All are given the same sheets in the same run, laid out in several ways by `layouts`. `judging` is
+//! common to both checks in Rust, `scanning` and `hashed` find the shifted weights; `searching` and
+//! `evaluation` are the library's methods for floors and values. `timing` takes the CPU time of the
+//! thread.
 
 mod evaluation;
 mod fields;
@@ -12,20 +14,20 @@ mod hashed;
 mod judging;
 mod layouts;
 mod scanning;
+mod searching;
 mod timing;
 
 use hashed::Hashed;
-use layouts::{Layout, LAYOUTS};
+use layouts::{Layout, SearchLayout, LAYOUTS, SEARCH_LAYOUTS};
 use scanning::Scanning;
+use searching::{by_checks, by_library, by_same_method, Found, Search};
+use sheets::random::Floors;
 use sheets::{Claim, Proof};
-use std::hint::black_box;
 use timing::{times, Times, SAMPLES};
 
-type Check = fn(&[u8], &[u8], &mut [u8]) -> u64;
-type Evaluate = fn(&[u8], &[i32], &mut i64) -> u64;
-
 fn main() {
-    println!("Thread CPU time of a call in microseconds, minimum / median of {SAMPLES} samples.");
+    println!("Thread CPU time of a call in microseconds, of a search in milliseconds, minimum /");
+    println!("median of {SAMPLES} samples, of fewer where a call takes long.");
     println!("By minimum: a ratio is the library's over the other's, growth is over the k before.");
     println!(
         "\n{:<34}{:^18}  {:^18}  ratio  {:^18}  ratio  growth",
@@ -34,6 +36,11 @@ fn main() {
     LAYOUTS.iter().for_each(time_checks);
     println!("\n{:<34}{:^18}  {:^18}  ratio", "evaluation, n 8, t 64", "library", "same method");
     time_evaluations();
+    println!(
+        "\n{:<34}{:^18}  {:^18}  ratio  {:^18}   ratio",
+        "search of 4,096 floors, n 8", "library", "same method", "naive walk"
+    );
+    SEARCH_LAYOUTS.iter().for_each(time_searches);
 }
 
 /// Accepted proofs, judged and written.
@@ -53,23 +60,43 @@ fn time_checks((name, sheets): &Layout) {
     }
 }
 
-/// The times of the library, of the same method and of the hash map; all write the same proof.
+/// The times of the library, of the same method and of the hash map, which write the proof.
 fn check_times(claim: &Claim, proof: &Proof) -> [Times; 3] {
-    let (rows, claim, proof) = (proof.rows.len(), claim.bytes(), proof.bytes());
-    let checks: [Check; 3] = [library::check, judging::check::<Scanning>, judging::check::<Hashed>];
-    let mut outputs = [(); 3].map(|_| vec![0; proof.len()]);
-    for (check, output) in checks.iter().zip(&mut outputs) {
-        assert_eq!(check(&claim, &proof, output), rows as u64, "the proof is accepted");
-    }
-    assert!(outputs[0] == outputs[1] && outputs[0] == outputs[2], "all write the same proof");
+    let sheets = (claim.bytes(), proof.bytes());
+    let output = vec![0; sheets.1.len()];
+    let checks: [timing::Function<(Vec<u8>, Vec<u8>), Vec<u8>>; 3] = [
+        |(claim, proof), output| library::check(claim, proof, output),
+        |(claim, proof), output| judging::check::<Scanning>(claim, proof, output),
+        |(claim, proof), output| judging::check::<Hashed>(claim, proof, output),
+    ];
+    times(checks, &sheets, output, proof.rows.len() as u64)
+}
 
-    let [first, second, third] = &mut outputs;
-    let run = |check: Check, output: &mut Vec<u8>| {
-        black_box(check(black_box(&claim), black_box(&proof), output));
-    };
-    times([&mut || run(checks[0], first), &mut || run(checks[1], second), &mut || {
-        run(checks[2], third)
-    }])
+/// Searches that find the last floor or none.
+fn time_searches((name, sheets): &SearchLayout) {
+    for k in [64, 256] {
+        let (claim, proof, floors) = sheets(k);
+        let [library, same, naive] = search_times(&claim, &proof, floors);
+        println!(
+            "{name:<28} k {k:<3} {}  {}  {:>5.2}  {}  {:>6.4}",
+            library.in_milliseconds(),
+            same.in_milliseconds(),
+            library.minimum / same.minimum,
+            naive.in_milliseconds(),
+            library.minimum / naive.minimum
+        );
+    }
+}
+
+/// The times of the library, of the same method and of a naive walk, which try every floor.
+fn search_times(claim: &Claim, proof: &Proof, floors: Floors) -> [Times; 3] {
+    let (lo, hi) = floors.into_inner();
+    let search = Search { claim: claim.bytes(), proof: proof.bytes(), lo, hi };
+    let unfound = Found { output: vec![0; search.proof.len()], floor: hi, tried: 0 };
+    let mut found = unfound.clone();
+    let answer = by_same_method(&search, &mut found);
+    assert!(found.floor == lo || answer == refusals::code(23, 0), "every floor is tried");
+    times([by_library, by_same_method, by_checks], &search, unfound, answer)
 }
 
 /// Polynomials of 64 terms in 8 variables: with exponents 0 to 2 and small offsets, and with
@@ -90,18 +117,11 @@ fn print_evaluation(name: &str, exponent: fn(u8, u8) -> u8, offsets: [i32; 8]) {
     println!("{name:<34}{library}  {same}  {:>5.2}", library.minimum / same.minimum);
 }
 
-/// The times of the library and of the same method, which give the same value.
+/// The times of the library and of the same method, which store the value.
 fn evaluation_times(claim: &[u8], offsets: &[i32]) -> [Times; 2] {
-    let evaluations: [Evaluate; 2] = [library::evaluate, evaluation::evaluate];
-    let mut values = [0, 0];
-    for (evaluate, value) in evaluations.iter().zip(&mut values) {
-        assert_eq!(evaluate(claim, offsets, value), 0, "a value is given");
-    }
-    assert_eq!(values[0], values[1], "both give the same value");
-
-    let [first, second] = &mut values;
-    let run = |evaluate: Evaluate, value: &mut i64| {
-        black_box(evaluate(black_box(claim), black_box(offsets), value));
-    };
-    times([&mut || run(evaluations[0], first), &mut || run(evaluations[1], second)])
+    let evaluations: [timing::Function<(&[u8], &[i32]), i64>; 2] = [
+        |(claim, offsets), value| library::evaluate(claim, offsets, value),
+        |(claim, offsets), value| evaluation::evaluate(claim, offsets, value),
+    ];
+    times(evaluations, &(claim, offsets), 0, 0)
 }

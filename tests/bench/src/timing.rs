@@ -2,18 +2,30 @@
 //! does not count.
 
 use std::fmt;
+use std::hint::black_box;
 use std::time::Duration;
 
-/// How many samples are taken.
+/// How many samples are taken at most.
 pub const SAMPLES: usize = 101;
 
-/// About how long one sample takes.
+/// How many samples are taken of what takes longest.
+const FEWEST_SAMPLES: usize = 2;
+
+/// About how long one sample takes, and all those of one function together, where fewer will do.
 const SAMPLE_TIME: Duration = Duration::from_micros(500);
+const SAMPLES_TIME: Duration = Duration::from_secs(2);
 
 /// The least and the median time of one call, in microseconds.
 pub struct Times {
     pub minimum: f64,
     median: f64,
+}
+
+impl Times {
+    /// The times in milliseconds, for calls that take long.
+    pub fn in_milliseconds(&self) -> Times {
+        Times { minimum: self.minimum / 1e3, median: self.median / 1e3 }
+    }
 }
 
 impl fmt::Display for Times {
@@ -22,31 +34,69 @@ impl fmt::Display for Times {
     }
 }
 
-/// The times of each function. The functions take turns, so that all of them meet the same state
-/// of the machine.
-pub fn times<const N: usize>(mut calls: [&mut dyn FnMut(); N]) -> [Times; N] {
-    let repeats = calls.each_mut().map(|call| {
-        let once = time(*call, 10).max(Duration::from_nanos(10)) / 10;
-        (SAMPLE_TIME.as_nanos() / once.as_nanos()).max(1) as u32
-    });
-    let mut samples = [(); N].map(|_| Vec::with_capacity(SAMPLES));
-    for _ in 0..SAMPLES {
-        for ((call, &repeats), samples) in calls.iter_mut().zip(&repeats).zip(&mut samples) {
-            samples.push(time(*call, repeats).as_secs_f64() * 1e6 / f64::from(repeats));
+/// A function that is timed: from what it is given it makes an answer, and stores more.
+pub type Function<Given, Stored> = fn(&Given, &mut Stored) -> u64;
+
+/// The times of each function. All of them come to the answer and store the same. They take turns,
+/// so that all of them meet the same state of the machine.
+pub fn times<Given, Stored: Clone + PartialEq, const N: usize>(
+    functions: [Function<Given, Stored>; N],
+    given: &Given,
+    stored: Stored,
+    answer: u64,
+) -> [Times; N] {
+    let mut series = functions.map(|function| Series::new(function, given, &stored, answer));
+    assert!(series.iter().all(|one| one.stored == series[0].stored), "all store the same");
+    for round in 0..SAMPLES {
+        for one in series.iter_mut().filter(|one| round < one.count) {
+            one.sample(given);
         }
     }
-    samples.map(|mut samples| {
-        samples.sort_by(f64::total_cmp);
-        Times { minimum: samples[0], median: samples[SAMPLES / 2] }
+    series.map(|mut one| {
+        one.samples.sort_by(f64::total_cmp);
+        Times { minimum: one.samples[0], median: one.samples[one.count / 2] }
     })
 }
 
-fn time(call: &mut dyn FnMut(), repeats: u32) -> Duration {
-    let start = thread_time();
-    for _ in 0..repeats {
-        call();
+/// The samples of one function: how many there are to be, and how often each repeats the call.
+struct Series<Given, Stored> {
+    function: Function<Given, Stored>,
+    stored: Stored,
+    repeats: u32,
+    count: usize,
+    samples: Vec<f64>,
+}
+
+impl<Given, Stored: Clone> Series<Given, Stored> {
+    fn new(
+        function: Function<Given, Stored>,
+        given: &Given,
+        stored: &Stored,
+        answer: u64,
+    ) -> Series<Given, Stored> {
+        let (mut stored, start) = (stored.clone(), thread_time());
+        assert_eq!(function(given, &mut stored), answer, "the answer is the expected one");
+        let once = (thread_time() - start).as_nanos().max(10);
+        let repeats = (SAMPLE_TIME.as_nanos() / once).max(1);
+        let count = SAMPLES_TIME.as_nanos() / (once * repeats);
+        Series {
+            function,
+            stored,
+            repeats: repeats as u32,
+            count: (count as usize).clamp(FEWEST_SAMPLES, SAMPLES),
+            samples: Vec::new(),
+        }
     }
-    thread_time() - start
+
+    /// Takes one sample, in microseconds a call.
+    fn sample(&mut self, given: &Given) {
+        let start = thread_time();
+        for _ in 0..self.repeats {
+            black_box((self.function)(black_box(given), &mut self.stored));
+        }
+        let time = (thread_time() - start).as_secs_f64() * 1e6;
+        self.samples.push(time / f64::from(self.repeats));
+    }
 }
 
 /// C's `struct timespec` on 64-bit Linux.

@@ -1,5 +1,5 @@
-//! The oracle against documents 01 and 02: the examples, the table of refusals, the program's input,
-//! evaluations and searches.
+//! The oracle against documents 01 and 02: the examples, the table of refusals, the program's
+//! input, evaluations and searches.
 
 mod common;
 
