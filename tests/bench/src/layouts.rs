@@ -68,8 +68,8 @@ fn sheets(mut terms: Vec<(Point, i32)>, ends: Vec<(Point, Point)>) -> (Claim, Pr
 }
 
 /// Every row has an end at the constant. From one floor down to the next each p rises by one, and a
-/// row holds from k on; so each row has to wait for some floors more than the one before it, the last
-/// row for the last floor.
+/// row holds where its p is at least k; so each row waits for some floors more than the one before
+/// it, and the last row for the last floor.
 fn rows_hold_in_turn(k: usize) -> (Claim, Proof, Floors) {
     let point = |place: usize, half: usize| -> Point {
         let (first, second) = (2 + 4 * (place % 6), 2 + 4 * (place / 6));

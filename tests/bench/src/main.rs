@@ -3,10 +3,10 @@
 //!
 //!     cargo run --release --bin bench
 //!
-//! All are given the same sheets in the same run, laid out in several ways by `layouts`. `judging` is
-//! common to both checks in Rust, `scanning` and `hashed` find the shifted weights; `searching` and
-//! `evaluation` are the library's methods for floors and values. `timing` takes the CPU time of the
-//! thread.
+//! All are given the same sheets in the same run, laid out in several ways by `layouts`. `judging`
+//! is common to both checks in Rust, `scanning` and `hashed` find the shifted weights; `searching`
+//! and `evaluation` are the library's methods for floors and values. `timing` takes the CPU time of
+//! the thread.
 
 mod evaluation;
 mod fields;
@@ -23,7 +23,10 @@ use scanning::Scanning;
 use searching::{by_checks, by_library, by_same_method, Found, Search};
 use sheets::random::Floors;
 use sheets::{Claim, Proof};
-use timing::{times, Times, SAMPLES};
+use timing::{times, Function, Times, SAMPLES};
+
+type Check = Function<(Vec<u8>, Vec<u8>), Vec<u8>>;
+type Evaluate<'a> = Function<(&'a [u8], &'a [i32]), i64>;
 
 fn main() {
     println!("Thread CPU time of a call in microseconds, of a search in milliseconds, minimum /");
@@ -64,7 +67,7 @@ fn time_checks((name, sheets): &Layout) {
 fn check_times(claim: &Claim, proof: &Proof) -> [Times; 3] {
     let sheets = (claim.bytes(), proof.bytes());
     let output = vec![0; sheets.1.len()];
-    let checks: [timing::Function<(Vec<u8>, Vec<u8>), Vec<u8>>; 3] = [
+    let checks: [Check; 3] = [
         |(claim, proof), output| library::check(claim, proof, output),
         |(claim, proof), output| judging::check::<Scanning>(claim, proof, output),
         |(claim, proof), output| judging::check::<Hashed>(claim, proof, output),
@@ -119,7 +122,7 @@ fn print_evaluation(name: &str, exponent: fn(u8, u8) -> u8, offsets: [i32; 8]) {
 
 /// The times of the library and of the same method, which store the value.
 fn evaluation_times(claim: &[u8], offsets: &[i32]) -> [Times; 2] {
-    let evaluations: [timing::Function<(&[u8], &[i32]), i64>; 2] = [
+    let evaluations: [Evaluate; 2] = [
         |(claim, offsets), value| library::evaluate(claim, offsets, value),
         |(claim, offsets), value| evaluation::evaluate(claim, offsets, value),
     ];
