@@ -101,14 +101,18 @@ fn orders() -> Vec<Search> {
     ]
 }
 
-/// Floors that are refused under accepted ones. Without a slot at the constant its own coefficient
-/// alone is accepted (16), and 2^30 with one lone row is too much for that row under 0 (17).
+/// Floors that are refused under accepted ones: without a slot at the constant its own coefficient
+/// alone is accepted (16), and 2^30 with one lone row is too much for that row under 0 (17). Above
+/// accepted ones 17 refuses too: with the greatest scale Square's p falls past −2^30 from 1,026 on.
 fn gaps() -> Vec<Search> {
     let toy = papers::toy_circuits();
     let toy = Case::new(&toy.claim, &toy.proof);
     let toy_weights = [[1, 1, -2], [1, 1, -1], [1, 0, 0]];
     let lone = Proof::new(1, &[([0], [0], [0, 0, 0])]);
     let lone = Case::new(&Claim::new(0, &[([0], MOST)]), &lone);
+    let scaled = Proof::new(1 << 20, &[([0], [2], [0, 0, 0])]);
+    let scaled = Case::new(&square_claim(0, -2), &scaled);
+    let scaled_weights = [[1 << 20, 1 << 20, -2 << 20]];
     vec![
         search("around the lone floor", &toy, -5, 5, Ok((1, 5, &toy_weights))),
         search("above the lone floor", &toy, 2, 5, Err(23)),
@@ -116,5 +120,6 @@ fn gaps() -> Vec<Search> {
         search("a row under its weight limit", &lone, -4, 4, Ok((4, 1, &[[MOST - 4, 0, 0]]))),
         search("a row at its weight limit", &lone, -4, 0, Ok((0, 1, &[[MOST, 0, 0]]))),
         search("a row past its weight limit", &lone, -4, -1, Err(23)),
+        search("17, then 18, 19 and a floor", &scaled, 0, 2000, Ok((0, 2001, &scaled_weights))),
     ]
 }

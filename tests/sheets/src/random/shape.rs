@@ -67,7 +67,7 @@ impl Shape {
             only_pairs: false,
             rows: 1 + rng.below(12),
             least_rows: 0,
-            scale: rng.pick(&[1, 1, 2, 7]),
+            scale: rng.pick(&[1, 1, 2, 7, 1 << 20]),
             weight: rng.pick(&[9, 99, 999]),
         }
     }
