@@ -21,9 +21,9 @@ extern "C" {
 #endif
 
 #define BURMELOX_VERSION_MAJOR 0
-#define BURMELOX_VERSION_MINOR 1
+#define BURMELOX_VERSION_MINOR 2
 #define BURMELOX_VERSION_PATCH 0
-#define BURMELOX_VERSION "0.1.0"
+#define BURMELOX_VERSION "0.2.0"
 
 /*
  * An answer is one number. It is under 65,536 where nothing is refused: the number of rows of an
