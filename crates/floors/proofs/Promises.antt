@@ -27,7 +27,7 @@ use Rattle.sharing.proofs.shifts.Laws.{claim-eight}
 use Rattle.judging.specs.Check.{checkAnswer, outputOf}
 use Rattle.judging.proofs.Promises.{accepted-rows, floor-kept, check-promises}
 use Rattle.floors.specs.Search.{Told, found, refusal, answerOf, rangeWrong, rangeAnswer, floorCount, floorAfter, accepts, refusedBefore, toldAfter, searchOf, outputBy, searchOutput}
-use Rattle.floors.specs.Promises.{Some, SearchPromises}
+use Rattle.floors.specs.Promises.{FloorPromises, Some, SearchPromises}
 use Rattle.floors.proofs.search.Laws.{answer-found, answer-refusal, searchable, range-passed, range-passes, range-short, after-low, after-high, after-within, span-whole}
 
 -- ---- a floor of the range, by the number of floors above it
@@ -200,6 +200,23 @@ module _ (c s : List ℕ) (lo hi : ℤ) (room : ℕ) where
       go (found b tried k) e = answer-found _ b tried k e ∙ rw (walked b tried k e .rows-are)
       go (refusal a) e = absurd (true≢false (sym h ∙ rw (answer-refusal _ a e) (told-fails a e)))
 
+-- ---- the promises of a floor that is told
+
+found-promises : (c s : List ℕ) (lo hi : ℤ) (out : List ℕ) → Bytes s → (b : ℤ) (tried k : ℕ)
+    → searchOf c s lo hi (length out) ≡ found b tried k → (o : List ℕ) → o ≡ outputOf (withFloor c b) s out
+    → FloorPromises c s lo hi out b tried k o
+found-promises c s lo hi out bs b tried k e o eo = record {
+  within = found-within c s lo hi (length out) b tried k e;
+  accepted = found-accepted c s lo hi (length out) b tried k e;
+  higher = found-higher c s lo hi (length out) b tried k e;
+  written = eo;
+  counts = found-counts c s lo hi (length out) b tried k e;
+  floors = found-floors c s lo hi (length out) b tried k e;
+  checked =
+      check-promises (withFloor c b) s out _ k (λ h. h, λ h. h)
+      (λ _. walked c s lo hi (length out) b tried k e .rows-are) bs o eo;
+}
+
 -- ---- the promises, for whatever is to say that a floor is found, or none
 
 module _ (c s : List ℕ) (lo hi : ℤ) (out : List ℕ) (Finds : ℤ → ℕ → ℕ → Type 0) (FindsNone : Type 0)
@@ -221,21 +238,12 @@ module _ (c s : List ℕ) (lo hi : ℤ) (out : List ℕ) (Finds : ℤ → ℕ �
 
   pub search-promises : SearchPromises c s lo hi out Finds FindsNone o
   search-promises = record {
-    within = λ b tried k f. found-within c s lo hi (length out) b tried k (meant b tried k .0 f);
-    accepted = λ b tried k f. found-accepted c s lo hi (length out) b tried k (meant b tried k .0 f);
-    higher = λ b tried k f. found-higher c s lo hi (length out) b tried k (meant b tried k .0 f);
-    written = found-output;
-    counts = λ b tried k f. found-counts c s lo hi (length out) b tried k (meant b tried k .0 f);
-    floors = λ b tried k f. found-floors c s lo hi (length out) b tried k (meant b tried k .0 f);
-    checked = λ b tried k f.
-        let e = meant b tried k .0 f in
-        check-promises (withFloor c b) s out (Finds b tried k) k
-        (λ _. found-passes c s lo hi (length out) b tried k e, λ _. f)
-        (λ _. walked c s lo hi (length out) b tried k e .rows-are) bs o (found-output b tried k f);
-    none = λ f. none-carries c s lo hi (length out) bc bs _ (none-meant f) (refused-number 23 0);
+    found = λ b tried k f.
+        found-promises c s lo hi out bs b tried k (meant b tried k .0 f) o (found-output b tried k f);
     finds = λ formed enough right b low high a.
         let t = told-some c s lo hi (length out) (range-passes c s lo hi (length out) formed enough right) b low high a
         in
         record { floor = t .floor; tried = t .tried; rows = t .rows; finds = meant _ _ _ .1 (t .finds) };
+    none = λ f. none-carries c s lo hi (length out) bc bs _ (none-meant f) (refused-number 23 0);
     leaves = unfound-output;
   }

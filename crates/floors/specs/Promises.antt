@@ -8,12 +8,29 @@ use lib.IntN.{ℤ, pos, _+ℤ_, _-ℤ_}
 use lib.ListN.{length}
 use lib.Signed.{_≤ℤ_, _<ℤ_}
 use Rattle.answers.specs.Answers as Answers
+use Rattle.answers.specs.Answers.{Passes}
 use Rattle.squares.specs.Sums.{valueAt}
 use Rattle.sheets.specs.ClaimSheet.{withFloor, termsOf}
 use Rattle.checks.specs.Input.{WellFormed}
 use Rattle.judging.specs.Check.{checkAnswer, outputOf}
 use Rattle.judging.specs.Promises.{CheckPromises}
 use Rattle.floors.specs.Search.{rangeWrong, accepts}
+
+-- what is promised of a floor b that is found after so many were tried, with k rows; o is the output afterwards
+pub record FloorPromises (c s : List ℕ) (lo hi : ℤ) (out : List ℕ) (b : ℤ) (tried k : ℕ) (o : List ℕ) : Type 0 where
+  -- "the greatest floor whose check is accepted": a floor of the range, accepted with k
+  pub within : (lo ≤ℤ b) × (b ≤ℤ hi)
+  pub accepted : checkAnswer (withFloor c b) s (length out) ≡ Answers.accepted k
+  -- "Every higher floor up to hi is refused by the check"
+  pub higher : (a : ℤ) → b <ℤ a → a ≤ℤ hi → accepts c s (length out) a ≡ false
+  -- "that floor's exact proof": what its check writes
+  pub written : o ≡ outputOf (withFloor c b) s out
+  -- "the number of floors tried, which is hi minus the floor found, plus one"
+  pub counts : pos tried ≡ hi -ℤ b +ℤ pos 1
+  -- Demand 3: "the polynomial is at least the floor at all whole offsets, of either sign and however large"
+  pub floors : (x : List ℤ) → b ≤ℤ valueAt x (termsOf c)
+  -- and all else that its check promises
+  pub checked : CheckPromises (withFloor c b) s out (Passes (checkAnswer (withFloor c b) s (length out))) k o
 
 -- a floor is found, with the number of floors tried and the number of rows
 pub record Some (Finds : ℤ → ℕ → ℕ → Type 0) : Type 0 where
@@ -23,27 +40,14 @@ pub record Some (Finds : ℤ → ℕ → ℕ → Type 0) : Type 0 where
   pub finds : Finds floor tried rows
 
 -- `Finds b tried k` says that the entry point found the floor b, and `FindsNone` that it answered 23, both as its
--- caller sees them; o is the output afterwards
+-- caller sees them
 pub record SearchPromises (c s : List ℕ) (lo hi : ℤ) (out : List ℕ) (Finds : ℤ → ℕ → ℕ → Type 0) (FindsNone : Type 0)
     (o : List ℕ) : Type 0 where
-  -- "the greatest floor whose check is accepted": a floor of the range, accepted with k
-  pub within : (b : ℤ) (tried k : ℕ) → Finds b tried k → (lo ≤ℤ b) × (b ≤ℤ hi)
-  pub accepted : (b : ℤ) (tried k : ℕ) → Finds b tried k
-      → checkAnswer (withFloor c b) s (length out) ≡ Answers.accepted k
-  -- "Every higher floor up to hi is refused by the check"
-  pub higher : (b : ℤ) (tried k : ℕ) → Finds b tried k → (a : ℤ) → b <ℤ a → a ≤ℤ hi → accepts c s (length out) a ≡ false
-  -- "that floor's exact proof": what its check writes
-  pub written : (b : ℤ) (tried k : ℕ) → Finds b tried k → o ≡ outputOf (withFloor c b) s out
-  -- "the number of floors tried, which is hi minus the floor found, plus one"
-  pub counts : (b : ℤ) (tried k : ℕ) → Finds b tried k → pos tried ≡ hi -ℤ b +ℤ pos 1
-  -- Demand 3: "the polynomial is at least the floor at all whole offsets, of either sign and however large"
-  pub floors : (b : ℤ) (tried k : ℕ) → Finds b tried k → (x : List ℤ) → b ≤ℤ valueAt x (termsOf c)
-  -- and all else that the check promises, of that floor
-  pub checked : (b : ℤ) (tried k : ℕ) → Finds b tried k → CheckPromises (withFloor c b) s out (Finds b tried k) k o
-  -- 23, "no floor accepted": every floor of the range is refused by the check
-  pub none : FindsNone → (b : ℤ) → lo ≤ℤ b → b ≤ℤ hi → accepts c s (length out) b ≡ false
-  -- and where some floor of a right range is accepted, one is found
+  pub found : (b : ℤ) (tried k : ℕ) → Finds b tried k → FloorPromises c s lo hi out b tried k o
+  -- where some floor of a right range is accepted, one is found
   pub finds : WellFormed c s → length s ≤ length out → rangeWrong lo hi ≡ false
       → (b : ℤ) → lo ≤ℤ b → b ≤ℤ hi → accepts c s (length out) b ≡ true → Some Finds
+  -- 23, "no floor accepted": every floor of the range is refused by the check
+  pub none : FindsNone → (b : ℤ) → lo ≤ℤ b → b ≤ℤ hi → accepts c s (length out) b ≡ false
   -- "both write nothing", and so does every other refusal
   pub leaves : (Some Finds → ⊥) → o ≡ out

@@ -1,5 +1,5 @@
--- The trial of one floor: the tests of 16 to 19 in a ring, begun at any of them. `all-tests` of proofs/trials/Laws.antt
--- shows that none fails exactly where 16 to 19 are passed.
+-- The trial of one floor: the tests of 16 to 19 in a ring, begun at any of them. `ring-passed` and
+-- `ring-failed` of proofs/trials/Laws.antt show that none fails exactly where 16 to 19 are passed.
 use mathlib.Core.Bool.{Bool, cond, not}
 use mathlib.Core.List.{List}
 use Prim.Native.Nat.{ℕ, suc, _+_, _-_}
