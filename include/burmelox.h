@@ -111,12 +111,14 @@ uint64_t burmelox_evaluate(const uint8_t *claim, size_t claim_len,
                            int64_t *value);
 
 /*
- * Searches the floors from hi down to lo for the highest that the proof shows; the claim's own floor
- * is not used, though it has to be within the limits. Where one is found, the answer is the number
- * of rows, the floor is stored, and as `tried` the number of floors tried, hi - floor + 1; the
- * output's first proof_len bytes are the exact proof of this floor and later ones keep their values.
- * The polynomial is then at least that floor at all integers, and a check of any higher floor up to
- * hi is refused. Any other answer is a refusal, and both numbers stay as they were.
+ * Searches the floors from hi down to lo for the highest that the proof shows; lo is at most hi,
+ * both are within plus and minus the greatest weight, and at most the greatest span apart. The
+ * claim's own floor is not used, though it has to be within its limits. Where a floor is found, the
+ * answer is the number of rows, the floor is stored, and as `tried` the number of floors tried,
+ * hi - floor + 1; the output's first proof_len bytes are the exact proof of this floor and later
+ * ones keep their values. The polynomial is then at least that floor at all integers, and a check
+ * of any higher floor up to hi is refused. Any other answer is a refusal; the output, the floor and
+ * `tried` then stay as they were.
  */
 uint64_t burmelox_search(const uint8_t *claim, size_t claim_len,
                          const uint8_t *proof, size_t proof_len,

@@ -14,7 +14,7 @@ fn main() {
     if !archive.exists() {
         println!(
             "cargo::error={} is missing: run `rt staticlib burmelox` at the project's root, \
-             or name its folder in BURMELOX_LIB_DIR",
+             or put its folder's absolute path into BURMELOX_LIB_DIR",
             archive.display()
         );
         return;
