@@ -260,22 +260,9 @@ module _ (c s : List ℕ) (lo hi : ℤ) (out : List ℕ) where
         × ((Leaves (Accepted r) b₀ b × Leaves (Accepted r) m₀ m)
         × SearchPromises c s lo hi out (Finds r b m) (numberIn r ≡ 23) o)))))
     unfolding toldFloor toldTried
-    searched = (
-      er,
-      (
-        search-coded,
-        (
-          eo,
-          (
-            eb,
-            (
-              em,
-              (
-                (kept b₀ b (λ a e. eb ∙ rw e), kept m₀ m (λ a e. em ∙ rw e)),
-                search-promises c s lo hi out _ _ (λ f j k. (found-seen f j k, seen-found f j k)) none-seen bc bs o eo,
-              ),
-            ),
-          ),
-        ),
-      ),
-    )
+    searched =
+        let floor-kept = kept b₀ b (λ a e. eb ∙ rw e) in
+        let tried-kept = kept m₀ m (λ a e. em ∙ rw e) in
+        let promises =
+        search-promises c s lo hi out _ _ (λ f j k. (found-seen f j k, seen-found f j k)) none-seen bc bs o eo in
+        (er, (search-coded, (eo, (eb, (em, ((floor-kept, tried-kept), promises))))))

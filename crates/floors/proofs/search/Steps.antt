@@ -311,13 +311,10 @@ module _ (c s : List ℕ) (lo hi : ℤ) (out : List ℕ) (bc : Bytes c) (bs : By
 
   pub promised : (r : Searched) (o : List ℕ) → tells r ≡ searchOf c s lo hi (length out)
       → o ≡ searchOutput c s lo hi out → Promised r o
-  promised r o e eo = (
-    e,
-    (
-      eo,
-      search-promises c s lo hi out _ _ (λ b tried k. (λ q. sym e ∙ q, λ q. e ∙ q)) (λ q. sym e ∙ q) bc bs o eo,
-    ),
-  )
+  promised r o e eo =
+      let promises =
+      search-promises c s lo hi out _ _ (λ b tried k. (λ q. sym e ∙ q, λ q. e ∙ q)) (λ q. sym e ∙ q) bc bs o eo in
+      (e, (eo, promises))
 
   pub unwritten : (x : Sheet) → tells (Refused x) ≡ searchOf c s lo hi (length out) → Promised (Refused x) out
   unfolding searchOutput outputBy tells
