@@ -9,7 +9,7 @@ unfoldable pub kept : Found → Bool → ℕ → Found
 kept (At j) wrong i = At j
 kept Nothing wrong i = cond wrong (At i) Nothing
 
--- the first index below n at which something is wrong
+-- the first index below n at which something is wrong, or whatever else is looked for
 unfoldable pub first : (ℕ → Bool) → ℕ → Found
 first wrong zero = Nothing
 first wrong (suc n) = kept (first wrong n) (wrong n) n

@@ -1,4 +1,4 @@
-// What a search through terms or rows finds.
+// What a search finds, through terms, rows, tests or floors.
 
 // The first index, or that there is none.
 pub enum Found {

@@ -14,11 +14,12 @@ cases =
     -- E, and the most rows
     record { answer = accepted 0; code = 0 }
     ∷ record { answer = accepted 256; code = 256 }
-    -- a claim's last point, D, an output that is too short, a wrong count of offsets
+    -- a claim's last point, D, an output that is too short, a wrong count of offsets, a wrong range
     ∷ record { answer = refused 7 63; code = 4295426111 }
     ∷ record { answer = refused 19 0; code = 8591179776 }
     ∷ record { answer = refused 11 0; code = 12885622784 }
     ∷ record { answer = refused 20 0; code = 17181179904 }
+    ∷ record { answer = refused 22 0; code = 21476278272 }
     ∷ []
 
 -- the definition gives every number

@@ -43,6 +43,10 @@ pub record Coded (answer : Answer) (r : ℕ) : Type 0 where
   pub number : numberIn r ≡ answer .number
   pub index : indexIn r ≡ answer .value
 
+-- what stands behind a pointer stays where nothing was given
+pub record Leaves {A : Type 0} (Given : Type 0) (before after : A) : Type 0 where
+  pub leaves : (Given → ⊥) → after ≡ before
+
 -- ---- evaluations: r is the answer, `before` and `after` are what stands behind the pointer
 
 -- the value that is stored, or what stood there before
@@ -53,10 +57,6 @@ toldValue (refusal answer) before = before
 -- the answer is 0, and z was stored
 abbrev pub Stores : ℕ → ℤ → ℤ → Type 0
 Stores r after z = (r ≡ 0) × (after ≡ z)
-
--- what stands behind a pointer stays where nothing was given
-pub record Leaves {A : Type 0} (Given : Type 0) (before after : A) : Type 0 where
-  pub leaves : (Given → ⊥) → after ≡ before
 
 -- ---- searches: r is the answer, b and m are the floor and the number of floors tried, as they are stored
 

@@ -1,2 +1,2 @@
-// The static library for C and Rust: the check and the evaluation, their answers as one number.
+// The static library for C and Rust: the check, the evaluation and the search, their answers as one number.
 pub mod exports;

@@ -29,7 +29,7 @@ ghost use Rattle.answers.specs.Answers.{says};
 ghost use Rattle.answers.specs.Searches.{first};
 ghost use Rattle.sheets.specs.Layout.{ProofRoom};
 ghost use Rattle.checks.specs.ProofChecks.{proofHeaderRight, headerAnswer, qOrR, anyBeyond, rowBreaks, rowsAnswer};
-ghost use Rattle.checks.specs.declared.proof_checks.RowRule.the-variants.{Exponent, Midpoint, Unused, Weight};
+ghost use Rattle.checks.specs.declared.proof_checks.RowRule.the-variants.{Exponent, Midpoint, Unused};
 
 // What every row has to keep, with its limit.
 pub enum RowRule {

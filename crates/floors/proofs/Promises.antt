@@ -9,12 +9,13 @@ use lib.Dec.{lit<}
 use lib.IntN.{ℤ, pos, natAbs, _+ℤ_, _-ℤ_}
 use lib.ListN.{length}
 use lib.Signed.{_≤ℤ_, _<ℤ_}
-use Rattle.integers.proofs.Integers.{ring, ints, by-le, by-eq, read-eq, abs-nonneg, fits-within}
+use Rattle.integers.proofs.Integers.{ring, ints, by-le, by-eq, read-eq, read-le, le-ltZ, abs-nonneg, fits-within}
 use Rattle.integers.proofs.Tests.{never}
 use Rattle.integers.proofs.words.Laws.{Bytes}
-use Rattle.bounds.specs.Bounds.{greatestWeight}
+use Rattle.bounds.specs.Bounds.{greatestWeight, greatestSpan}
+use Rattle.bounds.proofs.bounds.Laws.{bound-within}
 use Rattle.answers.specs.Answers.{Answer, accepted, refused, blameless, Passes, Short}
-use Rattle.answers.specs.declared.searches.Found as Searches
+use Rattle.answers.specs.declared.searches.Found as Index
 use Rattle.answers.specs.declared.searches.Found.the-variants.{At, Nothing}
 use Rattle.answers.proofs.answers.Laws.{passes-or-fails, refused-blames, refused-number, short-accepted, short-refused}
 use Rattle.answers.proofs.searches.Laws.{first-inside, first-before, none-wrong}
@@ -27,12 +28,12 @@ use Rattle.sharing.proofs.shifts.Laws.{claim-eight}
 use Rattle.judging.specs.Check.{checkAnswer, outputOf}
 use Rattle.judging.proofs.Promises.{accepted-rows, floor-kept, check-promises}
 use Rattle.floors.specs.Search.{Told, found, refusal, answerOf, rangeWrong, rangeAnswer, floorCount, floorAfter, accepts, refusedBefore, toldAfter, searchOf, outputBy, searchOutput}
-use Rattle.floors.specs.Promises.{FloorPromises, Some, SearchPromises}
-use Rattle.floors.proofs.search.Laws.{answer-found, answer-refusal, searchable, range-passed, range-passes, range-short, after-low, after-high, after-within, span-whole}
+use Rattle.floors.specs.Promises.{Right, FloorPromises, Some, SearchPromises}
+use Rattle.floors.proofs.search.Laws.{answer-found, answer-refusal, ranged, searchable, range-passed, range-passes, range-short, after-low, after-high, after-within, span-whole}
 
 -- ---- a floor of the range, by the number of floors above it
 
-module _ (lo hi b : ℤ) (h : rangeWrong lo hi ≡ false) (high : b ≤ℤ hi) where
+module _ (hi b : ℤ) (high : b ≤ℤ hi) where
   above-is : pos (natAbs (hi -ℤ b)) ≡ hi -ℤ b
   above-is = abs-nonneg (by-le (simp ring (omega (ints, high))))
 
@@ -40,12 +41,34 @@ module _ (lo hi b : ℤ) (h : rangeWrong lo hi ≡ false) (high : b ≤ℤ hi) w
   unfolding floorAfter
   above-after = rw above-is (by-eq (simp ring (omega ints)))
 
-  above-inside : lo ≤ℤ b → natAbs (hi -ℤ b) < floorCount lo hi
+  above-inside : (lo : ℤ) → rangeWrong lo hi ≡ false → lo ≤ℤ b → natAbs (hi -ℤ b) < floorCount lo hi
   unfolding floorCount
-  above-inside low =
+  above-inside lo h low =
       let e = simp ring at (read-eq (span-whole lo hi h)) in
       let d = simp ring at (read-eq above-is) in
       omega (ints, e, d, low, high)
+
+-- ---- 22 in plain numbers
+
+module _ (lo hi : ℤ) where
+  right-range : rangeWrong lo hi ≡ false → Right lo hi
+  right-range h =
+      let r = ranged lo hi h in
+      let e = simp ring at (read-eq (span-whole lo hi h)) in
+      record { ordered = r .0; low = r .1; high = r .2; span = by-le (simp ring (omega (ints, e, r .3))) }
+
+  range-right : Right lo hi → rangeWrong lo hi ≡ false
+  unfolding rangeWrong
+  range-right r =
+      let l = r .ordered in
+      let d = simp ring at (read-eq (above-is hi lo l)) in
+      let u = simp ring at (read-le (r .span)) in
+      rw (
+        le-ltZ l,
+        bound-within greatestWeight lo (r .low),
+        bound-within greatestWeight hi (r .high),
+        bound-within greatestSpan (hi -ℤ lo) (omega (ints, d, u)),
+      )
 
 -- ---- what is told, by what the checks and the walk found
 
@@ -62,23 +85,27 @@ module _ (c s : List ℕ) (lo hi : ℤ) (room : ℕ) where
     tried-is : tried ≡ suc after
     rows-are : k ≡ rowCount s
 
-  walked : (b : ℤ) (tried k : ℕ) → told ≡ found b tried k → Walked b tried k
+  -- a refusal by 1 to 15 or 22, a floor after i others, or 23
+  told-cases : {A : Type 0}
+      → (blameless (rangeAnswer c s lo hi room) ≡ false → told ≡ refusal (rangeAnswer c s lo hi room) → A)
+      → (Passes (rangeAnswer c s lo hi room) → (i : ℕ) → refusedBefore c s lo hi room ≡ At i
+      → told ≡ found (floorAfter hi i) (suc i) (rowCount s) → A)
+      → (Passes (rangeAnswer c s lo hi room) → refusedBefore c s lo hi room ≡ Nothing
+      → told ≡ refusal (refused 23 0) → A)
+      → A
   unfolding searchOf toldAfter
-  walked b tried k e =
-      passes-or-fails (rangeAnswer c s lo hi room) (λ h. go h (refusedBefore c s lo hi room) refl (rw h at e))
-      (λ h. let q = rw h at e in never (cc))
+  told-cases {A} early some none =
+      passes-or-fails (rangeAnswer c s lo hi room) (λ h. go h (refusedBefore c s lo hi room) refl) (λ h. early h (rw h))
     where
-      go : Passes (rangeAnswer c s lo hi room) → (f : Searches.Found) → refusedBefore c s lo hi room ≡ f
-          → toldAfter s hi f ≡ found b tried k → Walked b tried k
-      go h (At i) ef q = record {
-        ready = h;
-        after = i;
-        before = ef;
-        floor-is = cc;
-        tried-is = cc;
-        rows-are = cc;
-      }
-      go h Nothing ef q = never (cc)
+      go : Passes (rangeAnswer c s lo hi room) → (f : Index.Found) → refusedBefore c s lo hi room ≡ f → A
+      go h (At i) e = some h i e (rw (h, e))
+      go h Nothing e = none h e (rw (h, e))
+
+  walked : (b : ℤ) (tried k : ℕ) → told ≡ found b tried k → Walked b tried k
+  walked b tried k e =
+      told-cases (λ h q. never (cc))
+      (λ h i f q. record { ready = h; after = i; before = f; floor-is = cc; tried-is = cc; rows-are = cc })
+      (λ h f q. never (cc))
 
   -- ---- a floor that is told
 
@@ -110,10 +137,10 @@ module _ (c s : List ℕ) (lo hi : ℤ) (room : ℕ) where
     found-higher : (a : ℤ) → b <ℤ a → a ≤ℤ hi → accepts c s room a ≡ false
     unfolding refusedBefore floorAfter
     found-higher a over high =
-        let d = simp ring at (read-eq (above-is lo hi a right high)) in
+        let d = simp ring at (read-eq (above-is hi a high)) in
         let f = simp ring at (read-eq (w .floor-is)) in
         let l : natAbs (hi -ℤ a) < w .after = omega (ints, d, f, over) in
-        rw (above-after lo hi a right high) at (none-wrong _ _ (first-before _ _ _ (w .before)) (natAbs (hi -ℤ a)) l)
+        rw (above-after hi a high) at (none-wrong _ _ (first-before _ _ _ (w .before)) (natAbs (hi -ℤ a)) l)
 
     found-counts : pos tried ≡ hi -ℤ b +ℤ pos 1
     unfolding floorAfter
@@ -133,22 +160,15 @@ module _ (c s : List ℕ) (lo hi : ℤ) (room : ℕ) where
       → accepts c s room b ≡ false
   unfolding refusedBefore
   none-accepted e right b low high =
-      rw (above-after lo hi b right high)
-      at (none-wrong _ _ e (natAbs (hi -ℤ b)) (above-inside lo hi b right high low))
+      rw (above-after hi b high)
+      at (none-wrong _ _ e (natAbs (hi -ℤ b)) (above-inside hi b high lo right low))
 
   -- a refusal is that of 1 to 15 and 22, or 23
   told-refused : {A : Type 0} (a : Answer) → told ≡ refusal a
       → (blameless (rangeAnswer c s lo hi room) ≡ false → a ≡ rangeAnswer c s lo hi room → A)
       → (rangeWrong lo hi ≡ false → refusedBefore c s lo hi room ≡ Nothing → a ≡ refused 23 0 → A) → A
-  unfolding searchOf toldAfter
-  told-refused {A} a e one other =
-      passes-or-fails (rangeAnswer c s lo hi room) (λ h. go h (refusedBefore c s lo hi room) refl (rw h at e))
-      (λ h. let q = rw h at e in one h (cc))
-    where
-      go : Passes (rangeAnswer c s lo hi room) → (f : Searches.Found) → refusedBefore c s lo hi room ≡ f
-          → toldAfter s hi f ≡ refusal a → A
-      go h (At i) ef q = never (cc)
-      go h Nothing ef q = other (range-passed c s lo hi room h) ef (cc)
+  told-refused a e one other =
+      told-cases (λ h q. one h (cc)) (λ h i f q. never (cc)) (λ h f q. other (range-passed c s lo hi room h) f (cc))
 
   pub told-fails : (a : Answer) → told ≡ refusal a → blameless a ≡ false
   told-fails a e = told-refused a e (λ h q. rw q h) (λ h f q. rw q (refused-blames 23 0 refl))
@@ -166,46 +186,52 @@ module _ (c s : List ℕ) (lo hi : ℤ) (room : ℕ) where
     pub told-none : a ≡ refused 23 0
     told-none = told-refused a e (λ h q. not-before q) (λ h f q. q)
 
+    none-right : rangeWrong lo hi ≡ false
+    none-right = told-refused a e (λ h q. not-before q) (λ h f q. h)
+
     none-carries : (b : ℤ) → lo ≤ℤ b → b ≤ℤ hi → accepts c s room b ≡ false
     none-carries = told-refused a e (λ h q. not-before q) (λ h f q. none-accepted f h)
 
-  told-some : Passes (rangeAnswer c s lo hi room) → (b : ℤ) → lo ≤ℤ b → b ≤ℤ hi → accepts c s room b ≡ true
-      → Some (λ b tried k. told ≡ found b tried k)
-  unfolding searchOf toldAfter
-  told-some h b low high a = go (refusedBefore c s lo hi room) refl
-    where
-      go : (f : Searches.Found) → refusedBefore c s lo hi room ≡ f → Some (λ b tried k. told ≡ found b tried k)
-      go (At i) ef = record { floor = floorAfter hi i; tried = suc i; rows = rowCount s; finds = rw (h, ef) }
-      go Nothing ef =
-          let q = none-accepted ef (range-passed c s lo hi room h) b low high in absurd (true≢false (sym a ∙ q))
+  module _ (h : Passes (rangeAnswer c s lo hi room)) where
+    ready-cases : {A : Type 0}
+        → ((i : ℕ) → refusedBefore c s lo hi room ≡ At i → told ≡ found (floorAfter hi i) (suc i) (rowCount s) → A)
+        → (refusedBefore c s lo hi room ≡ Nothing → told ≡ refusal (refused 23 0) → A) → A
+    ready-cases some none = told-cases (λ n q. absurd (true≢false (sym h ∙ n))) (λ _. some) (λ _. none)
+
+    told-some : (b : ℤ) → lo ≤ℤ b → b ≤ℤ hi → accepts c s room b ≡ true → Some (λ b tried k. told ≡ found b tried k)
+    told-some b low high a =
+        ready-cases (λ i f q. record { floor = _; tried = _; rows = _; finds = q })
+        (λ f q. absurd (true≢false (sym a ∙ none-accepted f (range-passed c s lo hi room h) b low high)))
+
+    told-unfound : ((b : ℤ) → lo ≤ℤ b → b ≤ℤ hi → accepts c s room b ≡ false) → told ≡ refusal (refused 23 0)
+    unfolding accepts
+    told-unfound none =
+        ready-cases
+        (λ i f q.
+        let l = found-within _ _ _ q in absurd (true≢false (sym (found-passes _ _ _ q) ∙ none _ (l .0) (l .1))))
+        (λ f q. q)
 
   -- ---- for the crates above: the answer is short, and an acceptance carries k
 
   pub told-short : {limit : ℕ} → 23 < limit → Bytes c → Bytes s → Short limit (answerOf told)
-  told-short {limit} h bc bs = go told refl
-    where
-      go : (t : Told) → told ≡ t → Short limit (answerOf t)
-      go (found b tried k) e =
-          rw (answer-found _ b tried k refl)
-          (short-accepted k (omega arith) (rw (walked b tried k e .rows-are) (rows-counted s bs)))
-      go (refusal a) e =
-          rw (answer-refusal _ a refl)
-          (told-refused a e (λ f q. rw q (range-short c s lo hi room (omega arith) bc bs))
-          (λ f g q. rw q (short-refused 23 0 h (omega arith))))
+  told-short {limit} h bc bs =
+      told-cases (λ _ q. rw (answer-refusal _ _ q) (range-short c s lo hi room (omega arith) bc bs))
+      (λ _ i f q. rw (answer-found _ _ _ _ q) (short-accepted _ (omega arith) (rows-counted s bs)))
+      (λ _ f q. rw (answer-refusal _ _ q) (short-refused 23 0 h (omega arith)))
 
   pub told-accepted : Passes (answerOf told) → answerOf told ≡ accepted (rowCount s)
-  told-accepted h = go told refl
-    where
-      go : (t : Told) → told ≡ t → answerOf told ≡ accepted (rowCount s)
-      go (found b tried k) e = answer-found _ b tried k e ∙ rw (walked b tried k e .rows-are)
-      go (refusal a) e = absurd (true≢false (sym h ∙ rw (answer-refusal _ a e) (told-fails a e)))
+  told-accepted h =
+      told-cases (λ n q. absurd (true≢false (sym h ∙ rw (answer-refusal _ _ q) n))) (λ _ i f q. answer-found _ _ _ _ q)
+      (λ _ f q. absurd (true≢false (sym h ∙ rw (answer-refusal _ _ q) (refused-blames 23 0 refl))))
 
 -- ---- the promises of a floor that is told
 
 found-promises : (c s : List ℕ) (lo hi : ℤ) (out : List ℕ) → Bytes s → (b : ℤ) (tried k : ℕ)
     → searchOf c s lo hi (length out) ≡ found b tried k → (o : List ℕ) → o ≡ outputOf (withFloor c b) s out
     → FloorPromises c s lo hi out b tried k o
+unfolding accepts
 found-promises c s lo hi out bs b tried k e o eo = record {
+  right = right-range lo hi (right c s lo hi (length out) b tried k e);
   within = found-within c s lo hi (length out) b tried k e;
   accepted = found-accepted c s lo hi (length out) b tried k e;
   higher = found-higher c s lo hi (length out) b tried k e;
@@ -221,7 +247,7 @@ found-promises c s lo hi out bs b tried k e o eo = record {
 
 module _ (c s : List ℕ) (lo hi : ℤ) (out : List ℕ) (Finds : ℤ → ℕ → ℕ → Type 0) (FindsNone : Type 0)
     (meant : (b : ℤ) (tried k : ℕ) → Finds b tried k ↔ (searchOf c s lo hi (length out) ≡ found b tried k))
-    (none-meant : FindsNone → searchOf c s lo hi (length out) ≡ refusal (refused 23 0)) (bc : Bytes c) (bs : Bytes s)
+    (none-meant : FindsNone ↔ (searchOf c s lo hi (length out) ≡ refusal (refused 23 0))) (bc : Bytes c) (bs : Bytes s)
     (o : List ℕ) (eo : o ≡ searchOutput c s lo hi out) where
   found-output : (b : ℤ) (tried k : ℕ) → Finds b tried k → o ≡ outputOf (withFloor c b) s out
   unfolding searchOutput outputBy
@@ -237,13 +263,20 @@ module _ (c s : List ℕ) (lo hi : ℤ) (out : List ℕ) (Finds : ℤ → ℕ �
       go (refusal answer) e = eo ∙ rw e
 
   pub search-promises : SearchPromises c s lo hi out Finds FindsNone o
+  unfolding accepts
   search-promises = record {
     found = λ b tried k f.
         found-promises c s lo hi out bs b tried k (meant b tried k .0 f) o (found-output b tried k f);
     finds = λ formed enough right b low high a.
-        let t = told-some c s lo hi (length out) (range-passes c s lo hi (length out) formed enough right) b low high a
-        in
+        let ready = range-passes c s lo hi (length out) formed enough (range-right lo hi right) in
+        let t = told-some c s lo hi (length out) ready b low high a in
         record { floor = t .floor; tried = t .tried; rows = t .rows; finds = meant _ _ _ .1 (t .finds) };
-    none = λ f. none-carries c s lo hi (length out) bc bs _ (none-meant f) (refused-number 23 0);
+    none = λ f. none-carries c s lo hi (length out) bc bs _ (none-meant .0 f) (refused-number 23 0);
+    none-right = λ f.
+        right-range lo hi (none-right c s lo hi (length out) bc bs _ (none-meant .0 f) (refused-number 23 0));
+    says-none = λ formed enough right none.
+        none-meant .1
+        (told-unfound c s lo hi (length out)
+        (range-passes c s lo hi (length out) formed enough (range-right lo hi right)) none);
     leaves = unfound-output;
   }

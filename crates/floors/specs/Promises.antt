@@ -1,28 +1,36 @@
 -- What the search promises, in the words of document 02's first note. "The check" of a floor is the check of the claim
 -- with that floor in its floor field: there is no other notion of it.
 use mathlib.Core.Path.{_≡_}
-use mathlib.Core.Bool.{true, false}
+use mathlib.Core.Bool.{false}
 use mathlib.Core.List.{List}
 use Prim.Native.Nat.{ℕ, _≤_}
-use lib.IntN.{ℤ, pos, _+ℤ_, _-ℤ_}
+use lib.IntN.{ℤ, pos, natAbs, _+ℤ_, _-ℤ_}
 use lib.ListN.{length}
 use lib.Signed.{_≤ℤ_, _<ℤ_}
+use Rattle.bounds.specs.Bounds.{greatestWeight, greatestSpan}
 use Rattle.answers.specs.Answers as Answers
-use Rattle.answers.specs.Answers.{Passes}
+use Rattle.answers.specs.Answers.{blameless, Passes}
 use Rattle.squares.specs.Sums.{valueAt}
 use Rattle.sheets.specs.ClaimSheet.{withFloor, termsOf}
 use Rattle.checks.specs.Input.{WellFormed}
 use Rattle.judging.specs.Check.{checkAnswer, outputOf}
 use Rattle.judging.specs.Promises.{CheckPromises}
-use Rattle.floors.specs.Search.{rangeWrong, accepts}
+
+-- a range that 22 lets pass, in plain numbers
+pub record Right (lo hi : ℤ) : Type 0 where
+  pub ordered : lo ≤ℤ hi
+  pub low : natAbs lo ≤ greatestWeight
+  pub high : natAbs hi ≤ greatestWeight
+  pub span : (hi -ℤ lo) ≤ℤ (pos greatestSpan)
 
 -- what is promised of a floor b that is found after so many were tried, with k rows; o is the output afterwards
 pub record FloorPromises (c s : List ℕ) (lo hi : ℤ) (out : List ℕ) (b : ℤ) (tried k : ℕ) (o : List ℕ) : Type 0 where
   -- "the greatest floor whose check is accepted": a floor of the range, accepted with k
+  pub right : Right lo hi
   pub within : (lo ≤ℤ b) × (b ≤ℤ hi)
   pub accepted : checkAnswer (withFloor c b) s (length out) ≡ Answers.accepted k
   -- "Every higher floor up to hi is refused by the check"
-  pub higher : (a : ℤ) → b <ℤ a → a ≤ℤ hi → accepts c s (length out) a ≡ false
+  pub higher : (a : ℤ) → b <ℤ a → a ≤ℤ hi → blameless (checkAnswer (withFloor c a) s (length out)) ≡ false
   -- "that floor's exact proof": what its check writes
   pub written : o ≡ outputOf (withFloor c b) s out
   -- "the number of floors tried, which is hi minus the floor found, plus one"
@@ -45,9 +53,13 @@ pub record SearchPromises (c s : List ℕ) (lo hi : ℤ) (out : List ℕ) (Finds
     (o : List ℕ) : Type 0 where
   pub found : (b : ℤ) (tried k : ℕ) → Finds b tried k → FloorPromises c s lo hi out b tried k o
   -- where some floor of a right range is accepted, one is found
-  pub finds : WellFormed c s → length s ≤ length out → rangeWrong lo hi ≡ false
-      → (b : ℤ) → lo ≤ℤ b → b ≤ℤ hi → accepts c s (length out) b ≡ true → Some Finds
+  pub finds : WellFormed c s → length s ≤ length out → Right lo hi
+      → (b : ℤ) → lo ≤ℤ b → b ≤ℤ hi → Passes (checkAnswer (withFloor c b) s (length out)) → Some Finds
   -- 23, "no floor accepted": every floor of the range is refused by the check
-  pub none : FindsNone → (b : ℤ) → lo ≤ℤ b → b ≤ℤ hi → accepts c s (length out) b ≡ false
+  pub none : FindsNone → (b : ℤ) → lo ≤ℤ b → b ≤ℤ hi → blameless (checkAnswer (withFloor c b) s (length out)) ≡ false
+  -- which is said exactly where that is so of a right range
+  pub none-right : FindsNone → Right lo hi
+  pub says-none : WellFormed c s → length s ≤ length out → Right lo hi
+      → ((b : ℤ) → lo ≤ℤ b → b ≤ℤ hi → blameless (checkAnswer (withFloor c b) s (length out)) ≡ false) → FindsNone
   -- "both write nothing", and so does every other refusal
   pub leaves : (Some Finds → ⊥) → o ≡ out

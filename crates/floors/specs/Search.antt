@@ -10,7 +10,7 @@ use Rattle.bounds.specs.Bounds.{greatestWeight, greatestSpan, beyond}
 use Rattle.answers.specs.Answers.{Answer, accepted, refused, says, refuseIf, blameless, andThen}
 use Rattle.answers.specs.Searches.{first}
 use Rattle.answers.specs.declared.answers.Verdict.the-variants as Verdicts
-use Rattle.answers.specs.declared.searches.Found as Searches
+use Rattle.answers.specs.declared.searches.Found as Index
 use Rattle.answers.specs.declared.searches.Found.the-variants.{At, Nothing}
 use Rattle.sheets.specs.Layout.{rowCount}
 use Rattle.sheets.specs.ClaimSheet.{withFloor}
@@ -65,11 +65,11 @@ unfoldable pub accepts : List ℕ → List ℕ → ℕ → ℤ → Bool
 accepts c s room b = blameless (checkAnswer (withFloor c b) s room)
 
 -- how many floors are refused before "the greatest floor whose check is accepted"
-unfoldable pub refusedBefore : List ℕ → List ℕ → ℤ → ℤ → ℕ → Searches.Found
+unfoldable pub refusedBefore : List ℕ → List ℕ → ℤ → ℤ → ℕ → Index.Found
 refusedBefore c s lo hi room = first (λ i. accepts c s room (floorAfter hi i)) (floorCount lo hi)
 
 -- "the number of floors tried"; 23: "no floor accepted"
-unfoldable pub toldAfter : List ℕ → ℤ → Searches.Found → Told
+unfoldable pub toldAfter : List ℕ → ℤ → Index.Found → Told
 toldAfter s hi (At i) = found (floorAfter hi i) (suc i) (rowCount s)
 toldAfter s hi Nothing = refusal (refused 23 0)
 

@@ -16,7 +16,7 @@ use targets::targets::Aim;
 use weighing::exact::write_exact;
 ghost use mathlib.Core.Path.{_≡_};
 ghost use mathlib.Core.Bool.{false};
-ghost use Prim.Native.Nat.{_≤_, _<_};
+ghost use Prim.Native.Nat.{_≤_};
 ghost use lib.IntN.{natAbs};
 ghost use lib.ListN.{length};
 ghost use Rattle.bounds.specs.Bounds.{greatestWeight, greatestSpan};

@@ -1,7 +1,7 @@
 // Points by value: their exponents, order, midpoint and parity.
 use bounds::bounds::MOST_VARIABLES;
 ghost use mathlib.Core.Path.{_≡_};
-ghost use Prim.Native.Nat.{_+_, _/_, _<_, _≤_, min};
+ghost use Prim.Native.Nat.{_+_, _/_, _≤_, min};
 ghost use lib.ListN.{length};
 ghost use Rattle.bounds.specs.Bounds.{mostVariables};
 ghost use Rattle.points.specs.Points.{exponents, pointOf, bytesAt, everyPair, passes, samePoint, risesTo, hasMidpoint, midpointOf, keepsSign, exponentsWithin};

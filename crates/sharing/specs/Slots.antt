@@ -29,6 +29,10 @@ holdsPoint s shape α i = ltb 0 (count α (slotsOf (rowOf s shape i)))
 pub record HoldsKey (s : List ℕ) (shape : Shape) (key i : ℕ) (answer : Bool) : Type 0 where
   pub holds : (α : Exponents) → Carried (shape .n) α → key ≡ keyOf α → answer ≡ holdsPoint s shape α i
 
+-- the number that is answered for a key: how many slots there are at the point with that key
+pub record CountsKey (s : List ℕ) (shape : Shape) (key answer : ℕ) : Type 0 where
+  pub counts : (α : Exponents) → Carried (shape .n) α → key ≡ keyOf α → answer ≡ count α (slotsTo s shape (shape .k))
+
 -- ---- tallies by keys, as the code counts: `held-at` of proofs/slots/Laws.antt shows that they are those at the point
 
 -- a tally that leaves room for more: 768 slots of the greatest weight stay far below

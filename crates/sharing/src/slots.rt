@@ -12,7 +12,7 @@ ghost use Rattle.integers.specs.Words.{i32At};
 ghost use Rattle.bounds.specs.Bounds.{greatestWeight};
 ghost use Rattle.checks.specs.ProofChecks.{ProofFacts};
 ghost use Rattle.targets.specs.Carried.{CarriedKey};
-ghost use Rattle.sharing.specs.Slots.{Small, HoldsKey, slotsTo, added, tallyOf, holdingOf};
+ghost use Rattle.sharing.specs.Slots.{Small, HoldsKey, CountsKey, slotsTo, added, tallyOf, holdingOf};
 
 // What the slots at a point weigh together, and how many they are.
 pub struct Tally {
@@ -73,10 +73,10 @@ fn scan(proof: &[u8], shape: Shape, from: usize, to: usize, key: u64, a: Tally) 
     b
 }
 
-// How many slots have a key.
+// How many slots there are at the point with a key.
 pub fn slots_with(proof: &[u8], shape: Shape, key: u64) -> u32
-    requires { ⌜ (ProofFacts (now proof) shape) × (key < 2 ^ 63) ⌝ }
-    ensures { λ r. ⌜ r ≡ tallyOf key (slotsTo (now (proof .entry)) shape (shape .k)) .count ⌝ }
+    requires { ⌜ (ProofFacts (now proof) shape) × (CarriedKey (shape .n) key) ⌝ }
+    ensures { λ r. ⌜ CountsKey (now (proof .entry)) shape key r ⌝ }
 {
     let all = scan(proof, shape, 0, shape.k, key, Tally { sum: 0, count: 0 });
     all.count

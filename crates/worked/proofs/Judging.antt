@@ -30,7 +30,7 @@ use Rattle.worked.specs.Sheets.{joined, word, words, claimOf, proofOf, s
 use Rattle.worked.specs.Judging.{spare, accepts, refuses, motzkinExact, marked, tabled, worked, Worked}
 use Rattle.worked.specs.Searches as S
 
-pub all-worked : Worked × S.Worked
+computed : Worked × S.Worked
 unfolding
     u32At i32At withBits withI32 floorDiv floorMod share table bytesAt every everyPair samePoint risesTo
     midpointOf evenSum hasMidpoint exponentsWithin keepsSign gathered coefficient slotsAt lowered worst target
@@ -45,4 +45,10 @@ unfolding
     motzkinProofBytes oneTerm spare accepts refuses motzkinExact marked tabled worked withFloor F.rangeWrong
     F.rangeAnswer F.floorCount F.floorAfter F.accepts F.refusedBefore F.toldAfter F.searchOf F.outputBy
     F.searchOutput S.finds S.refuses S.heavy S.loneZero S.cases S.ranges S.worked
-all-worked = (refl, (refl, refl))
+computed = (refl, (refl, refl))
+
+pub all-worked : Worked
+all-worked = computed .0
+
+pub all-searched : S.Worked
+all-searched = computed .1

@@ -12,7 +12,7 @@ use Rattle.answers.specs.Answers.{Answer, sheetNumber, accepted, refused, says,
 use Rattle.answers.specs.declared.answers.Sheet.{Sheet}
 use Rattle.answers.specs.declared.answers.Verdict.{Verdict}
 use Rattle.answers.specs.declared.answers.Verdict.the-variants as Verdicts
-use Rattle.answers.proofs.answers.Laws.{passes-or-fails, accepted-passes, failed, accepted-numbers, passed-sheet, sheet-passed}
+use Rattle.answers.proofs.answers.Laws.{passes-or-fails, accepted-passes, failed, accepted-numbers, refused-number, passed-sheet, sheet-passed}
 use Rattle.sheets.specs.Layout.{rowCount}
 use Rattle.judging.specs.Check.{checkAnswer, outputOf}
 use Rattle.judging.specs.Promises.{CheckPromises}
@@ -26,7 +26,7 @@ use Rattle.floors.specs.Search as Floors
 use Rattle.floors.specs.Search.{answerOf, searchOf, searchOutput}
 use Rattle.floors.specs.Promises.{SearchPromises}
 use Rattle.floors.specs.declared.search.Searched.{Searched}
-use Rattle.floors.specs.declared.search.Searched.the-variants as Searches
+use Rattle.floors.specs.declared.search.Searched.the-variants as Outcomes
 use Rattle.floors.proofs.Promises.{told-short, told-accepted, told-fails, told-none, search-promises}
 use Rattle.floors.proofs.search.Laws.{tells-found, tells-refusal as tells-unfound, answer-found, answer-refusal}
 use Rattle.burmelox.specs.Exports.{sheetUnit, numberUnit, codeOf, sheetIn, numberIn, indexIn, Accepted, Coded, toldValue, Stores, toldFloor, toldTried, Finds, Leaves}
@@ -160,7 +160,7 @@ module _ (c s : List ℕ) (lo hi : ℤ) (out : List ℕ) where
     told-here : Floors.tells t ≡ told
     told-here = e ∙ rw (el, eh)
 
-    module _ (sheet : Sheet) (h : t ≡ Searches.Refused sheet) where
+    module _ (sheet : Sheet) (h : t ≡ Outcomes.Refused sheet) where
       unfound : told ≡ Floors.refusal (says (Verdicts.Refused sheet))
       unfound = tells-unfound t _ told-here sheet h
 
@@ -179,7 +179,7 @@ module _ (c s : List ℕ) (lo hi : ℤ) (out : List ℕ) where
       unfolding toldTried
       unfound-tried m = rw unfound
 
-    module _ (floor : ℤ) (tried k : ℕ) (h : t ≡ Searches.Found floor tried k) where
+    module _ (floor : ℤ) (tried k : ℕ) (h : t ≡ Outcomes.Found floor tried k) where
       found : told ≡ Floors.found floor tried k
       found = tells-found t _ told-here floor tried k h
 
@@ -247,6 +247,9 @@ module _ (c s : List ℕ) (lo hi : ℤ) (out : List ℕ) where
             e ∙ ap Floors.refusal
             (told-none c s lo hi (length out) bc bs a e (rw (answer-refusal told a e) at number))
 
+    seen-none : told ≡ Floors.refusal (refused 23 0) → numberIn r ≡ 23
+    seen-none e = search-coded .number ∙ rw (answer-refusal told _ e, refused-number)
+
     kept : {A : Type 0} (x₀ x : A) → ((answer : Answer) → told ≡ Floors.refusal answer → x ≡ x₀)
         → Leaves (Accepted r) x₀ x
     kept x₀ x h = record { leaves = λ n. go n told refl }
@@ -264,5 +267,6 @@ module _ (c s : List ℕ) (lo hi : ℤ) (out : List ℕ) where
         let floor-kept = kept b₀ b (λ a e. eb ∙ rw e) in
         let tried-kept = kept m₀ m (λ a e. em ∙ rw e) in
         let promises =
-        search-promises c s lo hi out _ _ (λ f j k. (found-seen f j k, seen-found f j k)) none-seen bc bs o eo in
+        search-promises c s lo hi out _ _ (λ f j k. (found-seen f j k, seen-found f j k)) (none-seen, seen-none) bc bs
+        o eo in
         (er, (search-coded, (eo, (eb, (em, ((floor-kept, tried-kept), promises))))))

@@ -104,7 +104,7 @@ module _ (c s : List ℕ) (lo hi : ℤ) (room : ℕ) (h : Passes (rangeAnswer c 
   }
 
   -- the check of each floor
-  pub accepts-after : (i : ℕ) → i < floorCount lo hi → accepts c s room (floorAfter hi i) ≡ passesAfter c s hi i
+  accepts-after : (i : ℕ) → i < floorCount lo hi → accepts c s room (floorAfter hi i) ≡ passesAfter c s hi i
   unfolding accepts passesAfter aimAfter
   accepts-after i l =
       ap blameless (floored-answer c s room input-passed (floorAfter hi i) (after-within lo hi range-passed i l))

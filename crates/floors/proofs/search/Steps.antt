@@ -22,7 +22,7 @@ use Rattle.answers.specs.declared.answers.Sheet.{Sheet}
 use Rattle.answers.specs.declared.answers.Sheet.the-variants.{Range}
 use Rattle.answers.specs.declared.answers.Verdict.{Verdict}
 use Rattle.answers.specs.declared.answers.Verdict.the-variants as Verdicts
-use Rattle.answers.specs.declared.searches.Found as Searches
+use Rattle.answers.specs.declared.searches.Found as Index
 use Rattle.answers.specs.declared.searches.Found.the-variants.{At, Nothing}
 use Rattle.answers.proofs.answers.Laws.{failed, passed, then-refused, then-passed, refused-if, passed-if, refused-says, accepted-says}
 use Rattle.answers.proofs.searches.Laws.{first-stop, first-next, first-end, first-inside}
@@ -45,8 +45,7 @@ use Rattle.floors.specs.declared.search.Searched.the-variants.{Found, Re
 use Rattle.floors.specs.Trials.{testCount, failsFrom}
 use Rattle.floors.proofs.Promises.{search-promises}
 use Rattle.floors.proofs.search.Laws.{ranged, high-within, after-few, after-within, input-passed, range-passed, searchable, refused-before}
-use Rattle.floors.proofs.trials.Laws.{ring-passed, ring-failed}
-use Rattle.floors.proofs.trials.Steps.{tests-few}
+use Rattle.floors.proofs.trials.Laws.{tests-few, ring-passed, ring-failed}
 
 -- ---- hi less lo
 
@@ -196,7 +195,7 @@ module _ (c s : List ℕ) (lo hi : ℤ) (given : Searchable c s lo hi) where
               };
             })
 
-        module _ (n last : ℕ) (en : n ≡ testCount c s) (ll : last < n) (f : Searches.Found)
+        module _ (n last : ℕ) (en : n ≡ testCount c s) (ll : last < n) (f : Index.Found)
             (ef : f ≡ first (failsFrom (targetOf c a) c s last) n) where
           from-inside : last < testCount c s
           from-inside = rw en at ll
@@ -245,7 +244,7 @@ module _ (c s : List ℕ) (lo hi : ℤ) (out : List ℕ) (v : Verdict) (lo′ hi
     search-proof = proof-eight c s _ (searchable c s lo hi (length out) ready .sheets)
 
     -- f is what the walk found
-    module _ (f : Searches.Found) (ef : f ≡ first (passesAfter c s hi′) (floorCount lo′ hi′)) where
+    module _ (f : Index.Found) (ef : f ≡ first (passesAfter c s hi′) (floorCount lo′ hi′)) where
       before : refusedBefore c s lo hi (length out) ≡ f
       before = refused-before c s lo hi (length out) ready ∙ sym (ef ∙ rw (el, eh))
 
@@ -313,7 +312,8 @@ module _ (c s : List ℕ) (lo hi : ℤ) (out : List ℕ) (bc : Bytes c) (bs : By
       → o ≡ searchOutput c s lo hi out → Promised r o
   promised r o e eo =
       let promises =
-      search-promises c s lo hi out _ _ (λ b tried k. (λ q. sym e ∙ q, λ q. e ∙ q)) (λ q. sym e ∙ q) bc bs o eo in
+      search-promises c s lo hi out _ _ (λ b tried k. (λ q. sym e ∙ q, λ q. e ∙ q)) (λ q. sym e ∙ q, λ q. e ∙ q) bc bs
+      o eo in
       (e, (eo, promises))
 
   pub unwritten : (x : Sheet) → tells (Refused x) ≡ searchOf c s lo hi (length out) → Promised (Refused x) out

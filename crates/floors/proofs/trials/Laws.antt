@@ -15,7 +15,8 @@ use Rattle.answers.proofs.answers.Laws.{passes-or-fails, accepted-passes}
 use Rattle.answers.proofs.searches.Laws.{none-wrong, first-inside}
 use Rattle.points.specs.Points.{Exponents}
 use Rattle.sheets.specs.Layout.{rowCount}
-use Rattle.sharing.specs.Shifts.{shiftedRow}
+use Rattle.targets.specs.declared.targets.Aim.{Aim}
+use Rattle.sharing.specs.Shifts.{shiftedRow, CheckedSheets}
 use Rattle.judgements.specs.Judgements.{judgedAs}
 use Rattle.weighing.specs.Unheld.{unheld}
 use Rattle.weighing.specs.Weighed.{weighedAnswer}
@@ -24,38 +25,35 @@ use Rattle.floors.specs.Trials.{pointCount, testCount, fails, turned, fa
 
 -- ---- the ring
 
-module _ (n from : ℕ) where
-  pub turned-on : (i : ℕ) → from + i < n → turned n from i ≡ from + i
+module _ (n from : ℕ) (inside : from < n) where
+  turned-inside : (i : ℕ) → i < n → turned n from i < n
   unfolding turned
-  turned-on i l = rw (lt-ltb (from + i) n l)
+  turned-inside i l = go (decLt (from + i) n)
+    where
+      go : Dec (from + i < n) → turned n from i < n
+      go (yes m) = rw (lt-ltb (from + i) n m) m
+      go (no m) = rw (le-ltb (from + i) n (omega arith)) (omega arith)
 
-  pub turned-round : (i : ℕ) → n ≤ from + i → turned n from i ≡ from + i - n
+  -- every test is met
+  turned-all : (P : ℕ → Type 0) → ((i : ℕ) → i < n → P (turned n from i)) → (j : ℕ) → j < n → P j
   unfolding turned
-  turned-round i l = rw (le-ltb (from + i) n l)
-
-  module _ (inside : from < n) where
-    turned-inside : (i : ℕ) → i < n → turned n from i < n
-    turned-inside i l = go (decLt (from + i) n)
-      where
-        go : Dec (from + i < n) → turned n from i < n
-        go (yes m) = rw (turned-on i m) m
-        go (no m) = rw (turned-round i (omega arith)) (omega arith)
-
-    -- every test is met
-    turned-all : (P : ℕ → Type 0) → ((i : ℕ) → i < n → P (turned n from i)) → (j : ℕ) → j < n → P j
-    turned-all P h j l = go (decLt j from)
-      where
-        go : Dec (j < from) → P j
-        go (no m) =
-            let i : ℕ = j - from in
-            let e : from + i ≡ j = omega arith in
-            rw (turned-on i (omega arith), e) at (h i (omega arith))
-        go (yes m) =
-            let i : ℕ = j + n - from in
-            let e : from + i - n ≡ j = omega arith in
-            rw (turned-round i (omega arith), e) at (h i (omega arith))
+  turned-all P h j l = go (decLt j from)
+    where
+      go : Dec (j < from) → P j
+      go (no m) =
+          let i : ℕ = j - from in
+          let e : from + i ≡ j = omega arith in
+          rw (lt-ltb (from + i) n (omega arith), e) at (h i (omega arith))
+      go (yes m) =
+          let i : ℕ = j + n - from in
+          let e : from + i - n ≡ j = omega arith in
+          rw (le-ltb (from + i) n (omega arith), e) at (h i (omega arith))
 
 -- ---- the tests
+
+pub tests-few : (c s : List ℕ) (n : ℕ) → n ≡ testCount c s → (a : Aim) → CheckedSheets c s a → n ≤ 65536
+unfolding testCount
+tests-few c s n e a given = omega (arith, e, given .claim .room .terms, given .proof .header .room .rows)
 
 module _ (τ : Exponents → ℤ) (c s : List ℕ) where
   pub fails-point : (i : ℕ) → i < pointCount c → fails τ c s i ≡ unheld τ c s i

@@ -6,17 +6,17 @@ use Prim.Native.Nat.{ℕ, _+_, _-_, _<_, _≤_}
 use native.Mathlib.Omega.{arith}
 use lib.Dec.{eqb}
 use lib.IntN.{ℤ}
+use borrow.Author.Tests.{lt-ltb, le-ltb}
 use Rattle.bounds.specs.Bounds.{greatestWeight}
 use Rattle.points.specs.Points.{Exponents}
 use Rattle.sheets.specs.Layout.{termCount, rowCount}
-use Rattle.targets.specs.declared.targets.Aim.{Aim}
-use Rattle.sharing.specs.Shifts.{shiftedRow, CheckedSheets}
+use Rattle.sharing.specs.Shifts.{shiftedRow}
 use Rattle.judgements.specs.Judgements.{judgementOf, numberOf}
 use Rattle.judgements.specs.declared.judgements.Judgement.{Judgement}
 use Rattle.judgements.proofs.judgements.Laws.{holds-judged-as}
 use Rattle.weighing.specs.Unheld.{unheld}
 use Rattle.floors.specs.Trials.{pointCount, testCount, fails, turned, failsFrom}
-use Rattle.floors.proofs.trials.Laws.{turned-on, turned-round, fails-point, fails-row}
+use Rattle.floors.proofs.trials.Laws.{fails-point, fails-row}
 
 -- ---- test_count and fails: t and k are what the sheets say
 
@@ -46,18 +46,16 @@ module _ (c s : List ℕ) (t : ℕ) (et : t ≡ termCount c) where
 
 module _ (n from i : ℕ) where
   pub turn-on : from + i < n → from + i ≡ turned n from i
-  turn-on l = sym (turned-on n from i l)
+  unfolding turned
+  turn-on l = rw (lt-ltb (from + i) n l)
 
   pub turn-round : n ≤ from + i → from + i - n ≡ turned n from i
-  turn-round l = sym (turned-round n from i l)
+  unfolding turned
+  turn-round l = rw (le-ltb (from + i) n l)
 
 -- ---- first_failing: n is the number of tests, j the test that is met
 
 module _ (c s : List ℕ) (n : ℕ) (en : n ≡ testCount c s) where
-  pub tests-few : (a : Aim) → CheckedSheets c s a → n ≤ 65536
-  unfolding testCount
-  tests-few a given = omega (arith, en, given .claim .room .terms, given .proof .header .room .rows)
-
   module _ (τ : Exponents → ℤ) (from i j : ℕ) (ej : j ≡ turned n from i) where
     pub test-met : (r : Bool) → r ≡ fails τ c s j → r ≡ failsFrom τ c s from i
     unfolding failsFrom

@@ -20,7 +20,6 @@ use Rattle.answers.specs.declared.searches.Found.{Found}
 use Rattle.answers.specs.declared.searches.Found.the-variants.{At, Nothing}
 use Rattle.answers.proofs.answers.Laws.{refused-at, passed-at, accepted-says, refused-says}
 use Rattle.answers.proofs.searches.Laws.{kept-past}
-use Rattle.squares.specs.Rows as Formal
 use Rattle.squares.specs.declared.rows.Weights.{Weights}
 use Rattle.squares.specs.declared.rows.Weights.the-variants.{Pair, Lone}
 use Rattle.rows.specs.ProofSheet.{tripleFor}

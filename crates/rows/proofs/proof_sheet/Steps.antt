@@ -12,7 +12,6 @@ use Rattle.bounds.specs.Bounds.{mostVariables, mostRows}
 use Rattle.points.specs.Points.{exponents, pointOf, samePoint}
 use Rattle.points.specs.declared.points.Point.{Point}
 use Rattle.points.proofs.points.Laws.{exponents-of}
-use Rattle.squares.specs.Rows as Formal
 use Rattle.squares.specs.declared.rows.Weights.{Weights}
 use Rattle.squares.specs.declared.rows.Weights.the-variants.{Pair, Lone}
 use Rattle.sheets.specs.Layout.{variables, rowCount, shapeOf, place, vAt, tripleAt, ProofRoom}

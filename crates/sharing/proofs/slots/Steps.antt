@@ -31,10 +31,10 @@ use Rattle.checks.specs.ProofChecks.{Within, ProofFacts}
 use Rattle.targets.specs.Carried.{Carried, CarriedKey}
 use Rattle.targets.proofs.Carried.{carried-same, carried-low}
 use Rattle.sharing.specs.Sharing.{count}
-use Rattle.sharing.specs.Slots.{Small, HoldsKey, slotsTo, holdsPoint, added, tallyFrom, tallyOf, holdingOf}
+use Rattle.sharing.specs.Slots.{CountsKey, Small, HoldsKey, slotsTo, holdsPoint, added, tallyFrom, tallyOf, holdingOf}
 use Rattle.sharing.specs.declared.slots.Tally.{Tally}
 use Rattle.sharing.proofs.Sharing.{count-cons, count-nil}
-use Rattle.sharing.proofs.slots.Laws.{added-bound, lone-slots, middle-carried, no-slots, pair-slots, tally-cons, tally-nil, tally-small, v-carried, w-carried}
+use Rattle.sharing.proofs.slots.Laws.{added-bound, key-bound, lone-slots, middle-carried, no-slots, pair-slots, tally-cons, tally-nil, tally-small, tallied, v-carried, w-carried}
 
 -- ---- tallies
 
@@ -259,9 +259,12 @@ pub scan-start : (s : List ℕ) (sh : Shape) (key : ℕ) → record { sum = pos 
 unfolding tallyOf
 scan-start s sh key = rw (no-slots s sh, tally-nil)
 
-pub all-counted : (s : List ℕ) (sh : Shape) (key : ℕ) (all : Tally) → all ≡ tallyOf key (slotsTo s sh (sh .k))
-    → all .count ≡ tallyOf key (slotsTo s sh (sh .k)) .count
-all-counted s sh key all e = rw e
+module _ (s : List ℕ) (sh : Shape) (f : ProofFacts s sh) (key : ℕ) where
+  pub carried-bound : CarriedKey (sh .n) key → key < 2 ^ 63
+  carried-bound k = key-bound s sh f key (k .point) (k .carried) (k .keyed)
+
+  pub all-counted : (all : Tally) → all ≡ tallyOf key (slotsTo s sh (sh .k)) → CountsKey s sh key (all .count)
+  all-counted all e = record { counts = λ α carried ek. rw e (tallied s sh f key α carried ek (sh .k) (omega arith)) }
 
 module _ (s : List ℕ) (sh : Shape) (f : ProofFacts s sh) (key : ℕ) where
   module _ (i own : ℕ) (before all : Tally) (eb : before ≡ tallyOf key (slotsTo s sh i)) (l : i < sh .k) where

@@ -6,7 +6,6 @@ use native.Mathlib.Omega.{arith}
 use lib.ListN.{length, take, drop, length-append}
 use lib.Seq.{take-length}
 use Rattle.bounds.specs.Bounds.{greatestWeight}
-use Rattle.squares.specs.Rows as Formal
 use Rattle.squares.specs.declared.rows.Weights.{Weights}
 use Rattle.sheets.specs.Layout.{rowCount, shapeOf, ProofRoom}
 use Rattle.sheets.specs.declared.layout.Shape.{Shape}

@@ -2,7 +2,7 @@
 use mathlib.Core.Path.{_≡_, refl, sym, _∙_}
 use mathlib.Core.Bool.{Bool, true, false, cond}
 use mathlib.Core.List.{List}
-use Prim.Native.Nat.{ℕ, suc, _+_, _^_, _≤_, _<_}
+use Prim.Native.Nat.{ℕ, suc, _+_, _≤_, _<_}
 use native.Mathlib.Omega.{arith}
 use lib.Dec.{eqb, ltb}
 use lib.IntN.{ℤ, natAbs}
@@ -28,9 +28,9 @@ use Rattle.targets.specs.Targets.{targetOf, Targeted}
 use Rattle.targets.specs.declared.targets.Aim.{Aim}
 use Rattle.targets.proofs.Carried.{term-carried, constant-carried}
 use Rattle.sharing.specs.Sharing.{count}
-use Rattle.sharing.specs.Slots.{slotsTo, tallyOf, HoldsKey, holdsPoint}
+use Rattle.sharing.specs.Slots.{slotsTo, HoldsKey, CountsKey, holdsPoint}
 use Rattle.sharing.specs.Shifts.{CheckedSheets}
-use Rattle.sharing.proofs.slots.Laws.{point-held, point-unheld, all-slots, key-bound, tallied}
+use Rattle.sharing.proofs.slots.Laws.{point-held, point-unheld, all-slots}
 use Rattle.sharing.proofs.shifts.Laws.{proof-checked, targeted}
 use Rattle.weighing.specs.Unheld.{pointFor, unheldAt, unheld}
 use Rattle.weighing.proofs.unheld.Laws.{held-met, zero-met}
@@ -107,6 +107,9 @@ module _ (c s : List ℕ) (a : Aim) (given : CheckedSheets c s a) (n t : ℕ) (s
     slots-here : slotsTo s sh (sh .k) ≡ slots (rowsOf s)
     slots-here = all-slots s sh es
 
+    pub key-carried : (key : ℕ) → key ≡ keyOf α → CarriedKey (sh .n) key
+    key-carried key e = record { point = α; carried = carried-too; keyed = e }
+
     module _ (p : Point) (ep : p ≡ pointOf α) where
       point-is : exponents p ≡ α
       point-is = rw ep (exponents-of α)
@@ -124,11 +127,8 @@ module _ (c s : List ℕ) (a : Aim) (given : CheckedSheets c s a) (n t : ℕ) (s
         pub targeted-here : Targeted c a (exponents p) key
         targeted-here = targeted c s a given sh es (exponents p) point-here key e
 
-        pub key-low : key < 2 ^ 63
-        key-low = key-bound s sh proof-here key α carried-too key-here
-
-    pub key-carried : (key : ℕ) → key ≡ keyOf α → CarriedKey (sh .n) key
-    key-carried key e = record { point = α; carried = carried-too; keyed = e }
+        pub looked-carried : CarriedKey (sh .n) key
+        looked-carried = key-carried key key-here
 
     abbrev wrong : ℕ → Bool
     wrong = unheld (targetOf c a) c s
@@ -151,10 +151,9 @@ module _ (c s : List ℕ) (a : Aim) (given : CheckedSheets c s a) (n t : ℕ) (s
       target-some h = target-tested ∙ h
 
       -- m is the number of slots with the point's key
-      module _ (key m : ℕ) (e : key ≡ keyOf (exponents p)) (em : m ≡ tallyOf key (slotsTo s sh (sh .k)) .count) where
+      module _ (key m : ℕ) (e : key ≡ keyOf (exponents p)) (em : CountsKey s sh key m) where
         counted : m ≡ count α (slots (rowsOf s))
-        counted = em ∙ tallied s sh proof-here key α carried-too (key-here p ep key e) (sh .k) (omega arith)
-            ∙ rw slots-here
+        counted = em .counts α carried-too (key-here p ep key e) ∙ rw slots-here
 
         pub unheld-counted : r ≡ false → eqb m 0 ≡ unheld (targetOf c a) c s i
         unfolding unheldAt

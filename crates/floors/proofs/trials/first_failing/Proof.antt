@@ -6,7 +6,8 @@ use Rattle.answers.specs.declared.searches.Found.the-variants.{Nothing}
 use Rattle.answers.proofs.searches.Laws.{first-start, first-stop, first-next, first-end}
 use Rattle.targets.specs.Targets.{targetOf}
 use Rattle.floors.specs.Trials.{failsFrom}
-use Rattle.floors.proofs.trials.Steps.{tests-few, test-met, test-inside}
+use Rattle.floors.proofs.trials.Laws.{tests-few}
+use Rattle.floors.proofs.trials.Steps.{test-met, test-inside}
 use Rattle.floors.proofs.trials.first_failing.Statement.{statement}
 use Rattle.floors.proofs.trials.first_failing.Tie as tie
 

@@ -1,10 +1,10 @@
 use borrow.Author.Needs.{needs}
-use Rattle.sharing.proofs.slots.Steps.{scan-start, all-counted}
+use Rattle.sharing.proofs.slots.Steps.{scan-start, carried-bound, all-counted}
 use Rattle.sharing.proofs.slots.slots_with.Statement.{statement}
 use Rattle.sharing.proofs.slots.slots_with.Tie as tie
 
 scan-requires : tie.Need-scan-requires
-scan-requires c κs = search (needs, scan-start)
+scan-requires c κs = (search needs, search needs, search needs, search carried-bound, search scan-start)
 
 returns : tie.Need-returns
 returns c = search all-counted

@@ -1,5 +1,5 @@
 use borrow.Author.Needs.{needs}
-use Rattle.weighing.proofs.unheld.Steps.{claim-here, point-inside, targeted-here, point-looked, proof-here, key-low, unheld-zero, unheld-counted}
+use Rattle.weighing.proofs.unheld.Steps.{claim-here, point-inside, targeted-here, point-looked, proof-here, looked-carried, unheld-zero, unheld-counted}
 use Rattle.weighing.proofs.unheld.is_unheld.Statement.{statement}
 use Rattle.weighing.proofs.unheld.is_unheld.Tie as tie
 
@@ -13,7 +13,7 @@ returns : tie.Need-returns
 returns c = search unheld-zero
 
 slots-with-requires : tie.Need-slots-with-requires
-slots-with-requires c κs = (search proof-here, search key-low)
+slots-with-requires c κs = (search proof-here, search looked-carried)
 
 returns-2 : tie.Need-returns-2
 returns-2 c = search unheld-counted
