@@ -117,8 +117,9 @@ uint64_t burmelox_evaluate(const uint8_t *claim, size_t claim_len,
  * answer is the number of rows, the floor is stored, and as `tried` the number of floors tried,
  * hi - floor + 1; the output's first proof_len bytes are the exact proof of this floor and later
  * ones keep their values. The polynomial is then at least that floor at all integers, and a check
- * of any higher floor up to hi is refused. Any other answer is a refusal; the output, the floor and
- * `tried` then stay as they were.
+ * of any higher floor up to hi is refused. The claim is not changed: write the floor into its bytes
+ * 4 to 7 before it is checked with that proof. Any other answer is a refusal; the output, the floor
+ * and `tried` then stay as they were.
  */
 uint64_t burmelox_search(const uint8_t *claim, size_t claim_len,
                          const uint8_t *proof, size_t proof_len,

@@ -1,4 +1,7 @@
-/* The header's macros at the edges, and null pointers with length 0, as C++ and Python hand them over. */
+/*
+ * The header's macros at the edges, null pointers with length 0, as C++ and Python hand them over, and
+ * searches that are refused and store nothing.
+ */
 #include "burmelox.h"
 #include <inttypes.h>
 #include <stdio.h>

@@ -25,7 +25,7 @@ pub const SEARCH_LAYOUTS: [SearchLayout; 3] = [
     ("no row holds", no_row_holds),
 ];
 
-/// The weights proposed for every row of the three layouts below; those with targets are shifted to 1, 1, −2.
+/// The weights proposed for every row of the regular layouts; with targets they become 1, 1, −2.
 const PROPOSED: [i32; 3] = [3, 2, -1];
 
 /// As in practice: of many plans the one with the most terms.

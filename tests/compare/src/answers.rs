@@ -85,7 +85,20 @@ pub fn search(case: &Case, rng: &mut Rng) -> Compared<Found> {
     same("floor", &expected.0, &floor, case)?;
     same("number of floors tried", &expected.1, &tried, case)?;
     output.compare(verdict.ok(), case)?;
+    if let Ok(found) = &found {
+        is_checked(case, &found.accepted)?;
+    }
     Ok(found)
+}
+
+/// The library's check of the claim with the floor that was found writes the same exact proof.
+fn is_checked(case: &Case, accepted: &Accepted) -> Outcome {
+    let mut claim = case.claim.clone();
+    claim[4..8].copy_from_slice(&accepted.floor.to_le_bytes());
+    let mut output = vec![0; case.proof.len()];
+    let answer = library::check(&claim, &case.proof, &mut output);
+    same("check of the floor that was found", &rows(accepted), &answer, case)?;
+    same("output of that check", &Hex(&accepted.bytes), &Hex(&output), case)
 }
 
 /// An exact proof, whose weights add up, is accepted again and written as it is.
