@@ -2,8 +2,8 @@
 //!
 //! Sheets are parsed into structures, targets and slots are kept in maps by point, and every
 //! number that is computed is an [`Integer`]. One module a section: `claim`, `proof`, `check`
-//! (targets, sharing, judging), `evaluate`, `text` (what the program prints), and `search` for note 1
-//! of document 02.
+//! (targets, sharing, judging), `evaluate`, `text` (what the program prints), and `search` for
+//! note 1 of document 02.
 
 mod check;
 mod claim;
