@@ -9,11 +9,10 @@ use lib.Dec.{lit<}
 use lib.IntN.{ℤ, pos, natAbs, _+ℤ_, _-ℤ_}
 use lib.ListN.{length}
 use lib.Signed.{_≤ℤ_, _<ℤ_}
-use Rattle.integers.proofs.Integers.{ring, ints, by-le, by-eq, read-eq, read-le, le-ltZ, abs-nonneg, fits-within}
+use Rattle.integers.proofs.Integers.{ring, ints, by-eq, read-eq, abs-difference, fits-within}
 use Rattle.integers.proofs.Tests.{never}
 use Rattle.integers.proofs.words.Laws.{Bytes}
-use Rattle.bounds.specs.Bounds.{greatestWeight, greatestSpan}
-use Rattle.bounds.proofs.bounds.Laws.{bound-within}
+use Rattle.bounds.specs.Bounds.{greatestWeight}
 use Rattle.answers.specs.Answers.{Answer, accepted, refused, blameless, Passes, Short}
 use Rattle.answers.specs.declared.searches.Found as Index
 use Rattle.answers.specs.declared.searches.Found.the-variants.{At, Nothing}
@@ -23,52 +22,29 @@ use Rattle.squares.specs.Sums.{valueAt}
 use Rattle.sheets.specs.Layout.{rowCount}
 use Rattle.sheets.specs.ClaimSheet.{withFloor, termsOf}
 use Rattle.sheets.proofs.claim_sheet.Laws.{floored-floor, floored-terms}
+use Rattle.checks.specs.Input.{WellFormed}
 use Rattle.checks.proofs.proof_checks.Laws.{rows-counted}
+use Rattle.checks.proofs.input.Laws.{input-formed, input-enough}
 use Rattle.sharing.proofs.shifts.Laws.{claim-eight}
 use Rattle.judging.specs.Check.{checkAnswer, outputOf}
 use Rattle.judging.proofs.Promises.{accepted-rows, floor-kept, check-promises}
-use Rattle.floors.specs.Search.{Told, found, refusal, answerOf, rangeWrong, rangeAnswer, floorCount, floorAfter, accepts, refusedBefore, toldAfter, searchOf, outputBy, searchOutput}
-use Rattle.floors.specs.Promises.{Right, FloorPromises, Some, SearchPromises}
-use Rattle.floors.proofs.search.Laws.{answer-found, answer-refusal, ranged, searchable, range-passed, range-passes, range-short, after-low, after-high, after-within, span-whole}
+use Rattle.floors.specs.Search.{Told, found, refusal, answerOf, rangeAnswer, floorCount, floorAfter, accepts, refusedBefore, toldAfter, searchOf, outputBy, searchOutput}
+use Rattle.floors.specs.Promises.{RightRange, FloorPromises, Some, SearchPromises}
+use Rattle.floors.proofs.search.Laws.{answer-found, answer-refusal, right-range, range-right, searchable, input-passed, range-passed, range-passes, range-short, after-low, after-high, after-within}
 
 -- ---- a floor of the range, by the number of floors above it
 
 module _ (hi b : ℤ) (high : b ≤ℤ hi) where
-  above-is : pos (natAbs (hi -ℤ b)) ≡ hi -ℤ b
-  above-is = abs-nonneg (by-le (simp ring (omega (ints, high))))
-
   above-after : floorAfter hi (natAbs (hi -ℤ b)) ≡ b
   unfolding floorAfter
-  above-after = rw above-is (by-eq (simp ring (omega ints)))
+  above-after = rw (abs-difference high) (by-eq (simp ring (omega ints)))
 
-  above-inside : (lo : ℤ) → rangeWrong lo hi ≡ false → lo ≤ℤ b → natAbs (hi -ℤ b) < floorCount lo hi
+  above-inside : (lo : ℤ) → RightRange lo hi → lo ≤ℤ b → natAbs (hi -ℤ b) < floorCount lo hi
   unfolding floorCount
-  above-inside lo h low =
-      let e = simp ring at (read-eq (span-whole lo hi h)) in
-      let d = simp ring at (read-eq above-is) in
+  above-inside lo r low =
+      let e = simp ring at (read-eq (abs-difference (r .ordered))) in
+      let d = simp ring at (read-eq (abs-difference high)) in
       omega (ints, e, d, low, high)
-
--- ---- 22 in plain numbers
-
-module _ (lo hi : ℤ) where
-  right-range : rangeWrong lo hi ≡ false → Right lo hi
-  right-range h =
-      let r = ranged lo hi h in
-      let e = simp ring at (read-eq (span-whole lo hi h)) in
-      record { ordered = r .0; low = r .1; high = r .2; span = by-le (simp ring (omega (ints, e, r .3))) }
-
-  range-right : Right lo hi → rangeWrong lo hi ≡ false
-  unfolding rangeWrong
-  range-right r =
-      let l = r .ordered in
-      let d = simp ring at (read-eq (above-is hi lo l)) in
-      let u = simp ring at (read-le (r .span)) in
-      rw (
-        le-ltZ l,
-        bound-within greatestWeight lo (r .low),
-        bound-within greatestWeight hi (r .high),
-        bound-within greatestSpan (hi -ℤ lo) (omega (ints, d, u)),
-      )
 
 -- ---- what is told, by what the checks and the walk found
 
@@ -113,8 +89,11 @@ module _ (c s : List ℕ) (lo hi : ℤ) (room : ℕ) where
     w : Walked b tried k
     w = walked b tried k e
 
-    right : rangeWrong lo hi ≡ false
-    right = range-passed c s lo hi room (w .ready)
+    right : RightRange lo hi
+    right = right-range lo hi (range-passed c s lo hi room (w .ready))
+
+    found-formed : WellFormed c s
+    found-formed = input-formed c s room (input-passed c s lo hi room (w .ready))
 
     inside : (w .after < floorCount lo hi) × (accepts c s room (floorAfter hi (w .after)) ≡ true)
     unfolding refusedBefore
@@ -137,7 +116,7 @@ module _ (c s : List ℕ) (lo hi : ℤ) (room : ℕ) where
     found-higher : (a : ℤ) → b <ℤ a → a ≤ℤ hi → accepts c s room a ≡ false
     unfolding refusedBefore floorAfter
     found-higher a over high =
-        let d = simp ring at (read-eq (above-is hi a high)) in
+        let d = simp ring at (read-eq (abs-difference high)) in
         let f = simp ring at (read-eq (w .floor-is)) in
         let l : natAbs (hi -ℤ a) < w .after = omega (ints, d, f, over) in
         rw (above-after hi a high) at (none-wrong _ _ (first-before _ _ _ (w .before)) (natAbs (hi -ℤ a)) l)
@@ -156,7 +135,7 @@ module _ (c s : List ℕ) (lo hi : ℤ) (room : ℕ) where
 
   -- ---- 23, and that a floor is found where there is one
 
-  none-accepted : refusedBefore c s lo hi room ≡ Nothing → rangeWrong lo hi ≡ false → (b : ℤ) → lo ≤ℤ b → b ≤ℤ hi
+  none-accepted : refusedBefore c s lo hi room ≡ Nothing → RightRange lo hi → (b : ℤ) → lo ≤ℤ b → b ≤ℤ hi
       → accepts c s room b ≡ false
   unfolding refusedBefore
   none-accepted e right b low high =
@@ -166,9 +145,9 @@ module _ (c s : List ℕ) (lo hi : ℤ) (room : ℕ) where
   -- a refusal is that of 1 to 15 and 22, or 23
   told-refused : {A : Type 0} (a : Answer) → told ≡ refusal a
       → (blameless (rangeAnswer c s lo hi room) ≡ false → a ≡ rangeAnswer c s lo hi room → A)
-      → (rangeWrong lo hi ≡ false → refusedBefore c s lo hi room ≡ Nothing → a ≡ refused 23 0 → A) → A
+      → (Passes (rangeAnswer c s lo hi room) → refusedBefore c s lo hi room ≡ Nothing → a ≡ refused 23 0 → A) → A
   told-refused a e one other =
-      told-cases (λ h q. one h (cc)) (λ h i f q. never (cc)) (λ h f q. other (range-passed c s lo hi room h) f (cc))
+      told-cases (λ h q. one h (cc)) (λ h i f q. never (cc)) (λ h f q. other h f (cc))
 
   pub told-fails : (a : Answer) → told ≡ refusal a → blameless a ≡ false
   told-fails a e = told-refused a e (λ h q. rw q h) (λ h f q. rw q (refused-blames 23 0 refl))
@@ -186,11 +165,8 @@ module _ (c s : List ℕ) (lo hi : ℤ) (room : ℕ) where
     pub told-none : a ≡ refused 23 0
     told-none = told-refused a e (λ h q. not-before q) (λ h f q. q)
 
-    none-right : rangeWrong lo hi ≡ false
-    none-right = told-refused a e (λ h q. not-before q) (λ h f q. h)
-
-    none-carries : (b : ℤ) → lo ≤ℤ b → b ≤ℤ hi → accepts c s room b ≡ false
-    none-carries = told-refused a e (λ h q. not-before q) (λ h f q. none-accepted f h)
+    none-ready : Passes (rangeAnswer c s lo hi room) × (refusedBefore c s lo hi room ≡ Nothing)
+    none-ready = told-refused a e (λ h q. not-before q) (λ h f q. (h, f))
 
   module _ (h : Passes (rangeAnswer c s lo hi room)) where
     ready-cases : {A : Type 0}
@@ -201,7 +177,9 @@ module _ (c s : List ℕ) (lo hi : ℤ) (room : ℕ) where
     told-some : (b : ℤ) → lo ≤ℤ b → b ≤ℤ hi → accepts c s room b ≡ true → Some (λ b tried k. told ≡ found b tried k)
     told-some b low high a =
         ready-cases (λ i f q. record { floor = _; tried = _; rows = _; finds = q })
-        (λ f q. absurd (true≢false (sym a ∙ none-accepted f (range-passed c s lo hi room h) b low high)))
+        (λ f q.
+        let right = right-range lo hi (range-passed c s lo hi room h) in
+        absurd (true≢false (sym a ∙ none-accepted f right b low high)))
 
     told-unfound : ((b : ℤ) → lo ≤ℤ b → b ≤ℤ hi → accepts c s room b ≡ false) → told ≡ refusal (refused 23 0)
     unfolding accepts
@@ -231,7 +209,8 @@ found-promises : (c s : List ℕ) (lo hi : ℤ) (out : List ℕ) → Bytes s →
     → FloorPromises c s lo hi out b tried k o
 unfolding accepts
 found-promises c s lo hi out bs b tried k e o eo = record {
-  right = right-range lo hi (right c s lo hi (length out) b tried k e);
+  formed = found-formed c s lo hi (length out) b tried k e;
+  right = right c s lo hi (length out) b tried k e;
   within = found-within c s lo hi (length out) b tried k e;
   accepted = found-accepted c s lo hi (length out) b tried k e;
   higher = found-higher c s lo hi (length out) b tried k e;
@@ -271,12 +250,20 @@ module _ (c s : List ℕ) (lo hi : ℤ) (out : List ℕ) (Finds : ℤ → ℕ �
         let ready = range-passes c s lo hi (length out) formed enough (range-right lo hi right) in
         let t = told-some c s lo hi (length out) ready b low high a in
         record { floor = t .floor; tried = t .tried; rows = t .rows; finds = meant _ _ _ .1 (t .finds) };
-    none = λ f. none-carries c s lo hi (length out) bc bs _ (none-meant .0 f) (refused-number 23 0);
-    none-right = λ f.
-        right-range lo hi (none-right c s lo hi (length out) bc bs _ (none-meant .0 f) (refused-number 23 0));
-    says-none = λ formed enough right none.
-        none-meant .1
-        (told-unfound c s lo hi (length out)
-        (range-passes c s lo hi (length out) formed enough (range-right lo hi right)) none);
+    none = (
+      λ f.
+          let r = none-ready c s lo hi (length out) bc bs _ (none-meant .0 f) (refused-number 23 0) in
+          let input = input-passed c s lo hi (length out) (r .0) in
+          let right = right-range lo hi (range-passed c s lo hi (length out) (r .0)) in (
+            input-formed c s (length out) input,
+            input-enough c s (length out) input,
+            right,
+            none-accepted c s lo hi (length out) (r .1) right,
+          ),
+      λ p.
+          none-meant .1
+          (told-unfound c s lo hi (length out)
+          (range-passes c s lo hi (length out) (p .0) (p .1) (range-right lo hi (p .2))) (p .3)),
+    );
     leaves = unfound-output;
   }

@@ -3,6 +3,7 @@
 use mathlib.Core.Path.{_≡_}
 use mathlib.Core.Bool.{false}
 use mathlib.Core.List.{List}
+use mathlib.Core.Logic.{_↔_}
 use Prim.Native.Nat.{ℕ, _≤_}
 use lib.IntN.{ℤ, pos, natAbs, _+ℤ_, _-ℤ_}
 use lib.ListN.{length}
@@ -17,16 +18,18 @@ use Rattle.judging.specs.Check.{checkAnswer, outputOf}
 use Rattle.judging.specs.Promises.{CheckPromises}
 
 -- a range that 22 lets pass, in plain numbers
-pub record Right (lo hi : ℤ) : Type 0 where
+pub record RightRange (lo hi : ℤ) : Type 0 where
   pub ordered : lo ≤ℤ hi
   pub low : natAbs lo ≤ greatestWeight
   pub high : natAbs hi ≤ greatestWeight
-  pub span : (hi -ℤ lo) ≤ℤ (pos greatestSpan)
+  pub span : (hi -ℤ lo) ≤ℤ pos greatestSpan
 
 -- what is promised of a floor b that is found after so many were tried, with k rows; o is the output afterwards
 pub record FloorPromises (c s : List ℕ) (lo hi : ℤ) (out : List ℕ) (b : ℤ) (tried k : ℕ) (o : List ℕ) : Type 0 where
+  -- "The claim's own b must be valid"; "1 to 15 apply once"; and so does 22
+  pub formed : WellFormed c s
+  pub right : RightRange lo hi
   -- "the greatest floor whose check is accepted": a floor of the range, accepted with k
-  pub right : Right lo hi
   pub within : (lo ≤ℤ b) × (b ≤ℤ hi)
   pub accepted : checkAnswer (withFloor c b) s (length out) ≡ Answers.accepted k
   -- "Every higher floor up to hi is refused by the check"
@@ -53,13 +56,10 @@ pub record SearchPromises (c s : List ℕ) (lo hi : ℤ) (out : List ℕ) (Finds
     (o : List ℕ) : Type 0 where
   pub found : (b : ℤ) (tried k : ℕ) → Finds b tried k → FloorPromises c s lo hi out b tried k o
   -- where some floor of a right range is accepted, one is found
-  pub finds : WellFormed c s → length s ≤ length out → Right lo hi
+  pub finds : WellFormed c s → length s ≤ length out → RightRange lo hi
       → (b : ℤ) → lo ≤ℤ b → b ≤ℤ hi → Passes (checkAnswer (withFloor c b) s (length out)) → Some Finds
-  -- 23, "no floor accepted": every floor of the range is refused by the check
-  pub none : FindsNone → (b : ℤ) → lo ≤ℤ b → b ≤ℤ hi → blameless (checkAnswer (withFloor c b) s (length out)) ≡ false
-  -- which is said exactly where that is so of a right range
-  pub none-right : FindsNone → Right lo hi
-  pub says-none : WellFormed c s → length s ≤ length out → Right lo hi
-      → ((b : ℤ) → lo ≤ℤ b → b ≤ℤ hi → blameless (checkAnswer (withFloor c b) s (length out)) ≡ false) → FindsNone
+  -- 23, "no floor accepted": exactly where the check refuses every floor of a right range
+  pub none : FindsNone ↔ (WellFormed c s × (length s ≤ length out) × RightRange lo hi
+      × ((b : ℤ) → lo ≤ℤ b → b ≤ℤ hi → blameless (checkAnswer (withFloor c b) s (length out)) ≡ false))
   -- "both write nothing", and so does every other refusal
   pub leaves : (Some Finds → ⊥) → o ≡ out

@@ -45,7 +45,7 @@ answerOf (refusal answer) = answer
 -- 22: "lo over hi, either beyond ±2^30, or hi − lo over 4,095"
 unfoldable pub rangeWrong : ℤ → ℤ → Bool
 rangeWrong lo hi =
-    ltZ hi lo || beyond greatestWeight lo || beyond greatestWeight hi || beyond greatestSpan (hi -ℤ lo)
+    ltZ hi lo || beyond greatestWeight lo || beyond greatestWeight hi || ltZ (pos greatestSpan) (hi -ℤ lo)
 
 -- "1 to 15 apply once"; "22 after 15"; the room is the output's length
 unfoldable pub rangeAnswer : List ℕ → List ℕ → ℤ → ℤ → ℕ → Answer

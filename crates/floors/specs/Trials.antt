@@ -1,5 +1,5 @@
--- The trial of one floor: the tests of 16 to 19 in a ring, begun at any of them. `ring-passed` and
--- `ring-failed` of proofs/trials/Laws.antt show that none fails exactly where 16 to 19 are passed.
+-- The trial of one floor: the tests of 16 to 19 in cyclic order, begun at any of them. `cycle-passed` and
+-- `cycle-failed` of proofs/trials/Laws.antt show that none fails exactly where 16 to 19 are passed.
 use mathlib.Core.Bool.{Bool, cond, not}
 use mathlib.Core.List.{List}
 use Prim.Native.Nat.{ℕ, suc, _+_, _-_}
@@ -26,8 +26,8 @@ fails τ c s i =
     (not (judgedAs 0 greatestWeight (shiftedRow τ s) (i - pointCount c)))
 
 -- the i-th of n tests from one on; after the last comes the first
-unfoldable pub turned : ℕ → ℕ → ℕ → ℕ
-turned n from i = cond (ltb (from + i) n) (from + i) (from + i - n)
+unfoldable pub rotated : ℕ → ℕ → ℕ → ℕ
+rotated n from i = cond (ltb (from + i) n) (from + i) (from + i - n)
 
 unfoldable pub failsFrom : (Exponents → ℤ) → List ℕ → List ℕ → ℕ → ℕ → Bool
-failsFrom τ c s from i = fails τ c s (turned (testCount c s) from i)
+failsFrom τ c s from i = fails τ c s (rotated (testCount c s) from i)

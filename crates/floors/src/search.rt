@@ -1,7 +1,7 @@
 // The search for the highest floor that a proof carries, from hi down to lo.
 use crate::trials::first_failing;
+use crate::trials::rotate;
 use crate::trials::test_count;
-use crate::trials::turn;
 use answers::answers::Sheet;
 use answers::answers::Verdict;
 use answers::searches::Found;
@@ -94,7 +94,7 @@ fn walk(claim: &[u8], proof: &[u8], lo: i64, hi: i64) -> Found
         let Found::At(j) = first_failing(claim, proof, aim_after(proof, hi, i), tests, last) else {
             return Found::At(i);
         };
-        last = turn(tests, last, j);
+        last = rotate(tests, last, j);
         i += 1;
     }
     Found::Nothing

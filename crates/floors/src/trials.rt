@@ -1,4 +1,4 @@
-// The trial of one floor: the tests of 16 to 19 in a ring, begun at any of them.
+// The trial of one floor: the tests of 16 to 19 in cyclic order, begun at any of them.
 use answers::searches::Found;
 use judgements::judgements::holds;
 use rows::proof_sheet::row_count;
@@ -12,7 +12,7 @@ ghost use lib.ListN.{length};
 ghost use Rattle.answers.specs.Searches.{first};
 ghost use Rattle.targets.specs.Targets.{targetOf};
 ghost use Rattle.sharing.specs.Shifts.{CheckedSheets};
-ghost use Rattle.floors.specs.Trials.{testCount, fails, turned, failsFrom};
+ghost use Rattle.floors.specs.Trials.{testCount, fails, rotated, failsFrom};
 
 // How many tests there are: one for each point of check 16, and one for each row.
 pub(crate) fn test_count(claim: &[u8], proof: &[u8]) -> usize
@@ -35,9 +35,9 @@ fn fails(claim: &[u8], proof: &[u8], aim: Aim, i: usize) -> bool
 }
 
 // The i-th test from one on; after the last comes the first.
-pub(crate) fn turn(tests: usize, from: usize, i: usize) -> usize
+pub(crate) fn rotate(tests: usize, from: usize, i: usize) -> usize
     requires { ⌜ (tests ≤ 65536) × (from < tests) × (i < tests) ⌝ }
-    ensures { λ r. ⌜ (r ≡ turned tests from i) × (r < tests) ⌝ }
+    ensures { λ r. ⌜ (r ≡ rotated tests from i) × (r < tests) ⌝ }
 {
     let at = from + i;
     if at < tests {
@@ -61,7 +61,7 @@ pub(crate) fn first_failing(
 {
     let mut i = 0;
     while i < tests {
-        if fails(claim, proof, aim, turn(tests, from, i)) {
+        if fails(claim, proof, aim, rotate(tests, from, i)) {
             return Found::At(i);
         }
         i += 1;

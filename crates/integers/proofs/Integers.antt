@@ -386,6 +386,13 @@ pub abs-nonneg : {x : ℤ} → pos 0 ≤ℤ x → pos (natAbs x) ≡ x
 abs-nonneg {x = pos n} h = refl
 abs-nonneg {x = negsuc n} h = absurd (h .le)
 
+-- a difference that is not negative
+pub difference-nonneg : {x y : ℤ} → y ≤ℤ x → pos 0 ≤ℤ (x -ℤ y)
+difference-nonneg l = by-le (simp ring (omega (ints, l)))
+
+pub abs-difference : {x y : ℤ} → y ≤ℤ x → pos (natAbs (x -ℤ y)) ≡ x -ℤ y
+abs-difference l = abs-nonneg (difference-nonneg l)
+
 pub neg-abs-≤ℤ : (x : ℤ) → negℤ (pos (natAbs x)) ≤ℤ x
 neg-abs-≤ℤ x = by-le (simp ring (omega (ints, sizes x)))
 

@@ -45,8 +45,11 @@ module _ (wrong : ℕ → Bool) where
   unfolding kept
   first-stays n i h = rw (first-more, h)
 
+  first-later : (m n i : ℕ) → m ≤ n → first wrong m ≡ At i → first wrong n ≡ At i
+  first-later m n i l h = le-ind (λ m. first wrong m ≡ At i) h (λ m _. first-stays m i) n l
+
   first-found : (n i : ℕ) → i < n → first wrong i ≡ Nothing → wrong i ≡ true → first wrong n ≡ At i
-  first-found n i l h k = le-ind (λ m. first wrong m ≡ At i) (first-here i h k) (λ m _. first-stays m i) n l
+  first-found n i l h k = first-later (suc i) n i l (first-here i h k)
 
   -- the loop `while i < n { if wrong(i) { return At(i); } i += 1; } Nothing`, where r is what wrong(i) answered
   pub first-stop : (n i : ℕ) (r : Bool) → i < n → first wrong i ≡ Nothing → r ≡ wrong i → r ≡ true
@@ -119,6 +122,6 @@ first-before wrong n i h = go (first wrong i) refl
     go (At j) e =
         let i-below : i < n = first-inside wrong n i h .0 in
         let j-below : j < i = first-inside wrong i j e .0 in
-        let stays = le-ind (λ m. first wrong m ≡ At j) e (λ m _. first-stays wrong m j) n (omega arith) in
+        let later = first-later wrong i n j (omega arith) e in
         let q : j ≡ i = cc in
         absurd (omega arith)

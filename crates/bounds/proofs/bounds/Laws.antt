@@ -3,7 +3,8 @@ use mathlib.Core.Path.{_≡_, refl}
 use mathlib.Core.Bool.{Bool, true, false, not}
 use Prim.Native.Nat.{ℕ, _<_, _≤_}
 use lib.Dec.{ltb, leb}
-use lib.IntN.{ℤ, natAbs}
+use lib.IntN.{ℤ, pos, negsuc, natAbs}
+use lib.Signed.{ltZ, _≤ℤ_}
 use borrow.Author.Tests.{ltb-false, le-ltb, lt-ltb, leb-true, leb-false}
 use Rattle.bounds.specs.Bounds.{beyond}
 
@@ -18,6 +19,12 @@ within-bound limit x h = ltb-false limit (natAbs x) h
 pub bound-within : (limit : ℕ) (x : ℤ) → natAbs x ≤ limit → beyond limit x ≡ false
 unfolding beyond
 bound-within limit x h = le-ltb limit (natAbs x) h
+
+-- of a number that is not negative
+pub over-nonneg : (limit : ℕ) (x : ℤ) → pos 0 ≤ℤ x → beyond limit x ≡ ltZ (pos limit) x
+unfolding beyond
+over-nonneg limit (pos n) h = refl
+over-nonneg limit (negsuc n) h = absurd (h .le)
 
 -- over a limit is not within it
 pub over : (limit m : ℕ) → ltb limit m ≡ not (leb m limit)

@@ -7,11 +7,11 @@ use native.Mathlib.Omega.{arith}
 use lib.IntN.{ℤ, pos, natAbs, _-ℤ_}
 use lib.ListN.{length}
 use lib.Signed.{_≤ℤ_}
-use Rattle.integers.proofs.Integers.{ring, ints, by-le, read-eq, ltZ-false, abs-nonneg, abs-between}
+use Rattle.integers.proofs.Integers.{ring, ints, by-le, read-eq, ltZ-false, le-ltZ, abs-difference, abs-between}
 use Rattle.integers.proofs.Tests.{nor}
 use Rattle.integers.proofs.words.Laws.{Bytes}
 use Rattle.bounds.specs.Bounds.{greatestWeight, greatestSpan}
-use Rattle.bounds.proofs.bounds.Laws.{within-bound}
+use Rattle.bounds.proofs.bounds.Laws.{within-bound, bound-within}
 use Rattle.answers.specs.Answers.{Answer, accepted, says, blameless, Passes, Short}
 use Rattle.answers.specs.Searches.{first}
 use Rattle.answers.specs.declared.answers.Sheet.{Sheet}
@@ -23,6 +23,7 @@ use Rattle.checks.proofs.input.Laws.{input-formed, input-passes, input-short}
 use Rattle.sharing.proofs.shifts.Laws.{sheets-checked}
 use Rattle.judging.proofs.check.Laws.{floored-answer}
 use Rattle.floors.specs.Search.{Told, found, refusal, tells, answerOf, rangeWrong, rangeAnswer, floorCount, floorAfter, accepts, refusedBefore, aimAfter, passesAfter, Searchable}
+use Rattle.floors.specs.Promises.{RightRange}
 use Rattle.floors.specs.declared.search.Searched.{Searched}
 use Rattle.floors.specs.declared.search.Searched.the-variants.{Found, Refused}
 
@@ -48,43 +49,53 @@ module _ (t : Told) where
 
 -- ---- a right range
 
-module _ (lo hi : ℤ) (h : rangeWrong lo hi ≡ false) where
-  pub ranged : (lo ≤ℤ hi) × (natAbs lo ≤ greatestWeight) × (natAbs hi ≤ greatestWeight)
-      × (natAbs (hi -ℤ lo) ≤ greatestSpan)
+module _ (lo hi : ℤ) where
+  pub right-range : rangeWrong lo hi ≡ false → RightRange lo hi
   unfolding rangeWrong
-  ranged =
+  right-range h =
       let d = nor _ _ h in
       let b = nor _ _ (d .0) in
-      let a = nor _ _ (b .0) in (
-        ltZ-false hi lo (a .0),
-        within-bound greatestWeight lo (a .1),
-        within-bound greatestWeight hi (b .1),
-        within-bound greatestSpan (hi -ℤ lo) (d .1),
-      )
+      let a = nor _ _ (b .0) in
+      record {
+        ordered = ltZ-false hi lo (a .0);
+        low = within-bound greatestWeight lo (a .1);
+        high = within-bound greatestWeight hi (b .1);
+        span = ltZ-false (pos greatestSpan) (hi -ℤ lo) (d .1);
+      }
 
-  pub high-within : natAbs hi ≤ greatestWeight
-  high-within = ranged .2
+  pub range-right : RightRange lo hi → rangeWrong lo hi ≡ false
+  unfolding rangeWrong
+  range-right r = rw (
+    le-ltZ (r .ordered),
+    bound-within greatestWeight lo (r .low),
+    bound-within greatestWeight hi (r .high),
+    le-ltZ (r .span),
+  )
 
-  -- the last floor is lo
-  pub span-whole : pos (natAbs (hi -ℤ lo)) ≡ hi -ℤ lo
-  span-whole = let l = ranged .0 in abs-nonneg (by-le (simp ring (omega (ints, l))))
+module _ (lo hi : ℤ) (r : RightRange lo hi) where
+  pub span-few : natAbs (hi -ℤ lo) ≤ greatestSpan
+  span-few =
+      let e = abs-difference (r .ordered) in
+      let s : pos (natAbs (hi -ℤ lo)) ≤ℤ pos greatestSpan = rw e (r .span) in
+      omega (ints, s)
 
   -- the floor after i others
   module _ (i : ℕ) (l : i < floorCount lo hi) where
     pub after-few : i ≤ greatestSpan
     unfolding floorCount
-    after-few = omega (arith, l, ranged .3)
+    after-few = omega (arith, l, span-few)
 
     pub after-low : lo ≤ℤ floorAfter hi i
     unfolding floorAfter floorCount
-    after-low = let e = simp ring at (read-eq span-whole) in by-le (simp ring (omega (ints, e, l)))
+    after-low =
+        let e = simp ring at (read-eq (abs-difference (r .ordered))) in by-le (simp ring (omega (ints, e, l)))
 
     pub after-high : floorAfter hi i ≤ℤ hi
     unfolding floorAfter
     after-high = by-le (simp ring (omega ints))
 
     pub after-within : natAbs (floorAfter hi i) ≤ greatestWeight
-    after-within = abs-between greatestWeight after-low after-high (ranged .1) high-within
+    after-within = abs-between greatestWeight after-low after-high (r .low) (r .high)
 
 -- ---- sheets and a range that pass 1 to 15 and 22
 
@@ -107,7 +118,9 @@ module _ (c s : List ℕ) (lo hi : ℤ) (room : ℕ) (h : Passes (rangeAnswer c 
   accepts-after : (i : ℕ) → i < floorCount lo hi → accepts c s room (floorAfter hi i) ≡ passesAfter c s hi i
   unfolding accepts passesAfter aimAfter
   accepts-after i l =
-      ap blameless (floored-answer c s room input-passed (floorAfter hi i) (after-within lo hi range-passed i l))
+      ap blameless
+      (floored-answer c s room input-passed (floorAfter hi i)
+      (after-within lo hi (right-range lo hi range-passed) i l))
 
   pub refused-before : refusedBefore c s lo hi room ≡ first (passesAfter c s hi) (floorCount lo hi)
   unfolding refusedBefore

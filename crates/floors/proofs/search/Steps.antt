@@ -12,10 +12,10 @@ use lib.Signed.{ltZ}
 use mir.Syntax.{w32, w64}
 use mir.Val.{Fits, SFits, toZ}
 use mir.Facts.{toZ-ofZ, toZ-pos}
-use Rattle.integers.proofs.Integers.{back, abs-sub, fits-within}
+use Rattle.integers.proofs.Integers.{back, ltZ-false, abs-sub, difference-nonneg, fits-within}
 use Rattle.integers.proofs.words.Laws.{Bytes}
 use Rattle.bounds.specs.Bounds.{greatestWeight, greatestSpan, beyond}
-use Rattle.bounds.proofs.bounds.Laws.{within-bound}
+use Rattle.bounds.proofs.bounds.Laws.{within-bound, over-nonneg}
 use Rattle.answers.specs.Answers.{refused, says, Passes}
 use Rattle.answers.specs.Searches.{first}
 use Rattle.answers.specs.declared.answers.Sheet.{Sheet}
@@ -39,13 +39,13 @@ use Rattle.weighing.specs.Weighed.{weighedAnswer}
 use Rattle.weighing.proofs.weighed.Laws.{weighed-within}
 use Rattle.judging.proofs.check.Laws.{floored-output}
 use Rattle.floors.specs.Search.{found, refusal, tells, rangeWrong, rangeAnswer, floorCount, floorAfter, refusedBefore, toldAfter, searchOf, outputBy, searchOutput, aimAfter, passesAfter, Searchable}
-use Rattle.floors.specs.Promises.{SearchPromises}
+use Rattle.floors.specs.Promises.{RightRange, SearchPromises}
 use Rattle.floors.specs.declared.search.Searched.{Searched}
 use Rattle.floors.specs.declared.search.Searched.the-variants.{Found, Refused}
 use Rattle.floors.specs.Trials.{testCount, failsFrom}
 use Rattle.floors.proofs.Promises.{search-promises}
-use Rattle.floors.proofs.search.Laws.{ranged, high-within, after-few, after-within, input-passed, range-passed, searchable, refused-before}
-use Rattle.floors.proofs.trials.Laws.{tests-few, ring-passed, ring-failed}
+use Rattle.floors.proofs.search.Laws.{right-range, span-few, after-few, after-within, input-passed, range-passed, searchable, refused-before}
+use Rattle.floors.proofs.trials.Laws.{tests-few, cycle-passed, cycle-failed}
 
 -- ---- hi less lo
 
@@ -95,20 +95,33 @@ module _ (lo hi lo′ hi′ : ℤ) (el : lo′ ≡ lo) (eh : hi′ ≡ hi) where
 
         pub range-span : (d : Bool) → d ≡ beyond greatestSpan (back (hi′ -ℤ lo′)) → d ≡ rangeWrong lo hi
         unfolding rangeWrong
-        range-span d ed = ed ∙ rw (difference-is low-small high-small, ordered, low, ha, high, hb)
+        range-span d ed =
+            let nonneg = difference-nonneg (ltZ-false hi lo ordered) in
+            ed ∙ rw (
+              difference-is low-small high-small,
+              over-nonneg greatestSpan (hi -ℤ lo) nonneg,
+              ordered,
+              low,
+              ha,
+              high,
+              hb,
+            )
 
   -- ---- floor_count: m is the size of the difference
 
   module _ (h : rangeWrong lo hi ≡ false) where
+    r : RightRange lo hi
+    r = right-range lo hi h
+
     pub count-fits : SFits w64 (hi′ -ℤ lo′)
-    count-fits = difference-fits (ranged lo hi h .1) (ranged lo hi h .2)
+    count-fits = difference-fits (r .low) (r .high)
 
     module _ (m : ℕ) (em : m ≡ natAbs (back (hi′ -ℤ lo′))) where
       size : m ≡ natAbs (hi -ℤ lo)
-      size = em ∙ ap natAbs (difference-is (ranged lo hi h .1) (ranged lo hi h .2))
+      size = em ∙ ap natAbs (difference-is (r .low) (r .high))
 
       pub count-small : Fits w64 (m + 1)
-      count-small = omega (arith, size, ranged lo hi h .3)
+      count-small = omega (arith, size, span-few lo hi r)
 
       pub count-is : m + 1 ≡ floorCount lo hi
       unfolding floorCount
@@ -153,6 +166,9 @@ module _ (s : List ℕ) (hi hi′ : ℤ) (i : ℕ) (eh : hi′ ≡ hi) (w : natA
 -- ---- walk: m is the number of floors and n that of the tests, a the aim of a floor, f what its trial found
 
 module _ (c s : List ℕ) (lo hi : ℤ) (given : Searchable c s lo hi) where
+  right-here : RightRange lo hi
+  right-here = right-range lo hi (given .ranged)
+
   module _ (n : ℕ) (en : n ≡ testCount c s) where
     pub tests-some : 0 < n
     unfolding testCount
@@ -170,14 +186,14 @@ module _ (c s : List ℕ) (lo hi : ℤ) (given : Searchable c s lo hi) where
     walk-range = rw (el, eh) (given .ranged)
 
     pub walk-high : natAbs hi′ ≤ greatestWeight
-    walk-high = rw eh (high-within lo hi (given .ranged))
+    walk-high = rw eh (right-here .high)
 
     module _ (i m : ℕ) (em : m ≡ floorCount lo′ hi′) (l : i < m) where
       inside : i < floorCount lo hi
       inside = rw (em, el, eh) at l
 
       pub walk-few : i ≤ greatestSpan
-      walk-few = after-few lo hi (given .ranged) i inside
+      walk-few = after-few lo hi right-here i inside
 
       module _ (a : Aim) (ea : a ≡ aimAfter s hi′ i) where
         pub walk-checked : CheckedSheets c s a
@@ -190,7 +206,7 @@ module _ (c s : List ℕ) (lo hi : ℤ) (given : Searchable c s lo hi) where
               proof = g .proof;
               same = g .same;
               aim = record {
-                floor-within = after-within lo hi (given .ranged) i inside;
+                floor-within = after-within lo hi right-here i inside;
                 scale-within = g .proof .header .scale-within;
               };
             })
@@ -203,13 +219,13 @@ module _ (c s : List ℕ) (lo hi : ℤ) (given : Searchable c s lo hi) where
           pub trial-passed : f ≡ Nothing → true ≡ passesAfter c s hi′ i
           unfolding passesAfter
           trial-passed h =
-              sym (rw (← ea) (ring-passed (targetOf c a) c s last from-inside (rw en at (sym ef ∙ h))))
+              sym (rw (← ea) (cycle-passed (targetOf c a) c s last from-inside (rw en at (sym ef ∙ h))))
 
           module _ (j : ℕ) (h : f ≡ At j) where
             pub trial-failed : false ≡ passesAfter c s hi′ i
             unfolding passesAfter
             trial-failed =
-                sym (rw (← ea) (ring-failed (targetOf c a) c s last from-inside j (rw en at (sym ef ∙ h))))
+                sym (rw (← ea) (cycle-failed (targetOf c a) c s last from-inside j (rw en at (sym ef ∙ h))))
 
             pub test-below : j < n
             test-below = first-inside _ n j (sym ef ∙ h) .0
@@ -256,11 +272,11 @@ module _ (c s : List ℕ) (lo hi : ℤ) (out : List ℕ) (v : Verdict) (lo′ hi
         found-inside : (i < floorCount lo hi) × (passesAfter c s hi i ≡ true)
         found-inside = first-inside _ _ i (sym (refused-before c s lo hi (length out) ready) ∙ before ∙ q)
 
-        right : rangeWrong lo hi ≡ false
-        right = range-passed c s lo hi (length out) ready
+        right : RightRange lo hi
+        right = right-range lo hi (range-passed c s lo hi (length out) ready)
 
         pub search-high : natAbs hi′ ≤ greatestWeight
-        search-high = rw eh (high-within lo hi right)
+        search-high = rw eh (right .high)
 
         pub search-few : i ≤ greatestSpan
         search-few = after-few lo hi right i (found-inside .0)

@@ -21,23 +21,23 @@ use Rattle.judgements.specs.Judgements.{judgedAs}
 use Rattle.weighing.specs.Unheld.{unheld}
 use Rattle.weighing.specs.Weighed.{weighedAnswer}
 use Rattle.weighing.proofs.weighed.Laws.{tests-passed, tests-pass}
-use Rattle.floors.specs.Trials.{pointCount, testCount, fails, turned, failsFrom}
+use Rattle.floors.specs.Trials.{pointCount, testCount, fails, rotated, failsFrom}
 
--- ---- the ring
+-- ---- the rotation
 
 module _ (n from : ℕ) (inside : from < n) where
-  turned-inside : (i : ℕ) → i < n → turned n from i < n
-  unfolding turned
-  turned-inside i l = go (decLt (from + i) n)
+  rotated-inside : (i : ℕ) → i < n → rotated n from i < n
+  unfolding rotated
+  rotated-inside i l = go (decLt (from + i) n)
     where
-      go : Dec (from + i < n) → turned n from i < n
+      go : Dec (from + i < n) → rotated n from i < n
       go (yes m) = rw (lt-ltb (from + i) n m) m
       go (no m) = rw (le-ltb (from + i) n (omega arith)) (omega arith)
 
   -- every test is met
-  turned-all : (P : ℕ → Type 0) → ((i : ℕ) → i < n → P (turned n from i)) → (j : ℕ) → j < n → P j
-  unfolding turned
-  turned-all P h j l = go (decLt j from)
+  rotated-all : (P : ℕ → Type 0) → ((i : ℕ) → i < n → P (rotated n from i)) → (j : ℕ) → j < n → P j
+  unfolding rotated
+  rotated-all P h j l = go (decLt j from)
     where
       go : Dec (j < from) → P j
       go (no m) =
@@ -86,18 +86,18 @@ module _ (τ : Exponents → ℤ) (c s : List ℕ) where
 
   -- from any of them on
   module _ (from : ℕ) (inside : from < testCount c s) where
-    pub ring-passed : first (failsFrom τ c s from) (testCount c s) ≡ Nothing → Passes (weighedAnswer τ c s)
+    pub cycle-passed : first (failsFrom τ c s from) (testCount c s) ≡ Nothing → Passes (weighedAnswer τ c s)
     unfolding failsFrom
-    ring-passed h =
-        none-fails (turned-all (testCount c s) from inside (λ j. fails τ c s j ≡ false) (none-wrong _ _ h))
+    cycle-passed h =
+        none-fails (rotated-all (testCount c s) from inside (λ j. fails τ c s j ≡ false) (none-wrong _ _ h))
 
-    pub ring-failed : (i : ℕ) → first (failsFrom τ c s from) (testCount c s) ≡ At i
+    pub cycle-failed : (i : ℕ) → first (failsFrom τ c s from) (testCount c s) ≡ At i
         → blameless (weighedAnswer τ c s) ≡ false
     unfolding failsFrom
-    ring-failed i h =
+    cycle-failed i h =
         let f = first-inside _ (testCount c s) i h in
         passes-or-fails (weighedAnswer τ c s)
         (λ p.
         absurd
-        (true≢false (sym (f .1) ∙ passes-none p _ (turned-inside (testCount c s) from inside i (f .0)))))
+        (true≢false (sym (f .1) ∙ passes-none p _ (rotated-inside (testCount c s) from inside i (f .0)))))
         (λ q. q)

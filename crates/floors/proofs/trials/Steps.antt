@@ -15,7 +15,7 @@ use Rattle.judgements.specs.Judgements.{judgementOf, numberOf}
 use Rattle.judgements.specs.declared.judgements.Judgement.{Judgement}
 use Rattle.judgements.proofs.judgements.Laws.{holds-judged-as}
 use Rattle.weighing.specs.Unheld.{unheld}
-use Rattle.floors.specs.Trials.{pointCount, testCount, fails, turned, failsFrom}
+use Rattle.floors.specs.Trials.{pointCount, testCount, fails, rotated, failsFrom}
 use Rattle.floors.proofs.trials.Laws.{fails-point, fails-row}
 
 -- ---- test_count and fails: t and k are what the sheets say
@@ -42,21 +42,21 @@ module _ (c s : List ℕ) (t : ℕ) (et : t ≡ termCount c) where
           rw (er, holds-judged-as greatestWeight (shiftedRow τ s) _ j ej, e)
           (sym (fails-row τ c s i (omega (arith, et))))
 
--- ---- turn
+-- ---- rotate
 
 module _ (n from i : ℕ) where
-  pub turn-on : from + i < n → from + i ≡ turned n from i
-  unfolding turned
-  turn-on l = rw (lt-ltb (from + i) n l)
+  pub rotate-on : from + i < n → from + i ≡ rotated n from i
+  unfolding rotated
+  rotate-on l = rw (lt-ltb (from + i) n l)
 
-  pub turn-round : n ≤ from + i → from + i - n ≡ turned n from i
-  unfolding turned
-  turn-round l = rw (le-ltb (from + i) n l)
+  pub rotate-round : n ≤ from + i → from + i - n ≡ rotated n from i
+  unfolding rotated
+  rotate-round l = rw (le-ltb (from + i) n l)
 
 -- ---- first_failing: n is the number of tests, j the test that is met
 
 module _ (c s : List ℕ) (n : ℕ) (en : n ≡ testCount c s) where
-  module _ (τ : Exponents → ℤ) (from i j : ℕ) (ej : j ≡ turned n from i) where
+  module _ (τ : Exponents → ℤ) (from i j : ℕ) (ej : j ≡ rotated n from i) where
     pub test-met : (r : Bool) → r ≡ fails τ c s j → r ≡ failsFrom τ c s from i
     unfolding failsFrom
     test-met r e = e ∙ rw (ej, en)

@@ -1,4 +1,4 @@
--- Laws of 16 to 19: what it says of the shifted rows that they are passed.
+-- Laws of 16 to 19: that they are passed, point by point and row by row, and what it says of the shifted rows.
 use mathlib.Core.Path.{_≡_, _∙_}
 use mathlib.Core.Bool.{true, false}
 use mathlib.Core.List.{List}

@@ -14,7 +14,8 @@ returns-2 : tie.Need-returns-2
 returns-2 c = unwritten _ _ _ _ _ (search needs) (search needs) _ (search (search-none, toZ-ofZ))
 
 aim-after-requires : tie.Need-aim-after-requires
-aim-after-requires c κs = (search (search-proof, toZ-ofZ), search (search-high, toZ-ofZ), search (search-few, toZ-ofZ))
+aim-after-requires c κs =
+    (search (search-proof, toZ-ofZ), search (search-high, toZ-ofZ), search (needs, search-few, toZ-ofZ))
 
 write-exact-requires : tie.Need-write-exact-requires
 write-exact-requires c κs = search (search-writable, toZ-ofZ)

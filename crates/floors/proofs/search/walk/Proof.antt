@@ -30,7 +30,7 @@ loop-holds : tie.Need-loop-holds Inv-loop μ-loop
 loop-holds c = (search needs, search tests-some, search first-start)
 
 aim-after-requires : tie.Need-aim-after-requires Inv-loop μ-loop
-aim-after-requires c κs = (search proof-eight, search (walk-high, toZ-ofZ), search (walk-few, toZ-ofZ))
+aim-after-requires c κs = (search proof-eight, search (walk-high, toZ-ofZ), search (needs, walk-few, toZ-ofZ))
 
 first-failing-requires : tie.Need-first-failing-requires Inv-loop μ-loop
 first-failing-requires c κs = (search (walk-checked, toZ-ofZ), search needs, search needs)
@@ -38,8 +38,8 @@ first-failing-requires c κs = (search (walk-checked, toZ-ofZ), search needs, se
 returns : tie.Need-returns Inv-loop μ-loop
 returns c = search (walk-stop, trial-passed, toZ-ofZ)
 
-turn-requires : tie.Need-turn-requires Inv-loop μ-loop
-turn-requires c κs = (search walk-tests, search needs, search (test-below, toZ-ofZ))
+rotate-requires : tie.Need-rotate-requires Inv-loop μ-loop
+rotate-requires c κs = (search walk-tests, search needs, search (test-below, toZ-ofZ))
 
 loop-again : tie.Need-loop-again Inv-loop μ-loop
 loop-again c = (search needs, search needs, search (walk-next, trial-failed, toZ-ofZ))
@@ -51,5 +51,5 @@ pub walk-spec : {M : Type 1} → statement M
 walk-spec =
     tie.close
     (tie.spec Inv-loop μ-loop test-count-requires floor-count-requires loop-holds aim-after-requires
-    first-failing-requires (λ c. search needs) (λ c. search needs) returns turn-requires (λ c. search needs)
+    first-failing-requires (λ c. search needs) (λ c. search needs) returns rotate-requires (λ c. search needs)
     (λ c. search needs) loop-again returns-2)

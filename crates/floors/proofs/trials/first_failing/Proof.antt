@@ -21,8 +21,8 @@ abbrev μ-loop : tie.MeasureT-loop
 loop-holds : tie.Need-loop-holds Inv-loop μ-loop
 loop-holds c = search (needs, first-start)
 
-turn-requires : tie.Need-turn-requires Inv-loop μ-loop
-turn-requires c κs = (search tests-few, search needs, search needs)
+rotate-requires : tie.Need-rotate-requires Inv-loop μ-loop
+rotate-requires c κs = (search tests-few, search needs, search needs)
 
 fails-requires : tie.Need-fails-requires Inv-loop μ-loop
 fails-requires c κs = (search needs, search test-inside)
@@ -39,5 +39,5 @@ returns-2 c = search first-end
 pub first-failing-spec : {M : Type 1} → statement M
 first-failing-spec =
     tie.close
-    (tie.spec Inv-loop μ-loop loop-holds turn-requires fails-requires returns (λ c. search needs)
+    (tie.spec Inv-loop μ-loop loop-holds rotate-requires fails-requires returns (λ c. search needs)
     (λ c. search needs) loop-again returns-2)
