@@ -21,16 +21,12 @@ pub fn read_u32(s: &[u8], at: usize) -> u64
     wide(s[at]) + wide(s[at + 1]) * 256 + wide(s[at + 2]) * 65536 + wide(s[at + 3]) * 16777216
 }
 
-// The number of 32 bits.
+// The number of 32 bits: they are raised by 2^31 and cut to 32 bits, and what is left is lowered again.
 fn signed(bits: u64) -> i64
     requires { ⌜ bits < 2 ^ 32 ⌝ }
     ensures { λ r. ⌜ r ≡ toZ w32 bits ⌝ }
 {
-    if bits < 2147483648 {
-        bits as i64
-    } else {
-        bits as i64 - 4294967296
-    }
+    ((bits + 2147483648) % 4294967296) as i64 - 2147483648
 }
 
 // The 32 bits of a number.

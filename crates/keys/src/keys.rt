@@ -25,6 +25,14 @@ pub fn key_at(s: &[u8], at: usize, n: usize) -> u64
     eight_at(s, at + n - 8) >> (64 - 8 * n)
 }
 
+// The same key, where eight bytes begin with them: they are the lowest of these.
+pub fn key_from(s: &[u8], at: usize, n: usize) -> u64
+    requires { ⌜ (1 ≤ n) × (n ≤ mostVariables) × (at + 8 ≤ length (now s)) ⌝ }
+    ensures { λ r. ⌜ r ≡ keyOf (bytesAt (now (s .entry)) at n) ⌝ }
+{
+    eight_at(s, at) & (18446744073709551615 >> (64 - 8 * n))
+}
+
 // The key of a point.
 pub fn key_of(p: Point) -> u64
     ensures { λ r. ⌜ r ≡ keyOf (exponents p) ⌝ }

@@ -1,7 +1,7 @@
 // The proof sheet's fields: its shape, its scale and its rows by value.
 use integers::words::read_i32;
 use integers::words::read_u32;
-use keys::keys::key_at;
+use keys::keys::key_from;
 use points::points::Point;
 use points::points::point_at;
 use points::points::same;
@@ -97,7 +97,7 @@ pub fn v_key(proof: &[u8], shape: Shape, i: usize) -> u64
     requires { ⌜ (ProofRoom (now proof) shape) × (1 ≤ shape .n) × (i < shape .k) ⌝ }
     ensures { λ r. ⌜ r ≡ keyOf (vOf (now (proof .entry)) shape i) ⌝ }
 {
-    key_at(proof, row_place(shape, i), shape.n)
+    key_from(proof, row_place(shape, i), shape.n)
 }
 
 // The key of row i's second point.
@@ -105,7 +105,7 @@ pub fn w_key(proof: &[u8], shape: Shape, i: usize) -> u64
     requires { ⌜ (ProofRoom (now proof) shape) × (1 ≤ shape .n) × (i < shape .k) ⌝ }
     ensures { λ r. ⌜ r ≡ keyOf (wOf (now (proof .entry)) shape i) ⌝ }
 {
-    key_at(proof, row_place(shape, i) + shape.n, shape.n)
+    key_from(proof, row_place(shape, i) + shape.n, shape.n)
 }
 
 // Where the triple of row i begins.

@@ -40,9 +40,12 @@ pub record Small (a : Tally) : Type 0 where
   pub sum-small : natAbs (a .sum) ≤ 2 ^ 42
   pub count-small : a .count ≤ 2 ^ 20
 
--- one slot more, where it is at the point
+-- one slot more, and one where it is at the point
+unfoldable pub more : ℤ → Tally → Tally
+more x a = record { sum = a .sum +ℤ x; count = a .count + 1 }
+
 unfoldable pub added : Bool → ℤ → Tally → Tally
-added hit x a = cond hit (record { sum = a .sum +ℤ x; count = a .count + 1 }) a
+added hit x a = cond hit (more x a) a
 
 -- what was tallied, and the slots whose point has the key
 unfoldable pub tallyFrom : ℕ → Tally → Sum → Tally

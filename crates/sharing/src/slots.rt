@@ -12,12 +12,12 @@ ghost use Rattle.integers.specs.Words.{i32At};
 ghost use Rattle.bounds.specs.Bounds.{greatestWeight};
 ghost use Rattle.checks.specs.ProofChecks.{ProofFacts};
 ghost use Rattle.targets.specs.Carried.{CarriedKey};
-ghost use Rattle.sharing.specs.Slots.{Small, HoldsKey, CountsKey, slotsTo, added, tallyOf, holdingOf};
+ghost use Rattle.sharing.specs.Slots.{Small, HoldsKey, CountsKey, slotsTo, more, tallyOf, holdingOf};
 
-// What the slots at a point weigh together, and how many they are.
+// What the slots at a point weigh together, and how many they are: two numbers of 64 bits, which stay in registers.
 pub struct Tally {
     pub sum: i64,
-    pub count: u32,
+    pub count: u64,
 }
 
 // The same of all rows, with the number of slots there that come before one slot.
@@ -27,21 +27,19 @@ pub struct Holding {
     pub rank: u32,
 }
 
-// One slot more, where it is at the point; its weight stands at a place.
-fn add_if(hit: bool, proof: &[u8], at: usize, a: Tally) -> Tally
+// One slot more, whose weight stands at a place.
+fn add(proof: &[u8], at: usize, a: Tally) -> Tally
     requires { ⌜ (at + 4 ≤ length (now proof)) × (natAbs (i32At (now proof) at) ≤ greatestWeight) × (Small a) ⌝ }
-    ensures { λ r. ⌜ r ≡ added hit (i32At (now (proof .entry)) at) a ⌝ }
+    ensures { λ r. ⌜ r ≡ more (i32At (now (proof .entry)) at) a ⌝ }
 {
-    if hit {
-        return Tally {
-            sum: a.sum + read_i32(proof, at),
-            count: a.count + 1,
-        };
+    Tally {
+        sum: a.sum + read_i32(proof, at),
+        count: a.count + 1,
     }
-    a
 }
 
-// The slots of one row more: a pair's midpoint has the key where twice the key is the sum of its ends' keys.
+// The slots of one row more, of which one at most is at a point: a pair's midpoint has the key where twice the key is
+// the sum of its ends' keys.
 fn add_row(proof: &[u8], shape: Shape, i: usize, key: u64, a: Tally) -> Tally
     requires { ⌜ (ProofFacts (now proof) shape) × (i < shape .k) × (key < 2 ^ 63)
         × (a ≡ tallyOf key (slotsTo (now proof) shape i)) ⌝ }
@@ -50,12 +48,16 @@ fn add_row(proof: &[u8], shape: Shape, i: usize, key: u64, a: Tally) -> Tally
     let v = v_key(proof, shape, i);
     let w = w_key(proof, shape, i);
     let at = triple_place(shape, i);
-    let b = add_if(key == v, proof, at, a);
-    if v == w {
-        return b;
+    if key == v {
+        return add(proof, at, a);
     }
-    let c = add_if(key == w, proof, at + 4, b);
-    add_if(v + w == key * 2, proof, at + 8, c)
+    if (key == w) | (v + w == key * 2) {
+        if key == w {
+            return add(proof, at + 4, a);
+        }
+        return add(proof, at + 8, a);
+    }
+    a
 }
 
 // From the slots of the first rows to those of more.
@@ -79,7 +81,7 @@ pub fn slots_with(proof: &[u8], shape: Shape, key: u64) -> u32
     ensures { λ r. ⌜ CountsKey (now (proof .entry)) shape key r ⌝ }
 {
     let all = scan(proof, shape, 0, shape.k, key, Tally { sum: 0, count: 0 });
-    all.count
+    all.count as u32
 }
 
 // The slots with a key, seen from one of row i; `own` says how many of the row's own are before it there.
@@ -92,8 +94,8 @@ pub(crate) fn held(proof: &[u8], shape: Shape, i: usize, own: u32, key: u64) -> 
     let all = scan(proof, shape, i, shape.k, key, before);
     Holding {
         sum: all.sum,
-        count: all.count,
-        rank: before.count + own,
+        count: all.count as u32,
+        rank: before.count as u32 + own,
     }
 }
 
@@ -104,11 +106,5 @@ pub fn holds_key(proof: &[u8], shape: Shape, i: usize, key: u64) -> bool
 {
     let v = v_key(proof, shape, i);
     let w = w_key(proof, shape, i);
-    if key == v {
-        return true;
-    }
-    if key == w {
-        return true;
-    }
-    v + w == key * 2
+    (key == v) | (key == w) | (v + w == key * 2)
 }

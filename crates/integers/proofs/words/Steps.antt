@@ -2,7 +2,8 @@
 use mathlib.Core.Path.{_≡_, refl, sym, _∙_, ap}
 use mathlib.Core.Bool.{true, false}
 use mathlib.Core.List.{List}
-use Prim.Native.Nat.{ℕ, suc, _-_, _^_, _<_, _≤_}
+use Prim.Native.Nat.{ℕ, suc, _+_, _-_, _%_, _^_, _<_, _≤_}
+use native.Mathlib.Decide.{decLt}
 use native.Mathlib.Omega.{arith}
 use lib.IntN.{ℤ, pos, negsuc, _+ℤ_, _-ℤ_}
 use lib.Signed.{ltZ}
@@ -14,20 +15,25 @@ use Rattle.integers.proofs.Integers.{back, ring, ints, by-eq, by-fits, 
 
 -- signed: n is the bits
 module _ (n : ℕ) (h : n < 4294967296) where
-  word-is : toZ w64 n ≡ pos n
-  word-is = toZ-pos w64 (omega arith)
+  abbrev raised : ℕ
+  raised = (n + 2147483648) % 4294967296
 
-  pub low-word : n < 2147483648 → toZ w64 n ≡ toZ w32 n
-  low-word l = word-is ∙ sym (toZ-pos w32 l)
+  raised-is : toZ w64 raised ≡ pos raised
+  raised-is = toZ-pos w64 (omega arith)
 
-  pub high-fits : (k : ℕ) → k ≤ 4294967296 → SFits w64 (toZ w64 n -ℤ pos k)
-  high-fits k l = rw word-is (by-fits (simp ring (omega arith)))
+  pub lowered-fits : (k : ℕ) → k ≤ 4294967296 → SFits w64 (toZ w64 raised -ℤ pos k)
+  lowered-fits k l = rw raised-is (by-fits (simp ring (omega arith)))
 
-  pub high-word : 2147483648 ≤ n → back (toZ w64 n -ℤ pos 4294967296) ≡ toZ w32 n
-  high-word l =
-      let e : 2 ^ 32 - suc (4294967295 - n) ≡ n = omega arith in
-      let z : toZ w32 n ≡ negsuc (4294967295 - n) = rw e at (toZ-neg w32 (4294967295 - n) (omega arith)) in
-      toZ-ofZ (high-fits 4294967296 (omega arith)) ∙ rw (word-is, z) (by-eq (simp ring (omega arith)))
+  lowered-is : (d : Dec (n < 2147483648)) → pos raised -ℤ pos 2147483648 ≡ toZ w32 n
+  lowered-is (yes l) = let e : raised ≡ n + 2147483648 = omega arith in rw (e, toZ-pos w32 l) (by-eq (simp ring (omega arith)))
+  lowered-is (no l) =
+      let e : raised ≡ n - 2147483648 = omega arith in
+      let u : 2 ^ 32 - suc (4294967295 - n) ≡ n = omega arith in
+      let z : toZ w32 n ≡ negsuc (4294967295 - n) = rw u at (toZ-neg w32 (4294967295 - n) (omega arith)) in
+      rw (e, z) (by-eq (simp ring (omega arith)))
+
+  pub lowered : back (toZ w64 raised -ℤ pos 2147483648) ≡ toZ w32 n
+  lowered = toZ-ofZ (lowered-fits 2147483648 (omega arith)) ∙ rw raised-is (lowered-is (decLt n 2147483648))
 
 -- bits_of: a negative number is lifted by 2^32, another is kept
 module _ (v : ℤ) (f : SFits w32 v) where

@@ -1,14 +1,15 @@
--- The steps of key_at and key_of.
+-- The steps of key_at, key_from and key_of.
 use mathlib.Core.Path.{_≡_, refl, _∙_, ap}
 use mathlib.Core.List.{List, [], _∷_, _++_}
-use Prim.Native.Nat.{ℕ, suc, _+_, _*_, _-_, _/_, _^_, _<_, _≤_}
+use Prim.Native.Nat.{ℕ, suc, _+_, _*_, _-_, _/_, _%_, _^_, _<_, _≤_}
 use native.Mathlib.Decide.{decLt}
 use native.Mathlib.Nat.{add-assoc, add-zero}
 use native.Mathlib.Omega.{arith}
-use lib.Arith.{digits-div}
+use lib.Arith.{digits-div, digits-mod}
+use lib.Bits.{bitAnd, and-mask}
 use lib.ListN.{length, getD, take, drop, length-take, drop-of-length-le, List·getD-eq-default}
 use lib.Seq.{drop-cons, getD-take}
-use lib.Pow.{pow-pos, pow-mono}
+use lib.Pow.{pow-pos, pow-mono, ones-split, ones-lt}
 use mir.Syntax.{w64}
 use mir.Val.{Fits}
 use Rattle.integers.specs.Words.{u32At}
@@ -34,7 +35,7 @@ unfolding keyOf
 key-append [] β = omega arith
 key-append (a ∷ α) β = rw (byte-more (length α)) (omega (arith, key-append α β))
 
--- ---- the ways through key_at
+-- ---- the ways through key_at and key_from
 
 pub eight-key : (s : List ℕ) (at low high : ℕ) → low ≡ u32At s at → high ≡ u32At s (at + 4)
     → low + high * 4294967296 ≡ keyOf (bytesAt s at 8)
@@ -49,14 +50,19 @@ bytes-small s at n b i = go (decLt i n)
     go (yes l) = rw (bytes-get s at n i l) (omega (arith, b (at + i)))
     go (no l) = rw (List·getD-eq-default (bytesAt s at n) 0 {n = i} (rw bytes-length (omega arith))) (omega arith)
 
--- of the key of m + n bytes, what is left without the m lowest
-key-high : (s : List ℕ) (at m n : ℕ) → Bytes s
-    → keyOf (bytesAt s at (m + n)) / 2 ^ (8 * m) ≡ keyOf (bytesAt s (at + m) n)
-key-high s at m n b =
-    let low : keyOf (bytesAt s at m) < 2 ^ (8 * m) =
-    rw bytes-length at (key-below (bytesAt s at m) (bytes-small s at m b)) in
-    rw (bytes-split s at m n, key-append (bytesAt s at m) (bytesAt s (at + m) n), bytes-length s at m)
-    (digits-div (keyOf (bytesAt s (at + m) n)) low)
+-- of the key of m + n bytes, the digits of the n last and those of the m first
+module _ (s : List ℕ) (at m n : ℕ) (b : Bytes s) where
+  key-split : keyOf (bytesAt s at (m + n)) ≡ keyOf (bytesAt s (at + m) n) * 2 ^ (8 * m) + keyOf (bytesAt s at m)
+  key-split = rw (bytes-split s at m n, key-append (bytesAt s at m) (bytesAt s (at + m) n), bytes-length s at m)
+
+  first-below : keyOf (bytesAt s at m) < 2 ^ (8 * m)
+  first-below = rw bytes-length at (key-below (bytesAt s at m) (bytes-small s at m b))
+
+  key-high : keyOf (bytesAt s at (m + n)) / 2 ^ (8 * m) ≡ keyOf (bytesAt s (at + m) n)
+  key-high = rw key-split (digits-div (keyOf (bytesAt s (at + m) n)) first-below)
+
+  key-lowest : keyOf (bytesAt s at (m + n)) % 2 ^ (8 * m) ≡ keyOf (bytesAt s at m)
+  key-lowest = rw key-split (digits-mod (keyOf (bytesAt s (at + m) n)) first-below)
 
 pub key-here : (s : List ℕ) (at n eight : ℕ) → Bytes s → n ≤ mostVariables → 8 ≤ at + n
     → eight ≡ keyOf (bytesAt s (at + n - 8) 8)
@@ -66,6 +72,20 @@ key-here s at n eight b h l e =
     let e₂ : 8 - n + n ≡ 8 = omega arith in
     let e₃ : at + n - 8 + (8 - n) ≡ at = omega arith in
     rw (e, e₁) (rw (e₂, e₃) at (key-high s (at + n - 8) (8 - n) n b))
+
+-- all bits shifted down to those of n bytes
+mask-is : (n : ℕ) → n ≤ mostVariables → 18446744073709551615 / 2 ^ (64 - 8 * n) ≡ 2 ^ (8 * n) - 1
+mask-is n h =
+    let e : 8 * n + (64 - 8 * n) ≡ 64 = omega arith in
+    let ones : 18446744073709551615 ≡ (2 ^ (8 * n) - 1) * 2 ^ (64 - 8 * n) + (2 ^ (64 - 8 * n) - 1) =
+    rw e at (ones-split (8 * n) (64 - 8 * n)) in
+    rw ones (digits-div (2 ^ (8 * n) - 1) (ones-lt (64 - 8 * n)))
+
+pub key-masked : (s : List ℕ) (at n eight : ℕ) → Bytes s → n ≤ mostVariables → eight ≡ keyOf (bytesAt s at 8)
+    → bitAnd eight (18446744073709551615 / 2 ^ (64 - 8 * n)) ≡ keyOf (bytesAt s at n)
+key-masked s at n eight b h e =
+    let m : n + (8 - n) ≡ 8 = omega arith in
+    rw (mask-is n h, and-mask eight (8 * n), e) (rw m at (key-lowest s at n (8 - n) b))
 
 -- ---- the ways through key_of
 

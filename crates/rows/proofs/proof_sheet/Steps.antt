@@ -32,14 +32,15 @@ module _ (s : List ℕ) (sh : Shape) (i from : ℕ) (room : ProofRoom s sh) (l :
   pub v-inside : from + sh .n ≤ length s
   v-inside = omega (arith, mul-le-mul-right (2 * sh .n) l)
 
-  pub v-late : 8 ≤ from + sh .n
-  v-late = omega arith
-
-  pub w-late : 8 ≤ from + sh .n + sh .n
-  w-late = omega arith
-
   pub w-inside : from + sh .n + sh .n ≤ length s
   w-inside = omega (arith, mul-le-mul-right (2 * sh .n) l)
+
+  -- the weights of k rows follow the points, so that eight bytes begin with each
+  pub v-eight : from + 8 ≤ length s
+  v-eight = omega (arith, mul-le-mul-right (2 * sh .n) l)
+
+  pub w-eight : from + sh .n + 8 ≤ length s
+  w-eight = omega (arith, mul-le-mul-right (2 * sh .n) l)
 
 module _ (sh : Shape) (i : ℕ) (few : sh .n ≤ mostVariables) (rows : sh .k ≤ mostRows) (from : ℕ)
     (e : from ≡ place 8 (sh .k) (2 * sh .n))

@@ -31,7 +31,7 @@ use Rattle.checks.specs.ProofChecks.{ProofFacts}
 use Rattle.targets.specs.Carried.{Carried}
 use Rattle.targets.proofs.Carried.{carried-same, carried-low}
 use Rattle.sharing.specs.Sharing.{count}
-use Rattle.sharing.specs.Slots.{slotsTo, holdsPoint, added, tallyFrom, tallyOf, holdingOf}
+use Rattle.sharing.specs.Slots.{slotsTo, holdsPoint, more, added, tallyFrom, tallyOf, holdingOf}
 use Rattle.sharing.specs.declared.slots.Tally.{Tally}
 use Rattle.sharing.proofs.Sharing.{count-append, count-nil, row-counted}
 
@@ -134,7 +134,7 @@ tally-cons key a t L = refl
 
 pub added-bound : (hit : Bool) (x : ℤ) (a : Tally) → natAbs x ≤ greatestWeight
     → (natAbs (added hit x a .sum) ≤ natAbs (a .sum) + greatestWeight) × (added hit x a .count ≤ a .count + 1)
-unfolding added
+unfolding added more
 added-bound true x a h = (omega (arith, abs-add (a .sum) x), omega arith)
 added-bound false x a h = (omega arith, omega arith)
 
@@ -168,7 +168,7 @@ tally-small s sh f key i l =
 
 module _ (n : ℕ) (α : Exponents) (carried : Carried n α) where
   from-sum : (a : Tally) (L : Sum) → All (Slot n) L → tallyFrom (keyOf α) a L .sum ≡ a .sum +ℤ coefficient α L
-  unfolding added
+  unfolding added more
   from-sum a [] h = rw (tally-nil, coefficient-nil, +ℤ-idr)
   from-sum a (t ∷ L) h =
       rw (tally-cons, carried-same n α (t .0) carried (h .0 .point), coefficient-cons α t L)
@@ -181,7 +181,7 @@ module _ (n : ℕ) (α : Exponents) (carried : Carried n α) where
       go false ih = ih _
 
   from-count : (a : Tally) (L : Sum) → All (Slot n) L → tallyFrom (keyOf α) a L .count ≡ a .count + count α L
-  unfolding added count
+  unfolding added more count
   from-count a [] h = rw tally-nil (omega arith)
   from-count a (t ∷ L) h =
       rw (tally-cons, carried-same n α (t .0) carried (h .0 .point))

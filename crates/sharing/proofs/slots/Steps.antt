@@ -1,6 +1,6 @@
 -- The steps of the functions that go over the rows and count slots.
 use mathlib.Core.Path.{_≡_, refl, sym, _∙_}
-use mathlib.Core.Bool.{Bool, true, false, cond, _||_}
+use mathlib.Core.Bool.{Bool, true, false, false≢true, cond, _||_}
 use mathlib.Core.List.{List, [], _∷_, _++_}
 use Prim.Native.Nat.{ℕ, suc, _+_, _*_, _^_, _<_, _≤_}
 use native.Mathlib.Decide.{ℕ-discrete}
@@ -31,19 +31,46 @@ use Rattle.checks.specs.ProofChecks.{Within, ProofFacts}
 use Rattle.targets.specs.Carried.{Carried, CarriedKey}
 use Rattle.targets.proofs.Carried.{carried-same, carried-low}
 use Rattle.sharing.specs.Sharing.{count}
-use Rattle.sharing.specs.Slots.{CountsKey, Small, HoldsKey, slotsTo, holdsPoint, added, tallyFrom, tallyOf, holdingOf}
+use Rattle.sharing.specs.Slots.{CountsKey, Small, HoldsKey, slotsTo, holdsPoint, more, added, tallyFrom, tallyOf, holdingOf}
 use Rattle.sharing.specs.declared.slots.Tally.{Tally}
 use Rattle.sharing.proofs.Sharing.{count-cons, count-nil}
 use Rattle.sharing.proofs.slots.Laws.{added-bound, key-bound, lone-slots, middle-carried, no-slots, pair-slots, tally-cons, tally-nil, tally-small, tallied, v-carried, w-carried}
 
 -- ---- tallies
 
+-- a lone row's slot
+once-added : (hit : Bool) (x y z : ℤ) (a : Tally)
+    → added hit x a ≡ cond hit (more x a) (cond hit (more y a) (cond hit (more z a) a))
+unfolding added
+once-added true x y z a = refl
+once-added false x y z a = refl
+
+neither : (b d : Bool) (y z a : Tally) → b || d ≡ false → cond b y (cond d z a) ≡ a
+neither true d y z a h = absurd (false≢true (sym h))
+neither false true y z a h = absurd (false≢true (sym h))
+neither false false y z a h = refl
+
+-- of three slots whose keys are two numbers and their half sum, one at most has a key
+one-added : (key v w : ℕ) (x y z : ℤ) (a : Tally) → (v ≡ w → ⊥)
+    → added (eqb (v + w) (key * 2)) z (added (eqb key w) y (added (eqb key v) x a))
+    ≡ cond (eqb key v) (more x a) (cond (eqb key w) (more y a) (cond (eqb (v + w) (key * 2)) (more z a) a))
+unfolding added
+one-added key v w x y z a d = go (ℕ-discrete key v) (ℕ-discrete key w)
+  where
+    go : Dec (key ≡ v) → Dec (key ≡ w)
+        → cond (eqb (v + w) (key * 2)) (more z (cond (eqb key w) (more y (cond (eqb key v) (more x a) a)) (cond (eqb key v) (more x a) a))) (cond (eqb key w) (more y (cond (eqb key v) (more x a) a)) (cond (eqb key v) (more x a) a))
+        ≡ cond (eqb key v) (more x a) (cond (eqb key w) (more y a) (cond (eqb (v + w) (key * 2)) (more z a) a))
+    go (yes e) q =
+        rw (eq-eqb key v e, ne-eqb key w (λ r. d (omega arith)), ne-eqb (v + w) (key * 2) (λ r. d (omega arith)))
+    go (no e) (yes q) = rw (ne-eqb key v e, eq-eqb key w q, ne-eqb (v + w) (key * 2) (λ r. d (omega arith)))
+    go (no e) (no q) = rw (ne-eqb key v e, ne-eqb key w q)
+
 tally-append : (key : ℕ) (a : Tally) (L M : Sum) → tallyFrom key a (L ++ M) ≡ tallyFrom key (tallyFrom key a L) M
 unfolding tallyFrom
 tally-append key a [] M = refl
 tally-append key a (t ∷ L) M = tally-append key (added (eqb key (keyOf (t .0))) (t .1) a) L M
 
--- ---- add_if: x is the weight that was read
+-- ---- add: x is the weight that was read
 
 module _ (s : List ℕ) (at : ℕ) (x : ℤ) (a : Tally) (ex : x ≡ i32At s at) (hx : natAbs (i32At s at) ≤ greatestWeight)
     (small : Small a) where
@@ -58,14 +85,9 @@ module _ (s : List ℕ) (at : ℕ) (x : ℤ) (a : Tally) (ex : x ≡ i32At s at)
       let g = abs-add (a .sum) (i32At s at) in
       rw both-back (fits-within (a .sum +ℤ i32At s at) (2 ^ 43) (omega (arith, g, small .sum-small)) (lit< tt))
 
-  pub added-hit : (hit : Bool) → hit ≡ true
-      → record { sum = back (back (a .sum) +ℤ back x); count = a .count + 1 } ≡ added hit (i32At s at) a
-  unfolding added
-  added-hit hit h = rw (toZ-ofZ sum-fits, both-back, h)
-
-pub added-miss : (hit : Bool) (x : ℤ) (a : Tally) → hit ≡ false → a ≡ added hit x a
-unfolding added
-added-miss hit x a h = rw h
+  pub slot-more : record { sum = back (back (a .sum) +ℤ back x); count = a .count + 1 } ≡ more (i32At s at) a
+  unfolding more
+  slot-more = rw (toZ-ofZ sum-fits, both-back)
 
 -- ---- the keys of a row's ends, v and w
 
@@ -104,14 +126,14 @@ module _ (s : List ℕ) (sh : Shape) (i : ℕ) (f : ProofFacts s sh) (l : i < sh
     some m = sym (lt-ltb 0 (suc m) (omega arith))
 
     any-held : (a b d : Bool)
-        → a || b || d ≡ ltb 0 (cond a (suc (cond b (suc (cond d 1 0)) (cond d 1 0)))
+        → (a || b) || d ≡ ltb 0 (cond a (suc (cond b (suc (cond d 1 0)) (cond d 1 0)))
         (cond b (suc (cond d 1 0)) (cond d 1 0)))
     any-held true b d = some (cond b (suc (cond d 1 0)) (cond d 1 0))
     any-held false true d = some (cond d 1 0)
     any-held false false true = refl
     any-held false false false = refl
 
-    held-by-key : eqb (keyOf α) (keyOf (vOf s sh i)) || eqb (keyOf α) (keyOf (wOf s sh i))
+    held-by-key : (eqb (keyOf α) (keyOf (vOf s sh i)) || eqb (keyOf α) (keyOf (wOf s sh i)))
         || eqb (keyOf (vOf s sh i) + keyOf (wOf s sh i)) (keyOf α * 2)
         ≡ holdsPoint s sh α i
     unfolding holdsPoint
@@ -128,12 +150,12 @@ module _ (s : List ℕ) (sh : Shape) (i : ℕ) (f : ProofFacts s sh) (l : i < sh
             middle (keyOf (vOf s sh i)) (keyOf (wOf s sh i)) refl refl (keyOf α)
             ∙ carried-same (sh .n) α (midpointOf (vOf s sh i) (wOf s sh i)) carried (middle-carried s sh i f l)
 
-        once : (a : Bool) → a || a || a ≡ ltb 0 (cond a 1 0)
+        once : (a : Bool) → (a || a) || a ≡ ltb 0 (cond a 1 0)
         once true = refl
         once false = refl
 
         go : (b : Bool) → samePoint (vOf s sh i) (wOf s sh i) ≡ b
-            → eqb (keyOf α) (keyOf (vOf s sh i)) || eqb (keyOf α) (keyOf (wOf s sh i))
+            → (eqb (keyOf α) (keyOf (vOf s sh i)) || eqb (keyOf α) (keyOf (wOf s sh i)))
             || eqb (keyOf (vOf s sh i) + keyOf (wOf s sh i)) (keyOf α * 2)
             ≡ ltb 0 (count α (slotsOf (rowOf s sh i)))
         go true e =
@@ -157,20 +179,9 @@ module _ (s : List ℕ) (sh : Shape) (i : ℕ) (f : ProofFacts s sh) (l : i < sh
             )
             (any-held (at (vOf s sh i)) (at (wOf s sh i)) (at (midpointOf (vOf s sh i) (wOf s sh i))))
 
-  -- holds_key
-  module _ (v w key : ℕ) (ev : v ≡ keyOf (vOf s sh i)) (ew : w ≡ keyOf (wOf s sh i)) where
-    told : (answer : Bool) → answer ≡ eqb key v || eqb key w || eqb (v + w) (key * 2) → HoldsKey s sh key i answer
-    told answer h = record { holds = λ α carried e. h ∙ rw (e, ev, ew) (held-by-key α carried) }
-
-    pub key-first : key ≡ v → HoldsKey s sh key i true
-    key-first e = told true (rw (eq-eqb key v e))
-
-    module _ (a : key ≡ v → ⊥) where
-      pub key-second : key ≡ w → HoldsKey s sh key i true
-      key-second e = told true (rw (ne-eqb key v a, eq-eqb key w e))
-
-      pub key-middle : (key ≡ w → ⊥) → HoldsKey s sh key i (eqb (v + w) (key * 2))
-      key-middle b = told _ (rw (ne-eqb key v a, ne-eqb key w b))
+  pub key-told : (v w key : ℕ) → v ≡ keyOf (vOf s sh i) → w ≡ keyOf (wOf s sh i)
+      → HoldsKey s sh key i ((eqb key v || eqb key w) || eqb (v + w) (key * 2))
+  key-told v w key ev ew = record { holds = λ α carried e. rw (e, ev, ew) (held-by-key α carried) }
 
 -- ---- add_row: v and w are the keys of the row's ends
 
@@ -200,54 +211,65 @@ module _ (s : List ℕ) (sh : Shape) (i : ℕ) (f : ProofFacts s sh) (l : i < sh
     pub r-within : natAbs (i32At s (at + 8)) ≤ greatestWeight
     r-within = rw (r-there s sh i at ea) (weights .r-within)
 
-    module _ (key v w : ℕ) (ev : v ≡ keyOf (vOf s sh i)) (ew : w ≡ keyOf (wOf s sh i)) where
-      module _ (a b : Tally) (ha : a ≡ tallyOf key (slotsTo s sh i)) (hb : b ≡ added (eqb key v) (i32At s at) a) where
-        pub lone-added : v ≡ w → b ≡ tallyOf key (slotsTo s sh (i + 1))
-        unfolding tallyOf
-        lone-added e =
-            let row = lone-slots s sh i (sym (lone s sh i f l v w ev ew) ∙ eq-eqb v w e) in
-            hb ∙ rw (add-one, row, tally-append, tally-cons, tally-nil, ← ha, p-there s sh i at ea, ← ev)
-
-        pub pair-added : (c r : Tally) → c ≡ added (eqb key w) (i32At s (at + 4)) b
-            → r ≡ added (eqb (v + w) (key * 2)) (i32At s (at + 8)) c
-            → (v ≡ w → ⊥) → r ≡ tallyOf key (slotsTo s sh (i + 1))
-        unfolding tallyOf
-        pair-added c r hc hr e =
-            let row = pair-slots s sh i (sym (lone s sh i f l v w ev ew) ∙ ne-eqb v w e) in
-            hr ∙ rw (
-              hc,
-              hb,
-              middle s sh i f l v w ev ew key,
-              p-there s sh i at ea,
-              q-there s sh i at ea,
-              r-there s sh i at ea,
-            )
-            (sym (rw (add-one, row, tally-append, tally-cons, tally-cons, tally-cons, tally-nil, ← ha, ← ev, ← ew)))
-
-    -- the tallies before the row's first, second and third slot
     module _ (key : ℕ) (a : Tally) (ha : a ≡ tallyOf key (slotsTo s sh i)) where
-      bound : (natAbs (a .sum) ≤ 2 ^ 41) × (a .count ≤ 768)
-      bound = rw ha (tally-small s sh f key i (omega arith))
+      pub tally-room : Small a
+      tally-room =
+          let b = tally-small s sh f key i (omega arith) in
+          rw ha (record { sum-small = omega (arith, b .0); count-small = omega (arith, b .1) })
 
-      pub small-first : Small a
-      small-first = record { sum-small = omega (arith, bound .0); count-small = omega (arith, bound .1) }
+      -- one slot at most: p where the key is v, else q where it is w, else r where it is the midpoint's
+      module _ (v w : ℕ) (ev : v ≡ keyOf (vOf s sh i)) (ew : w ≡ keyOf (wOf s sh i)) where
+        row-added : tallyOf key (slotsTo s sh (i + 1))
+            ≡ cond (eqb key v) (more (i32At s at) a)
+            (cond (eqb key w) (more (i32At s (at + 4)) a)
+            (cond (eqb (v + w) (key * 2)) (more (i32At s (at + 8)) a) a))
+        unfolding tallyOf
+        row-added = go (ℕ-discrete v w)
+          where
+            go : Dec (v ≡ w) → tallyFrom key (record { sum = pos 0; count = 0 }) (slotsTo s sh (i + 1))
+                ≡ cond (eqb key v) (more (i32At s at) a)
+                (cond (eqb key w) (more (i32At s (at + 4)) a)
+                (cond (eqb (v + w) (key * 2)) (more (i32At s (at + 8)) a) a))
+            go (yes e) =
+                let row = lone-slots s sh i (sym (lone s sh i f l v w ev ew) ∙ eq-eqb v w e) in
+                let d : v + v ≡ v * 2 = omega arith in
+                rw (add-one, row, tally-append, tally-cons, tally-nil, ← ha, ← ev, ← (p-there s sh i at ea), ← e, d, halved)
+                (once-added (eqb key v) _ _ _ a)
+            go (no e) =
+                let row = pair-slots s sh i (sym (lone s sh i f l v w ev ew) ∙ ne-eqb v w e) in
+                rw (
+                  add-one,
+                  row,
+                  tally-append,
+                  tally-cons,
+                  tally-cons,
+                  tally-cons,
+                  tally-nil,
+                  ← ha,
+                  ← ev,
+                  ← ew,
+                  ← (middle s sh i f l v w ev ew key),
+                  ← (p-there s sh i at ea),
+                  ← (q-there s sh i at ea),
+                  ← (r-there s sh i at ea),
+                )
+                (one-added key v w _ _ _ a e)
 
-      module _ (t : Bool) (b : Tally) (hb : b ≡ added t (i32At s at) a) where
-        bound-b : (natAbs (b .sum) ≤ 2 ^ 41 + greatestWeight) × (b .count ≤ 769)
-        bound-b =
-            let g = added-bound t (i32At s at) a p-within in
-            rw hb (omega (arith, bound .0, g .0), omega (arith, bound .1, g .1))
+        module _ (r : Tally) where
+          pub first-added : key ≡ v → r ≡ more (i32At s at) a → r ≡ tallyOf key (slotsTo s sh (i + 1))
+          first-added e h = h ∙ sym (row-added ∙ rw (eq-eqb key v e))
 
-        pub small-second : Small b
-        small-second = record { sum-small = omega (arith, bound-b .0); count-small = omega (arith, bound-b .1) }
+          module _ (a-not : key ≡ v → ⊥) where
+            pub second-added : key ≡ w → r ≡ more (i32At s (at + 4)) a → r ≡ tallyOf key (slotsTo s sh (i + 1))
+            second-added e h = h ∙ sym (row-added ∙ rw (ne-eqb key v a-not, eq-eqb key w e))
 
-        pub small-third : (t₂ : Bool) (c : Tally) → c ≡ added t₂ (i32At s (at + 4)) b → Small c
-        small-third t₂ c hc =
-            let g = added-bound t₂ (i32At s (at + 4)) b q-within in
-            rw hc (record {
-              sum-small = omega (arith, bound-b .0, g .0);
-              count-small = omega (arith, bound-b .1, g .1);
-            })
+            pub third-added : eqb key w || eqb (v + w) (key * 2) ≡ true → (key ≡ w → ⊥) → r ≡ more (i32At s (at + 8)) a
+                → r ≡ tallyOf key (slotsTo s sh (i + 1))
+            third-added t b h =
+                h ∙ sym (row-added ∙ rw (ne-eqb key v a-not, ne-eqb key w b, rw (ne-eqb key w b) at t))
+
+        pub none-added : (key ≡ v → ⊥) → eqb key w || eqb (v + w) (key * 2) ≡ false → a ≡ tallyOf key (slotsTo s sh (i + 1))
+        none-added e t = sym (row-added ∙ rw (ne-eqb key v e) (neither (eqb key w) (eqb (v + w) (key * 2)) _ _ a t))
 
 -- ---- scan, slots_with and held
 
@@ -266,8 +288,13 @@ module _ (s : List ℕ) (sh : Shape) (f : ProofFacts s sh) (key : ℕ) where
   pub all-counted : (all : Tally) → all ≡ tallyOf key (slotsTo s sh (sh .k)) → CountsKey s sh key (all .count)
   all-counted all e = record { counts = λ α carried ek. rw e (tallied s sh f key α carried ek (sh .k) (omega arith)) }
 
-module _ (s : List ℕ) (sh : Shape) (f : ProofFacts s sh) (key : ℕ) where
+  pub all-fits : (all : Tally) → all ≡ tallyOf key (slotsTo s sh (sh .k)) → Fits w32 (all .count)
+  all-fits all e = rw e (omega (arith, tally-small s sh f key (sh .k) (omega arith) .1))
+
   module _ (i own : ℕ) (before all : Tally) (eb : before ≡ tallyOf key (slotsTo s sh i)) (l : i < sh .k) where
+    pub before-fits : Fits w32 (before .count)
+    before-fits = rw eb (omega (arith, tally-small s sh f key i (omega arith) .1))
+
     pub rank-fits : own < 65536 → Fits w32 (before .count + own)
     rank-fits h = rw eb (omega (arith, tally-small s sh f key i (omega arith) .1))
 

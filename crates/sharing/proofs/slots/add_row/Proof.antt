@@ -1,29 +1,71 @@
+use Rattle.sharing.proofs.slots.Steps.{first-added, second-added, third-added, none-added, ends-fit, p-inside, q-inside, r-inside, p-within, q-within, r-within, tally-room}
 use borrow.Author.Needs.{needs}
-use Rattle.sharing.proofs.slots.Steps.{small-third, lone-added, q-inside, pair-added, small-first, small-second, ends-fit, q-within, p-within, r-inside, p-inside, r-within}
 use Rattle.sharing.proofs.slots.add_row.Statement.{statement}
 use Rattle.sharing.proofs.slots.add_row.Tie as tie
+use Rattle.sharing.proofs.slots.add_row.Reads as reads
+use Rattle.sharing.proofs.slots.add_row.Lts as lts
+use Rattle.rows.proofs.proof_sheet.triple_place.Reads as triple-place-reads
+use Rattle.rows.proofs.proof_sheet.v_key.Reads as v-key-reads
+use Rattle.rows.proofs.proof_sheet.w_key.Reads as w-key-reads
+use Rattle.sharing.proofs.slots.add.Reads as add-reads
 
-add-if-requires : tie.Need-add-if-requires
-add-if-requires c κs = search (needs, p-inside, p-within, small-first)
+v-key-requires : tie.Need-v-key-requires
+v-key-requires c κs = search needs
+
+w-key-requires : tie.Need-w-key-requires
+w-key-requires c κs = search needs
+
+triple-place-requires : tie.Need-triple-place-requires
+triple-place-requires c κs = search needs
+
+add-requires : tie.Need-add-requires
+add-requires c κs = search (needs, p-inside, p-within, tally-room)
 
 returns : tie.Need-returns
-returns c = search lone-added
+returns c = search first-added
 
-add-if-requires-2 : tie.Need-add-if-requires-2
-add-if-requires-2 c κs = search (needs, q-inside, q-within, small-second)
+add-if2 : tie.Need-add-if2
+add-if2 c = search ends-fit
 
-add-add-if-2 : tie.Need-add-add-if-2
-add-add-if-2 c = search ends-fit
+mul-if2 : tie.Need-mul-if2
+mul-if2 c = search needs
 
-add-if-requires-3 : tie.Need-add-if-requires-3
-add-if-requires-3 c κs = search (needs, r-inside, r-within, small-third)
+add-add : tie.Need-add-add
+add-add c = search needs
+
+add-requires-2 : tie.Need-add-requires-2
+add-requires-2 c κs = search (needs, q-inside, q-within, tally-room)
 
 returns-2 : tie.Need-returns-2
-returns-2 c = search pair-added
+returns-2 c = search second-added
+
+add-add-2 : tie.Need-add-add-2
+add-add-2 c = search needs
+
+add-requires-3 : tie.Need-add-requires-3
+add-requires-3 c κs = search (needs, r-inside, r-within, tally-room)
+
+returns-3 : tie.Need-returns-3
+returns-3 c = search third-added
+
+returns-4 : tie.Need-returns-4
+returns-4 c = search none-added
 
 pub add-row-spec : {M : Type 1} → statement M
 add-row-spec =
     tie.close
-    (tie.spec (λ c κs. search needs) (λ c κs. search needs) (λ c κs. search needs) add-if-requires returns
-    (λ c. search needs) add-if-requires-2 add-add-if-2 (λ c. search needs) (λ c. search needs) add-if-requires-3
-    returns-2)
+    (tie.spec
+    v-key-requires
+    w-key-requires
+    triple-place-requires
+    add-requires
+    returns
+    add-if2
+    mul-if2
+    add-add
+    add-requires-2
+    returns-2
+    add-add-2
+    add-requires-3
+    returns-3
+    returns-4)
