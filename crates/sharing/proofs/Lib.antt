@@ -1,1 +1,2 @@
 pub mod Sharing
+pub mod Order

@@ -1,3 +1,4 @@
 pub mod Sharing
 pub mod Slots
 pub mod Shifts
+pub mod Order

@@ -3,6 +3,7 @@ use crate::layout::count;
 use crate::layout::place_of;
 use integers::words::read_i32;
 use keys::keys::key_at;
+use keys::keys::key_from;
 use points::points::Point;
 use points::points::point_at;
 ghost use mathlib.Core.Path.{_≡_};
@@ -37,12 +38,16 @@ pub fn term_point(claim: &[u8], n: usize, t: usize, i: usize) -> Point
     point_at(claim, place_of(8, i, n), n)
 }
 
-// The key of term i's point.
+// The key of term i's point. Eight bytes begin with it, save in a claim of one term, where eight bytes end with it.
 pub fn term_key(claim: &[u8], n: usize, t: usize, i: usize) -> u64
     requires { ⌜ (ClaimRoom (now claim) n t) × (1 ≤ n) × (i < t) ⌝ }
     ensures { λ r. ⌜ r ≡ keyOf (termPoint (now (claim .entry)) n i) ⌝ }
 {
-    key_at(claim, place_of(8, i, n), n)
+    let at = place_of(8, i, n);
+    if t == 1 {
+        return key_at(claim, at, n);
+    }
+    key_from(claim, at, n)
 }
 
 // The coefficient of term i.

@@ -181,7 +181,7 @@ coefficient-none P α (t ∷ L) s d = go (samePoint α (t .0)) (same-eq α (t .0
 -- ---- slots gathered from rows, whatever a row is
 
 module _ {A : Type 0} (own : A → Sum) where
-  gathered-append : (rows more : List A) → gathered own (rows ++ more) ≡ gathered own rows ++ gathered own more
+  pub gathered-append : (rows more : List A) → gathered own (rows ++ more) ≡ gathered own rows ++ gathered own more
   unfolding gathered
   gathered-append [] more = refl
   gathered-append (a ∷ rows) more =

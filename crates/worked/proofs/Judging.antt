@@ -26,7 +26,7 @@ use Rattle.weighing.specs.Exact.{weightsFor, exactProof}
 use Rattle.weighing.specs.Weighed.{weighedAnswer}
 use Rattle.judging.specs.Check.{targetsOf, checkAnswer, outputOf}
 use Rattle.floors.specs.Search as F
-use Rattle.worked.specs.Sheets.{joined, word, words, claimOf, proofOf, squareWith, square, squareProof, oneRow, bare, noRows, motzkin, motzkinProof, motzkinBytes, motzkinProofBytes, oneTerm}
+use Rattle.worked.specs.Sheets.{joined, word, words, claimOf, proofOf, squareWith, square, squareProof, oneRow, bare, noRows, motzkin, motzkinProof, motzkinExchanged, motzkinBytes, motzkinProofBytes, oneTerm}
 use Rattle.worked.specs.Judging.{spare, accepts, refuses, motzkinExact, marked, tabled, worked, Worked}
 use Rattle.worked.specs.Searches as S
 
@@ -41,7 +41,7 @@ unfolding
     oneRow count errorAt shiftedWeight aimOf targetOf slotsTo rankOf shiftedWeights shiftRow slotsBefore
     shiftedRow shiftedRows headAnswer roomAnswer bodyAnswer inputAnswer pointFor unheldAt unheld unheldAnswer
     negative indefinite judgePair judgeLone judgementOf numberOf judgedAs firstsTo judgedAnswer weightsFor
-    exactProof weighedAnswer targetsOf checkAnswer outputOf bare noRows motzkin motzkinProof motzkinBytes
+    exactProof weighedAnswer targetsOf checkAnswer outputOf bare noRows motzkin motzkinProof motzkinExchanged motzkinBytes
     motzkinProofBytes oneTerm spare accepts refuses motzkinExact marked tabled worked withFloor F.rangeWrong
     F.rangeAnswer F.floorCount F.floorAfter F.accepts F.refusedBefore F.toldAfter F.searchOf F.outputBy
     F.searchOutput S.finds S.refuses S.heavy S.loneZero S.cases S.ranges S.worked

@@ -10,7 +10,7 @@ use Rattle.squares.specs.declared.rows.Weights.{Weights}
 use Rattle.squares.specs.declared.rows.Weights.the-variants.{Pair, Lone}
 use Rattle.sharing.specs.Shifts.{shiftedRows}
 use Rattle.judging.specs.Check.{targetsOf, checkAnswer, outputOf}
-use Rattle.worked.specs.Sheets.{claimOf, proofOf, squareWith, square, squareProof, oneRow, bare, noRows, motzkin, motzkinProof, motzkinBytes, motzkinProofBytes, oneTerm}
+use Rattle.worked.specs.Sheets.{claimOf, proofOf, squareWith, square, squareProof, oneRow, bare, noRows, motzkin, motzkinProof, motzkinExchanged, motzkinBytes, motzkinProofBytes, oneTerm}
 
 -- two sheets and an output; the weights that every row has after the shift, the answer, and the output afterwards
 pub record Case : Type 0 where
@@ -70,6 +70,10 @@ marked =
     -- G: "Accepted"; H: "the first slot takes it, same result as G"
     ∷ accepts motzkinBytes motzkinProofBytes motzkinExact 3 motzkinProofBytes
     ∷ accepts motzkin (motzkinProof (negsuc 2)) motzkinExact 3 motzkinProofBytes
+    -- H with its first two rows exchanged: the same error, and the other row's slot takes it
+    ∷ refuses motzkin (motzkinExchanged (negsuc 2))
+    (Pair (pos 3) (pos 2) (negsuc 3) ∷ Pair (pos 1) (pos 1) (negsuc 2) ∷ Pair (pos 1) (pos 1) (negsuc 1) ∷ [])
+    (refused 19 1)
     -- I: "shares 0 and −1, the second row's p is 1, refused 19 at 1"
     ∷ refuses motzkin (motzkinProof (negsuc 0))
     (Pair (pos 1) (pos 1) (negsuc 0) ∷ Pair (pos 1) (pos 2) (negsuc 3) ∷ Pair (pos 1) (pos 1) (negsuc 1) ∷ [])

@@ -65,6 +65,13 @@ motzkinProof r =
     ((0 ∷ 0 ∷ []) ∷ (2 ∷ 4 ∷ []) ∷ (1 ∷ 2 ∷ []) ∷ (3 ∷ 2 ∷ []) ∷ (2 ∷ 2 ∷ []) ∷ (4 ∷ 2 ∷ []) ∷ [])
     (pos 1 ∷ pos 1 ∷ r ∷ pos 2 ∷ pos 2 ∷ negsuc 3 ∷ pos 1 ∷ pos 1 ∷ negsuc 1 ∷ [])
 
+-- the same with its first two rows exchanged
+unfoldable pub motzkinExchanged : ℤ → List ℕ
+motzkinExchanged r =
+    proofOf 2 (pos 1) 3
+    ((1 ∷ 2 ∷ []) ∷ (3 ∷ 2 ∷ []) ∷ (0 ∷ 0 ∷ []) ∷ (2 ∷ 4 ∷ []) ∷ (2 ∷ 2 ∷ []) ∷ (4 ∷ 2 ∷ []) ∷ [])
+    (pos 2 ∷ pos 2 ∷ negsuc 3 ∷ pos 1 ∷ pos 1 ∷ r ∷ pos 1 ∷ pos 1 ∷ negsuc 1 ∷ [])
+
 -- one term in one variable
 unfoldable pub oneTerm : ℕ → ℤ → List ℕ
 oneTerm e x = claimOf 1 (pos 0) ((e ∷ []) ∷ []) (x ∷ [])

@@ -19,6 +19,9 @@ module _ (c : List ℕ) (n t i : ℕ) (room : ClaimRoom c n t) (l : i < t) where
   pub point-late : (at : ℕ) → at ≡ pointAt n i → 8 ≤ at + n
   point-late at e = omega arith
 
+  pub point-eight : (at : ℕ) → at ≡ pointAt n i → (t ≡ 1 → ⊥) → at + 8 ≤ length c
+  point-eight at e more = let two : 2 ≤ t = omega arith in omega (arith, mul-le-mul-right n l)
+
   -- coefficient
   pub points-low : (at : ℕ) → at ≡ place 8 t n → at ≤ 16777216
   points-low at e = omega (arith, mul-le-mul (room .terms) (room .few))
