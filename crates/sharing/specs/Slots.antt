@@ -47,6 +47,10 @@ more x a = record { sum = a .sum +ℤ x; count = a .count + 1 }
 unfoldable pub added : Bool → ℤ → Tally → Tally
 added hit x a = cond hit (more x a) a
 
+-- from a row's first weight to the one at its second end, or at its midpoint
+abbrev pub stepTo : Bool → ℕ
+stepTo second = cond second 4 8
+
 -- what was tallied, and the slots whose point has the key
 unfoldable pub tallyFrom : ℕ → Tally → Sum → Tally
 tallyFrom key a [] = a

@@ -12,7 +12,7 @@ ghost use Rattle.integers.specs.Words.{i32At};
 ghost use Rattle.bounds.specs.Bounds.{greatestWeight};
 ghost use Rattle.checks.specs.ProofChecks.{ProofFacts};
 ghost use Rattle.targets.specs.Carried.{CarriedKey};
-ghost use Rattle.sharing.specs.Slots.{Small, HoldsKey, CountsKey, slotsTo, more, tallyOf, holdingOf};
+ghost use Rattle.sharing.specs.Slots.{Small, HoldsKey, CountsKey, slotsTo, more, stepTo, tallyOf, holdingOf};
 
 // What the slots at a point weigh together, and how many they are: two numbers of 64 bits, which stay in registers.
 pub struct Tally {
@@ -38,6 +38,13 @@ fn add(proof: &[u8], at: usize, a: Tally) -> Tally
     }
 }
 
+// How far after a row's first weight the weight at its second end stands, or else the one at its midpoint.
+fn weight_step(second: bool) -> usize
+    ensures { λ r. ⌜ (r ≡ stepTo second) × (r ≤ 8) ⌝ }
+{
+    if second { 4 } else { 8 }
+}
+
 // The slots of one row more, of which one at most is at a point: a pair's midpoint has the key where twice the key is
 // the sum of its ends' keys.
 fn add_row(proof: &[u8], shape: Shape, i: usize, key: u64, a: Tally) -> Tally
@@ -52,10 +59,7 @@ fn add_row(proof: &[u8], shape: Shape, i: usize, key: u64, a: Tally) -> Tally
         return add(proof, at, a);
     }
     if (key == w) | (v + w == key * 2) {
-        if key == w {
-            return add(proof, at + 4, a);
-        }
-        return add(proof, at + 8, a);
+        return add(proof, at + weight_step(key == w), a);
     }
     a
 }

@@ -31,7 +31,7 @@ use Rattle.checks.specs.ProofChecks.{Within, ProofFacts}
 use Rattle.targets.specs.Carried.{Carried, CarriedKey}
 use Rattle.targets.proofs.Carried.{carried-same, carried-low}
 use Rattle.sharing.specs.Sharing.{count}
-use Rattle.sharing.specs.Slots.{CountsKey, Small, HoldsKey, slotsTo, holdsPoint, more, added, tallyFrom, tallyOf, holdingOf}
+use Rattle.sharing.specs.Slots.{CountsKey, Small, HoldsKey, slotsTo, holdsPoint, more, added, stepTo, tallyFrom, tallyOf, holdingOf}
 use Rattle.sharing.specs.declared.slots.Tally.{Tally}
 use Rattle.sharing.proofs.Sharing.{count-cons, count-nil}
 use Rattle.sharing.proofs.slots.Laws.{added-bound, key-bound, lone-slots, middle-carried, no-slots, pair-slots, tally-cons, tally-nil, tally-small, tallied, v-carried, w-carried}
@@ -196,20 +196,16 @@ module _ (s : List ℕ) (sh : Shape) (i : ℕ) (f : ProofFacts s sh) (l : i < sh
     pub p-inside : at + 4 ≤ length s
     p-inside = omega (arith, inside)
 
-    pub q-inside : at + 4 + 4 ≤ length s
-    q-inside = omega (arith, inside)
-
-    pub r-inside : at + 8 + 4 ≤ length s
-    r-inside = omega (arith, inside)
+    pub later-inside : (b : Bool) (step : ℕ) → step ≡ stepTo b → at + step + 4 ≤ length s
+    later-inside true step e = omega (arith, inside)
+    later-inside false step e = omega (arith, inside)
 
     pub p-within : natAbs (i32At s at) ≤ greatestWeight
     p-within = rw (p-there s sh i at ea) (weights .p-within)
 
-    pub q-within : natAbs (i32At s (at + 4)) ≤ greatestWeight
-    q-within = rw (q-there s sh i at ea) (weights .q-within)
-
-    pub r-within : natAbs (i32At s (at + 8)) ≤ greatestWeight
-    r-within = rw (r-there s sh i at ea) (weights .r-within)
+    pub later-within : (b : Bool) (step : ℕ) → step ≡ stepTo b → natAbs (i32At s (at + step)) ≤ greatestWeight
+    later-within true step e = rw (e, q-there s sh i at ea) (weights .q-within)
+    later-within false step e = rw (e, r-there s sh i at ea) (weights .r-within)
 
     module _ (key : ℕ) (a : Tally) (ha : a ≡ tallyOf key (slotsTo s sh i)) where
       pub tally-room : Small a
@@ -255,21 +251,25 @@ module _ (s : List ℕ) (sh : Shape) (i : ℕ) (f : ProofFacts s sh) (l : i < sh
                 )
                 (one-added key v w _ _ _ a e)
 
-        module _ (r : Tally) where
-          pub first-added : key ≡ v → r ≡ more (i32At s at) a → r ≡ tallyOf key (slotsTo s sh (i + 1))
-          first-added e h = h ∙ sym (row-added ∙ rw (eq-eqb key v e))
+        pub first-added : (r : Tally) → key ≡ v → r ≡ more (i32At s at) a → r ≡ tallyOf key (slotsTo s sh (i + 1))
+        first-added r e h = h ∙ sym (row-added ∙ rw (eq-eqb key v e))
 
-          module _ (a-not : key ≡ v → ⊥) where
-            pub second-added : key ≡ w → r ≡ more (i32At s (at + 4)) a → r ≡ tallyOf key (slotsTo s sh (i + 1))
-            second-added e h = h ∙ sym (row-added ∙ rw (ne-eqb key v a-not, eq-eqb key w e))
+        module _ (past : key ≡ v → ⊥) where
+          pub later-added : (r : Tally) (step : ℕ) → eqb key w || eqb (v + w) (key * 2) ≡ true → step ≡ stepTo (eqb key w)
+              → r ≡ more (i32At s (at + step)) a → r ≡ tallyOf key (slotsTo s sh (i + 1))
+          later-added r step t e h =
+              h ∙ sym (row-added ∙ rw (ne-eqb key v past, e) (go (eqb key w) (eqb (v + w) (key * 2)) t))
+            where
+              go : (b d : Bool) → b || d ≡ true
+                  → cond b (more (i32At s (at + 4)) a) (cond d (more (i32At s (at + 8)) a) a)
+                  ≡ more (i32At s (at + stepTo b)) a
+              go true d t = refl
+              go false true t = refl
+              go false false t = absurd (false≢true t)
 
-            pub third-added : eqb key w || eqb (v + w) (key * 2) ≡ true → (key ≡ w → ⊥) → r ≡ more (i32At s (at + 8)) a
-                → r ≡ tallyOf key (slotsTo s sh (i + 1))
-            third-added t b h =
-                h ∙ sym (row-added ∙ rw (ne-eqb key v a-not, ne-eqb key w b, rw (ne-eqb key w b) at t))
-
-        pub none-added : (key ≡ v → ⊥) → eqb key w || eqb (v + w) (key * 2) ≡ false → a ≡ tallyOf key (slotsTo s sh (i + 1))
-        none-added e t = sym (row-added ∙ rw (ne-eqb key v e) (neither (eqb key w) (eqb (v + w) (key * 2)) _ _ a t))
+          pub none-added : eqb key w || eqb (v + w) (key * 2) ≡ false → a ≡ tallyOf key (slotsTo s sh (i + 1))
+          none-added t =
+              sym (row-added ∙ rw (ne-eqb key v past) (neither (eqb key w) (eqb (v + w) (key * 2)) _ _ a t))
 
 -- ---- scan, slots_with and held
 

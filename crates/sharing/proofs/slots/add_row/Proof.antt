@@ -1,4 +1,4 @@
-use Rattle.sharing.proofs.slots.Steps.{first-added, second-added, third-added, none-added, ends-fit, p-inside, q-inside, r-inside, p-within, q-within, r-within, tally-room}
+use Rattle.sharing.proofs.slots.Steps.{first-added, later-added, none-added, ends-fit, p-inside, later-inside, p-within, later-within, tally-room}
 use borrow.Author.Needs.{needs}
 use Rattle.sharing.proofs.slots.add_row.Statement.{statement}
 use Rattle.sharing.proofs.slots.add_row.Tie as tie
@@ -8,6 +8,7 @@ use Rattle.rows.proofs.proof_sheet.triple_place.Reads as triple-place-reads
 use Rattle.rows.proofs.proof_sheet.v_key.Reads as v-key-reads
 use Rattle.rows.proofs.proof_sheet.w_key.Reads as w-key-reads
 use Rattle.sharing.proofs.slots.add.Reads as add-reads
+use Rattle.sharing.proofs.slots.weight_step.Reads as weight-step-reads
 
 v-key-requires : tie.Need-v-key-requires
 v-key-requires c κs = search needs
@@ -30,26 +31,20 @@ add-if2 c = search ends-fit
 mul-if2 : tie.Need-mul-if2
 mul-if2 c = search needs
 
+weight-step-requires : tie.Need-weight-step-requires
+weight-step-requires c κs = search needs
+
 add-add : tie.Need-add-add
 add-add c = search needs
 
 add-requires-2 : tie.Need-add-requires-2
-add-requires-2 c κs = search (needs, q-inside, q-within, tally-room)
+add-requires-2 c κs = search (needs, later-inside, later-within, tally-room)
 
 returns-2 : tie.Need-returns-2
-returns-2 c = search second-added
-
-add-add-2 : tie.Need-add-add-2
-add-add-2 c = search needs
-
-add-requires-3 : tie.Need-add-requires-3
-add-requires-3 c κs = search (needs, r-inside, r-within, tally-room)
+returns-2 c = search later-added
 
 returns-3 : tie.Need-returns-3
-returns-3 c = search third-added
-
-returns-4 : tie.Need-returns-4
-returns-4 c = search none-added
+returns-3 c = search none-added
 
 pub add-row-spec : {M : Type 1} → statement M
 add-row-spec =
@@ -62,10 +57,8 @@ add-row-spec =
     returns
     add-if2
     mul-if2
+    weight-step-requires
     add-add
     add-requires-2
     returns-2
-    add-add-2
-    add-requires-3
-    returns-3
-    returns-4)
+    returns-3)
