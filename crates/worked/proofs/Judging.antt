@@ -1,5 +1,7 @@
 -- The cases of checks and of searches, computed.
 use mathlib.Core.Path.{refl}
+use mathlib.Core.List.{[], _∷_}
+use lib.IntN.{negsuc}
 use Rattle.integers.specs.Words.{u32At, i32At, withBits, withI32}
 use Rattle.integers.specs.Division.{floorDiv, floorMod, share}
 use Rattle.bounds.specs.Bounds.{beyond}
@@ -10,6 +12,7 @@ use Rattle.points.specs.Points.{bytesAt, every, everyPair, samePoint, risesTo, 
 use Rattle.squares.specs.Sums.{gathered, coefficient}
 use Rattle.squares.specs.Rows.{slotsAt}
 use Rattle.squares.specs.Targets.{lowered, worst, target}
+use Rattle.sheets.specs.Layout.{shapeOf}
 use Rattle.sheets.specs.ClaimSheet.{floorOf, withFloor, termPoint, coefficientOf, termOf, termsOf}
 use Rattle.rows.specs.ProofSheet.{scaleOf, vOf, wOf, wordsAt, tripleOf, weightsOf, rowOf, rowsOf, tripleFor}
 use Rattle.writing.specs.Writing.{withTriple, withWeights, withRows}
@@ -27,7 +30,7 @@ use Rattle.weighing.specs.Weighed.{weighedAnswer}
 use Rattle.judging.specs.Check.{targetsOf, checkAnswer, outputOf}
 use Rattle.floors.specs.Search as F
 use Rattle.worked.specs.Sheets.{joined, word, words, claimOf, proofOf, squareWith, square, squareProof, oneRow, bare, noRows, motzkin, motzkinProof, motzkinExchanged, motzkinBytes, motzkinProofBytes, oneTerm}
-use Rattle.worked.specs.Judging.{spare, accepts, refuses, motzkinExact, marked, tabled, worked, Worked}
+use Rattle.worked.specs.Judging.{spare, accepts, refuses, motzkinExact, marked, tabled, worked, Worked, Exchanged}
 use Rattle.worked.specs.Searches as S
 
 computed : Worked × S.Worked
@@ -52,3 +55,12 @@ all-worked = computed .0
 
 pub all-searched : S.Worked
 all-searched = computed .1
+
+-- the second sheet has H's second row first, then its first
+pub rows-exchanged : Exchanged
+unfolding
+    u32At i32At table bytesAt samePoint everyPair vOf wOf wordsAt tripleOf weightsOf rowOf rowsOf joined word words
+    proofOf motzkinProof motzkinExchanged
+rows-exchanged =
+    let row = rowOf (motzkinProof (negsuc 2)) (shapeOf (motzkinProof (negsuc 2))) in
+    (row 1 ∷ [], row 2 ∷ [], refl, ([], row 2 ∷ [], refl, ([], [], refl, refl)))

@@ -8,6 +8,8 @@ use Rattle.answers.specs.Answers.{Answer, proof, output, accepted, refused}
 use Rattle.squares.specs.Rows.{Row}
 use Rattle.squares.specs.declared.rows.Weights.{Weights}
 use Rattle.squares.specs.declared.rows.Weights.the-variants.{Pair, Lone}
+use Rattle.rows.specs.ProofSheet.{rowsOf}
+use Rattle.sharing.specs.Order.{Reordered}
 use Rattle.sharing.specs.Shifts.{shiftedRows}
 use Rattle.judging.specs.Check.{targetsOf, checkAnswer, outputOf}
 use Rattle.worked.specs.Sheets.{claimOf, proofOf, squareWith, square, squareProof, oneRow, bare, noRows, motzkin, motzkinProof, motzkinExchanged, motzkinBytes, motzkinProofBytes, oneTerm}
@@ -115,3 +117,7 @@ worked a = record {
 
 abbrev pub Worked : Type 0
 Worked = map worked (marked ++ tabled) ≡ marked ++ tabled
+
+-- H's rows in another order are those of the sheet beside it: its errors are the same, and its shares are not
+abbrev pub Exchanged : Type 0
+Exchanged = Reordered (rowsOf (motzkinProof (negsuc 2))) (rowsOf (motzkinExchanged (negsuc 2)))

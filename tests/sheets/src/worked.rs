@@ -1,4 +1,4 @@
-//! The worked sheets A to J of document 01.
+//! The worked sheets A to J of document 01, and H with two rows exchanged.
 
 use crate::{Claim, Example, Proof};
 
@@ -46,6 +46,13 @@ pub fn motzkin_proof(first_cross: i32) -> Proof {
     )
 }
 
+/// The same with its first two rows exchanged.
+fn motzkin_exchanged(first_cross: i32) -> Proof {
+    let mut proof = motzkin_proof(first_cross);
+    proof.rows.swap(0, 1);
+    proof
+}
+
 /// J: 1 at point 56, whose value at offset 2 is 2^56.
 pub fn power_claim(exponent: u8) -> Claim {
     Claim::new(0, &[([exponent], 1)])
@@ -87,6 +94,12 @@ pub fn examples() -> Vec<Example> {
         empty("F-minus", -1, "refused 16 at 0\n"),
         motzkin("G", -2, MOTZKIN_TEXT),
         motzkin("H", -3, MOTZKIN_TEXT),
+        Example {
+            name: "H-exchanged",
+            claim: motzkin_claim(),
+            proof: motzkin_exchanged(-3),
+            text: "refused 19 at 1\n",
+        },
         motzkin("I", -1, "refused 19 at 1\n"),
         Example {
             name: "J",
