@@ -67,6 +67,19 @@ pub fn power(base: i64, e: u8) -> Bounded
     product(Bounded::Value(base), power(base, e - 1))
 }
 
+// An exponent of the same power, so that 0, 1 and −1 are multiplied at most twice: their powers go by parity.
+fn reduced(base: i64, e: u8) -> u8
+    ensures { λ r. ⌜ powerOf base r ≡ powerOf base e ⌝ }
+{
+    if e < 3 {
+        return e;
+    }
+    if 1 < magnitude(base) {
+        return e;
+    }
+    2 - e % 2
+}
+
 // The offset of variable i.
 fn offset_at(offsets: &[i32], i: usize) -> i64
     requires { ⌜ i < length (now offsets) ⌝ }
@@ -85,7 +98,8 @@ pub fn monomial(p: Point, offsets: &[i32]) -> Bounded
     let mut value = Bounded::Value(1);
     while 0 < i {
         i -= 1;
-        value = product(power(offset_at(offsets, i), e[i]), value);
+        let x = offset_at(offsets, i);
+        value = product(power(x, reduced(x, e[i])), value);
     }
     value
 }

@@ -3,10 +3,10 @@
 use mathlib.Core.Path.{_≡_, refl, sym, _∙_, ap}
 use mathlib.Core.Bool.{true, Bool, false, cond}
 use mathlib.Core.List.{List, [], _∷_}
-use Prim.Native.Nat.{ℕ, zero, suc, _+_, _/_, _%_, _≤_, _<_}
+use Prim.Native.Nat.{ℕ, zero, suc, _+_, _-_, _/_, _%_, _≤_, _<_}
 use native.Mathlib.Nat.{zero-add, suc-add}
 use native.Mathlib.Omega.{arith}
-use lib.IntN.{ℤ, pos, _*ℤ_, natAbs}
+use lib.IntN.{ℤ, pos, negsuc, _*ℤ_, natAbs}
 use lib.ListN.{replicate}
 use lib.Signed.{_≤ℤ_}
 use lib.Dec.{leb}
@@ -36,6 +36,24 @@ power-even : (x : ℤ) (e : ℕ) → e % 2 ≡ 0 → pos 0 ≤ℤ powerOf x e
 power-even x e h =
     let k : e ≡ e / 2 + e / 2 = omega arith in
     rw (k, power-add) (square-nonneg (powerOf x (e / 2)))
+
+-- the powers of 0, 1 and −1 with positive exponents: two more change nothing, so they go by parity
+power-two-more : (x : ℤ) (e : ℕ) → natAbs x ≤ 1 → powerOf x (suc (suc (suc e))) ≡ powerOf x (suc e)
+unfolding powerOf
+power-two-more (pos zero) zero h = refl
+power-two-more (pos (suc zero)) zero h = refl
+power-two-more (pos (suc (suc n))) zero h = absurd (omega arith)
+power-two-more (negsuc zero) zero h = refl
+power-two-more (negsuc (suc n)) zero h = absurd (omega arith)
+power-two-more x (suc e) h = ap (λ (y : ℤ). x *ℤ y) (power-two-more x e h)
+
+pub power-parity : (x : ℤ) (e : ℕ) → natAbs x ≤ 1 → 0 < e → powerOf x (2 - e % 2) ≡ powerOf x e
+power-parity x zero h l = absurd (omega arith)
+power-parity x (suc zero) h l = refl
+power-parity x (suc (suc zero)) h l = refl
+power-parity x (suc (suc (suc e))) h l =
+    let p : suc (suc (suc e)) % 2 ≡ suc e % 2 = omega arith in
+    rw (p, power-two-more x e h) (power-parity x (suc e) h (omega arith))
 
 -- ---- monomials
 

@@ -2,7 +2,7 @@
 use mathlib.Core.Path.{_≡_, refl, _∙_, ap}
 use mathlib.Core.Bool.{Bool, true, false, cond}
 use mathlib.Core.List.{List, [], _∷_}
-use Prim.Native.Nat.{ℕ, zero, suc, _-_, _*_, _/_, _≤_, _<_, min}
+use Prim.Native.Nat.{ℕ, zero, suc, _-_, _*_, _/_, _%_, _≤_, _<_, min}
 use native.Mathlib.Nat.{mul-le-mul-right, le-div-iff-mul-le, div-lt-iff-lt-mul}
 use native.Mathlib.Omega.{arith}
 use lib.Dec.{eqb}
@@ -21,7 +21,7 @@ use Rattle.points.proofs.points.Laws.{exponents-counted, Places}
 use Rattle.monomials.specs.Powers.{powerOf, monomialOf, Represents, within, largeTimes, productOf}
 use Rattle.monomials.specs.declared.powers.Bounded.{Bounded}
 use Rattle.monomials.specs.declared.powers.Bounded.the-variants.{Value, TooLarge}
-use Rattle.monomials.proofs.powers.Laws.{by-size}
+use Rattle.monomials.proofs.powers.Laws.{power-parity, by-size}
 
 represents-within : (b : Bounded) (z : ℤ) → Represents b z → b ≡ within z
 unfolding within
@@ -130,6 +130,10 @@ pub power-more : (b b′ b″ : ℤ) (e : ℕ) (r q : Bounded) → (e ≡ 0 → 
     → q ≡ within (powerOf b e)
 power-more b b′ b″ e r q h er s eq t = rw (power-less b e h) (eq ∙ rw (er, s, t) (product-value b (powerOf b (e - 1))))
 
+-- reduced
+pub reduced-parity : (x x′ : ℤ) (m e : ℕ) → m ≡ natAbs x′ → x′ ≡ x → m ≤ 1 → 3 ≤ e → powerOf x (2 - e % 2) ≡ powerOf x e
+reduced-parity x x′ m e em s h l = power-parity x e (rw (← s, ← em) h) (omega arith)
+
 -- monomial: the product of the powers from a variable on
 monomial-past : (x : List ℤ) (α : Exponents) (i : ℕ) → min (length α) (length x) ≤ i
     → monomialOf (drop i x) (drop i α) ≡ pos 1
@@ -159,19 +163,21 @@ from-start x e n i h =
     represents-within (Value (pos 1)) (From x e n i)
     (rw (monomial-past x (take n e) i (omega (arith, length-take n e))) (refl, omega arith))
 
-pub from-next : (x : List ℤ) (e : List ℕ) (n i : ℕ) (b b′ : ℤ) (r v q : Bounded) → v ≡ within (From x e n i) → 0 < i
-    → i ≤ length x → i ≤ n → n ≤ mostVariables → Places e
-    → b ≡ getD x (i - 1) (pos 0) → b′ ≡ b → r ≡ within (powerOf b′ (getD e (i - 1) 0)) → q ≡ productOf r v
+pub from-next : (x : List ℤ) (e : List ℕ) (n i d : ℕ) (b b′ b″ : ℤ) (r v q : Bounded) → v ≡ within (From x e n i)
+    → 0 < i → i ≤ length x → i ≤ n → n ≤ mostVariables → Places e
+    → b ≡ getD x (i - 1) (pos 0) → b′ ≡ b → powerOf b′ d ≡ powerOf b′ (getD e (i - 1) 0)
+    → b″ ≡ b → r ≡ within (powerOf b″ d) → q ≡ productOf r v
     → q ≡ within (From x e n (i - 1))
 unfolding From
-from-next x e n i b b′ r v q ev l h k m le eb s er eq =
+from-next x e n i d b b′ b″ r v q ev l h k m le eb s ed t er eq =
     let j : suc (i - 1) ≡ i = omega arith in
+    let same : powerOf b d ≡ powerOf b (getD e (i - 1) 0) = rw s at ed in
     rw (
       monomial-cons x (take n e) (i - 1) (omega arith) (omega (arith, length-take n e)),
       j,
       getD-take n e (i - 1) 0 (omega arith),
     )
-    (eq ∙ rw (er, ev, s, eb)
+    (eq ∙ rw (er, ev, t, same, eb)
     (product-within (powerOf (getD x (i - 1) (pos 0)) (getD e (i - 1) 0)) (monomialOf (drop i x) (drop i (take n e)))))
 
 pub from-end : (x : List ℤ) (p : Point) (n i : ℕ) (v : Bounded) → v ≡ within (From x (p .exps) n i) → i ≤ 0
