@@ -1,5 +1,5 @@
-//! The library's evaluation in Rust with i64: powers recurse on the exponent, and a product knows
-//! when it is past 2^56.
+//! The library's evaluation in Rust with i64: powers recurse on the exponent, which is reduced for
+//! bases of 0, 1 and -1, and a product knows when it is past 2^56.
 
 use crate::fields::{refuse_at, Refusal, Sheets};
 
@@ -23,12 +23,23 @@ fn exact_value(claim: &[u8], offsets: &[i32]) -> Result<i64, Refusal> {
     let mut sum = 0;
     for term in 0..sheets.t {
         let powers = sheets.point(term).iter().zip(offsets);
-        let powers = powers.map(|(&exponent, &offset)| power(offset.into(), exponent));
+        let powers = powers.map(|(&exponent, &offset)| {
+            let base = i64::from(offset);
+            power(base, reduced(base, exponent))
+        });
         let value = powers.fold(Some(sheets.coefficient(term)), product);
         refuse_at(21, value.is_none().then_some(term))?;
         sum += value.unwrap_or(0);
     }
     Ok(sum)
+}
+
+/// An exponent of the same power: the powers of 0, 1 and -1 go by parity.
+fn reduced(base: i64, exponent: u8) -> u8 {
+    if exponent < 3 || base.unsigned_abs() > 1 {
+        return exponent;
+    }
+    2 - exponent % 2
 }
 
 fn power(base: i64, exponent: u8) -> Bounded {

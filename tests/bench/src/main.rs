@@ -102,13 +102,18 @@ fn search_times(claim: &Claim, proof: &Proof, floors: Floors) -> [Times; 3] {
     times([by_library, by_same_method, by_checks], &search, unfound, answer)
 }
 
-/// Polynomials of 64 terms in 8 variables: with exponents 0 to 2 and small offsets, and with
-/// exponents of 120 and offsets of ±1. The first variable's exponents rise from 0 to 63.
+/// Polynomials of 64 terms in 8 variables: with exponents 0 to 2 and small offsets; with exponents
+/// of 120 and offsets of ±1; with terms near 2^56, by exponents of 7 and offsets of ±2 or by one
+/// exponent of 53. The first variable's exponents rise from 0 to 63, and its offset is 1.
 fn time_evaluations() {
     let small = |term: u8, variable: u8| (term >> variable) % 3;
     let large = |_, _| 120;
+    let middle = |_, _| 7;
+    let one = |_, variable| if variable == 1 { 53 } else { 0 };
     print_evaluation("exponents 0 to 2", small, [1, 3, -2, 1, -1, 2, 5, -3]);
     print_evaluation("exponents 120", large, [1, -1, 1, -1, 1, -1, 1, -1]);
+    print_evaluation("exponents 7", middle, [1, -2, 2, -2, 2, -2, 2, -2]);
+    print_evaluation("one exponent of 53", one, [1, -2, 2, -2, 2, -2, 2, -2]);
 }
 
 fn print_evaluation(name: &str, exponent: fn(u8, u8) -> u8, offsets: [i32; 8]) {
