@@ -4,9 +4,11 @@ use integers::magnitudes::magnitude;
 use points::points::Point;
 use points::points::fewer;
 ghost use mathlib.Core.Path.{_≡_};
-ghost use Prim.Native.Nat.{_<_};
+ghost use Prim.Native.Nat.{_*_, _<_};
+ghost use lib.Dec.{leb};
 ghost use lib.IntN.{pos, _*ℤ_};
 ghost use lib.ListN.{length, getD};
+ghost use Rattle.bounds.specs.Bounds.{greatestValue};
 ghost use Rattle.points.specs.Points.{exponents};
 ghost use Rattle.monomials.specs.Powers.{powerOf, monomialOf, within, largeTimes, productOf};
 
@@ -16,19 +18,33 @@ pub enum Bounded {
     TooLarge,
 }
 
+// The square root of the greatest value.
+const ROOT: u64 = 268435456;
+
+// Whether the product of two absolute values is at most the greatest value. Most are told without a division, by the
+// multiple of ROOT next above n.
+fn fits(m: u64, n: u64) -> bool
+    ensures { λ r. ⌜ r ≡ leb (m * n) greatestValue ⌝ }
+{
+    if m < ROOT {
+        if m * (n / ROOT + 1) <= ROOT {
+            return true;
+        }
+    }
+    if m == 0 {
+        return true;
+    }
+    n <= GREATEST_VALUE / m
+}
+
 // The exact product of two numbers.
 fn times(x: i64, y: i64) -> Bounded
     ensures { λ r. ⌜ r ≡ within (x *ℤ y) ⌝ }
 {
-    let m = magnitude(x);
-    let n = magnitude(y);
-    if n == 0 {
-        return Bounded::Value(0);
+    if fits(magnitude(x), magnitude(y)) {
+        return Bounded::Value(x * y);
     }
-    if GREATEST_VALUE / n < m {
-        return Bounded::TooLarge;
-    }
-    Bounded::Value(x * y)
+    Bounded::TooLarge
 }
 
 // What a factor makes of a number that is too large: zero where it is zero.

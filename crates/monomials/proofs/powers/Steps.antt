@@ -1,17 +1,17 @@
 -- The steps of bounded products: `within` respects the products of ℤ, and zero takes in what is too large.
-use mathlib.Core.Path.{_≡_, refl, _∙_, ap}
+use mathlib.Core.Path.{_≡_, refl, sym, _∙_, ap}
 use mathlib.Core.Bool.{Bool, true, false, cond}
 use mathlib.Core.List.{List, [], _∷_}
-use Prim.Native.Nat.{ℕ, zero, suc, _-_, _*_, _/_, _%_, _≤_, _<_, min}
+use Prim.Native.Nat.{ℕ, zero, suc, _+_, _-_, _*_, _/_, _%_, _≤_, _<_, min}
 use native.Mathlib.Nat.{mul-le-mul-right, le-div-iff-mul-le, div-lt-iff-lt-mul}
 use native.Mathlib.Omega.{arith}
-use lib.Dec.{eqb}
-use lib.IntN.{ℤ, pos, natAbs, _*ℤ_, *ℤ-comm, *ℤ-zero, zero-*ℤ}
+use lib.Dec.{leb, eqb}
+use lib.IntN.{ℤ, pos, natAbs, _*ℤ_, *ℤ-comm, zero-*ℤ}
 use lib.ListN.{length, getD, take, drop, length-take}
 use lib.Seq.{drop-cons, drop-nil, getD-take}
-use borrow.Author.Tests.{le-leb, lt-leb, eqb-true, eqb-false, eq-eqb, ne-eqb}
+use borrow.Author.Tests.{leb-true, leb-false, le-leb, lt-leb, eqb-true, eqb-false, eq-eqb, ne-eqb}
 use mir.Syntax.{w64}
-use mir.Val.{SFits}
+use mir.Val.{Fits, SFits}
 use mir.Facts.{toZ-ofZ}
 use Rattle.integers.proofs.Integers.{back, abs-mul, abs-zero, fits-within}
 use Rattle.bounds.specs.Bounds.{mostVariables, greatestValue}
@@ -62,29 +62,50 @@ product-within x y =
 
 -- ---- the ways through the code; x′ is what the machine reads back of x
 
--- times: m and n are the absolute values
-module _ (x y x′ y′ : ℤ) (m n : ℕ) (em : m ≡ natAbs x′) (sx : x′ ≡ x) (en : n ≡ natAbs y′) (sy : y′ ≡ y) where
+-- fits
+module _ (m n : ℕ) where
+  pub fits-room : m < 268435456 → Fits w64 n → Fits w64 (m * (n / 268435456 + 1))
+  fits-room h f =
+      let k : m ≤ 268435455 = omega arith in
+      record { fits = omega (arith, mul-le-mul-right (n / 268435456 + 1) k) }
+
+  pub fits-small : m * (n / 268435456 + 1) ≤ 268435456 → true ≡ leb (m * n) greatestValue
+  fits-small h =
+      let k : n ≤ (n / 268435456 + 1) * 268435456 = omega arith in
+      sym (le-leb (m * n) greatestValue (omega (arith, mul-le-mul-right m k, mul-le-mul-right 268435456 h)))
+
+  pub fits-none : m ≡ 0 → true ≡ leb (m * n) greatestValue
+  fits-none h = sym (le-leb (m * n) greatestValue (rw h (omega arith)))
+
+  pub fits-divided : (m ≡ 0 → ⊥) → leb n (greatestValue / m) ≡ leb (m * n) greatestValue
+  fits-divided h = go (leb n (greatestValue / m)) refl
+    where
+      go : (t : Bool) → leb n (greatestValue / m) ≡ t → t ≡ leb (m * n) greatestValue
+      go true e =
+          let p = le-div-iff-mul-le {k = m} (omega arith) .0 (leb-true n (greatestValue / m) e) in
+          sym (le-leb (m * n) greatestValue (omega (arith, p)))
+      go false e =
+          let p = div-lt-iff-lt-mul {k = m} (omega arith) .0 (leb-false n (greatestValue / m) e) in
+          sym (lt-leb (m * n) greatestValue (omega (arith, p)))
+
+-- times: m and n are the absolute values, t says whether their product fits
+module _ (x y x′ y′ : ℤ) (m n : ℕ) (t : Bool) (et : t ≡ leb (m * n) greatestValue) (em : m ≡ natAbs x′) (sx : x′ ≡ x)
+    (en : n ≡ natAbs y′) (sy : y′ ≡ y) where
   abs-is : natAbs (x *ℤ y) ≡ m * n
   abs-is = abs-mul x y ∙ (let p : natAbs x ≡ m = cc in let q : natAbs y ≡ n = cc in rw (p, q))
 
-  pub times-zero : n ≡ 0 → Value (pos 0) ≡ within (x *ℤ y)
-  times-zero h =
-      let q : natAbs y ≡ 0 = cc in
-      represents-within (Value (pos 0)) (x *ℤ y) (rw (abs-zero y q, *ℤ-zero x) (refl, omega arith))
+  pub times-large : t ≡ false → TooLarge ≡ within (x *ℤ y)
+  times-large h = represents-within TooLarge (x *ℤ y) (rw abs-is (leb-false (m * n) greatestValue (sym et ∙ h)))
 
-  module _ (some : n ≡ 0 → ⊥) where
-    pub times-large : greatestValue / n < m → TooLarge ≡ within (x *ℤ y)
-    times-large h = represents-within TooLarge (x *ℤ y) (rw abs-is (div-lt-iff-lt-mul {k = n} (omega arith) .0 h))
+  module _ (h : t ≡ true) where
+    small : natAbs (x *ℤ y) ≤ greatestValue
+    small = rw abs-is (leb-true (m * n) greatestValue (sym et ∙ h))
 
-    module _ (h : m ≤ greatestValue / n) where
-      small : natAbs (x *ℤ y) ≤ greatestValue
-      small = rw abs-is (le-div-iff-mul-le {k = n} (omega arith) .0 h)
+    pub times-fits : SFits w64 (x′ *ℤ y′)
+    times-fits = rw (sx, sy) (fits-within (x *ℤ y) greatestValue small (omega arith))
 
-      pub times-fits : SFits w64 (x′ *ℤ y′)
-      times-fits = rw (sx, sy) (fits-within (x *ℤ y) greatestValue small (omega arith))
-
-      pub times-value : Value (back (x′ *ℤ y′)) ≡ within (x *ℤ y)
-      times-value = represents-within (Value (back (x′ *ℤ y′))) (x *ℤ y) (toZ-ofZ times-fits ∙ rw (sx, sy), small)
+    pub times-value : Value (back (x′ *ℤ y′)) ≡ within (x *ℤ y)
+    times-value = represents-within (Value (back (x′ *ℤ y′))) (x *ℤ y) (toZ-ofZ times-fits ∙ rw (sx, sy), small)
 
 -- large_times
 pub large-large : (b : Bounded) → b ≡ TooLarge → TooLarge ≡ largeTimes b
