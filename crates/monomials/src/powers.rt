@@ -21,6 +21,9 @@ pub enum Bounded {
 // The square root of the greatest value.
 const ROOT: u64 = 268435456;
 
+// A number that is too large.
+const LARGE: i64 = 9223372036854775807;
+
 // Whether the product of two absolute values is at most the greatest value. Most are told without a division, by the
 // multiple of ROOT next above n.
 fn fits(m: u64, n: u64) -> bool
@@ -73,6 +76,26 @@ fn product(a: Bounded, b: Bounded) -> Bounded
     times(x, y)
 }
 
+// The product as a number: where it is too large, any that is.
+fn multiplied(x: i64, y: i64) -> i64
+    ensures { λ r. ⌜ within r ≡ within (x *ℤ y) ⌝ }
+{
+    let Bounded::Value(z) = times(x, y) else {
+        return LARGE;
+    };
+    z
+}
+
+// The power as a number, which each call hands back in a register; a `Bounded` would go through memory.
+fn raised(base: i64, e: u8) -> i64
+    ensures { λ r. ⌜ within r ≡ within (powerOf base e) ⌝ }
+{
+    if e == 0 {
+        return 1;
+    }
+    multiplied(base, raised(base, e - 1))
+}
+
 // The power with exponent 0 is one; otherwise it is the base times the power with exponent one less.
 pub fn power(base: i64, e: u8) -> Bounded
     ensures { λ r. ⌜ r ≡ within (powerOf base e) ⌝ }
@@ -80,7 +103,7 @@ pub fn power(base: i64, e: u8) -> Bounded
     if e == 0 {
         return Bounded::Value(1);
     }
-    product(Bounded::Value(base), power(base, e - 1))
+    times(base, raised(base, e - 1))
 }
 
 // An exponent of the same power, so that 0, 1 and −1 are multiplied at most twice: their powers go by parity.

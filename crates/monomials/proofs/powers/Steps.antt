@@ -21,7 +21,7 @@ use Rattle.points.proofs.points.Laws.{exponents-counted, Places}
 use Rattle.monomials.specs.Powers.{powerOf, monomialOf, Represents, within, largeTimes, productOf}
 use Rattle.monomials.specs.declared.powers.Bounded.{Bounded}
 use Rattle.monomials.specs.declared.powers.Bounded.the-variants.{Value, TooLarge}
-use Rattle.monomials.proofs.powers.Laws.{power-parity, by-size}
+use Rattle.monomials.proofs.powers.Laws.{power-parity, by-size, within-represents}
 
 represents-within : (b : Bounded) (z : ℤ) → Represents b z → b ≡ within z
 unfolding within
@@ -136,7 +136,18 @@ pub product-numbers : (a b r : Bounded) (x y x′ y′ : ℤ) → a ≡ Value x 
 unfolding productOf
 product-numbers a b r x y x′ y′ e f h s t = rw (e, f, ← s, ← t) h
 
--- power: r is the power with exponent one less
+-- multiplied: b is the product
+module _ (b : Bounded) (x y x′ y′ : ℤ) (h : b ≡ within (x′ *ℤ y′)) (sx : x′ ≡ x) (sy : y′ ≡ y) where
+  pub multiplied-large : b ≡ TooLarge → within (pos 9223372036854775807) ≡ within (x *ℤ y)
+  unfolding within
+  multiplied-large e = sym e ∙ h ∙ rw (sx, sy)
+
+  pub multiplied-value : (z : ℤ) → b ≡ Value z → within z ≡ within (x *ℤ y)
+  multiplied-value z e =
+      let p : within (x *ℤ y) ≡ Value z = rw (← sx, ← sy) (sym h ∙ e) in
+      ap within ((rw p at (within-represents (x *ℤ y))) .0)
+
+-- raised and power: y is the power with exponent one less
 pub power-none : (b : ℤ) (e : ℕ) → e ≡ 0 → Value (pos 1) ≡ within (powerOf b e)
 unfolding powerOf
 power-none b e h = represents-within (Value (pos 1)) (powerOf b e) (rw h (refl, omega arith))
@@ -146,10 +157,16 @@ unfolding powerOf
 power-less b zero h = absurd (h refl)
 power-less b (suc k) h = let q : suc k - 1 ≡ k = omega arith in rw q
 
-pub power-more : (b b′ b″ : ℤ) (e : ℕ) (r q : Bounded) → (e ≡ 0 → ⊥) → r ≡ within (powerOf b′ (e - 1)) → b′ ≡ b
-    → q ≡ productOf (Value b″) r → b″ ≡ b
+pub power-more : (b b′ b″ y y′ : ℤ) (e : ℕ) (q : Bounded) → q ≡ within (b″ *ℤ y′) → b″ ≡ b → y′ ≡ y
+    → within y ≡ within (powerOf b′ (e - 1)) → b′ ≡ b → (e ≡ 0 → ⊥)
     → q ≡ within (powerOf b e)
-power-more b b′ b″ e r q h er s eq t = rw (power-less b e h) (eq ∙ rw (er, s, t) (product-value b (powerOf b (e - 1))))
+power-more b b′ b″ y y′ e q eq t u ey s h =
+    rw (power-less b e h) (eq ∙ rw (t, u, ← product-value b y, ey, s) (product-value b (powerOf b (e - 1))))
+
+pub raised-more : (b b′ b″ y y′ z z′ : ℤ) (e : ℕ) → z′ ≡ z → within z ≡ within (b″ *ℤ y′) → b″ ≡ b → y′ ≡ y
+    → within y ≡ within (powerOf b′ (e - 1)) → b′ ≡ b → (e ≡ 0 → ⊥)
+    → within z′ ≡ within (powerOf b e)
+raised-more b b′ b″ y y′ z z′ e sz ez t u ey s h = rw sz (power-more b b′ b″ y y′ e (within z) ez t u ey s h)
 
 -- reduced
 pub reduced-parity : (x x′ : ℤ) (m e : ℕ) → m ≡ natAbs x′ → x′ ≡ x → m ≤ 1 → 3 ≤ e → powerOf x (2 - e % 2) ≡ powerOf x e
