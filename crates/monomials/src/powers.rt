@@ -24,6 +24,16 @@ const ROOT: u64 = 268435456;
 // A number that is too large.
 const LARGE: i64 = 9223372036854775807;
 
+// The number, where it is not too large.
+fn within(x: i64) -> Bounded
+    ensures { λ r. ⌜ r ≡ within x ⌝ }
+{
+    if magnitude(x) <= GREATEST_VALUE {
+        return Bounded::Value(x);
+    }
+    Bounded::TooLarge
+}
+
 // Whether the product of two absolute values is at most the greatest value. Most are told without a division, by the
 // multiple of ROOT next above n.
 fn fits(m: u64, n: u64) -> bool
@@ -76,7 +86,7 @@ fn product(a: Bounded, b: Bounded) -> Bounded
     times(x, y)
 }
 
-// The product as a number: where it is too large, any that is.
+// The product as one number: where it is too large, some number that is.
 fn multiplied(x: i64, y: i64) -> i64
     ensures { λ r. ⌜ within r ≡ within (x *ℤ y) ⌝ }
 {
@@ -86,7 +96,8 @@ fn multiplied(x: i64, y: i64) -> i64
     z
 }
 
-// The power as a number, which each call hands back in a register; a `Bounded` would go through memory.
+// The power with exponent 0 is one; otherwise it is the base times the power with exponent one less. It is handed back
+// as one number, in a register.
 fn raised(base: i64, e: u8) -> i64
     ensures { λ r. ⌜ within r ≡ within (powerOf base e) ⌝ }
 {
@@ -96,14 +107,11 @@ fn raised(base: i64, e: u8) -> i64
     multiplied(base, raised(base, e - 1))
 }
 
-// The power with exponent 0 is one; otherwise it is the base times the power with exponent one less.
+// The power.
 pub fn power(base: i64, e: u8) -> Bounded
     ensures { λ r. ⌜ r ≡ within (powerOf base e) ⌝ }
 {
-    if e == 0 {
-        return Bounded::Value(1);
-    }
-    times(base, raised(base, e - 1))
+    within(raised(base, e))
 }
 
 // An exponent of the same power, so that 0, 1 and −1 are multiplied at most twice: their powers go by parity.

@@ -62,6 +62,14 @@ product-within x y =
 
 -- ---- the ways through the code; x′ is what the machine reads back of x
 
+-- within: m is the absolute value
+module _ (x x′ : ℤ) (m : ℕ) (em : m ≡ natAbs x′) (s : x′ ≡ x) where
+  pub number-within : m ≤ greatestValue → Value x′ ≡ within x
+  number-within h = represents-within (Value x′) x (s, rw (← s, ← em) h)
+
+  pub number-large : greatestValue < m → TooLarge ≡ within x
+  number-large h = represents-within TooLarge x (rw (← s, ← em) h)
+
 -- fits
 module _ (m n : ℕ) where
   pub fits-room : m < 268435456 → Fits w64 n → Fits w64 (m * (n / 268435456 + 1))
@@ -147,7 +155,7 @@ module _ (b : Bounded) (x y x′ y′ : ℤ) (h : b ≡ within (x′ *ℤ y′))
       let p : within (x *ℤ y) ≡ Value z = rw (← sx, ← sy) (sym h ∙ e) in
       ap within ((rw p at (within-represents (x *ℤ y))) .0)
 
--- raised and power: y is the power with exponent one less
+-- raised: y is the power with exponent one less
 pub power-none : (b : ℤ) (e : ℕ) → e ≡ 0 → Value (pos 1) ≡ within (powerOf b e)
 unfolding powerOf
 power-none b e h = represents-within (Value (pos 1)) (powerOf b e) (rw h (refl, omega arith))
@@ -157,16 +165,17 @@ unfolding powerOf
 power-less b zero h = absurd (h refl)
 power-less b (suc k) h = let q : suc k - 1 ≡ k = omega arith in rw q
 
-pub power-more : (b b′ b″ y y′ : ℤ) (e : ℕ) (q : Bounded) → q ≡ within (b″ *ℤ y′) → b″ ≡ b → y′ ≡ y
-    → within y ≡ within (powerOf b′ (e - 1)) → b′ ≡ b → (e ≡ 0 → ⊥)
-    → q ≡ within (powerOf b e)
-power-more b b′ b″ y y′ e q eq t u ey s h =
-    rw (power-less b e h) (eq ∙ rw (t, u, ← product-value b y, ey, s) (product-value b (powerOf b (e - 1))))
-
-pub raised-more : (b b′ b″ y y′ z z′ : ℤ) (e : ℕ) → z′ ≡ z → within z ≡ within (b″ *ℤ y′) → b″ ≡ b → y′ ≡ y
+pub power-more : (b b′ b″ y y′ z z′ : ℤ) (e : ℕ) → z′ ≡ z → within z ≡ within (b″ *ℤ y′) → b″ ≡ b → y′ ≡ y
     → within y ≡ within (powerOf b′ (e - 1)) → b′ ≡ b → (e ≡ 0 → ⊥)
     → within z′ ≡ within (powerOf b e)
-raised-more b b′ b″ y y′ z z′ e sz ez t u ey s h = rw sz (power-more b b′ b″ y y′ e (within z) ez t u ey s h)
+power-more b b′ b″ y y′ z z′ e sz ez t u ey s h =
+    rw (sz, power-less b e h)
+    (ez ∙ rw (t, u, ← product-value b y, ey, s) (product-value b (powerOf b (e - 1))))
+
+-- power: r is the power's number
+pub power-is : (b b′ y y′ : ℤ) (e : ℕ) (r : Bounded) → r ≡ within y′ → y′ ≡ y → within y ≡ within (powerOf b′ e) → b′ ≡ b
+    → r ≡ within (powerOf b e)
+power-is b b′ y y′ e r er sy ey s = er ∙ rw sy (ey ∙ rw s)
 
 -- reduced
 pub reduced-parity : (x x′ : ℤ) (m e : ℕ) → m ≡ natAbs x′ → x′ ≡ x → m ≤ 1 → 3 ≤ e → powerOf x (2 - e % 2) ≡ powerOf x e

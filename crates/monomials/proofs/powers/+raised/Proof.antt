@@ -4,7 +4,7 @@ use borrow.Fn.Kinds.{In}
 use borrow.Fn.PlainCycle.{Measures, is, falls, and}
 use mir.Facts.{toZ-ofZ}
 use Rattle.monomials.specs.Powers.{within}
-use Rattle.monomials.proofs.powers.Steps.{power-none, raised-more}
+use Rattle.monomials.proofs.powers.Steps.{power-none, power-more}
 use Rattle.monomials.proofs.powers.+raised.{statement}
 use Rattle.monomials.proofs.powers.raised.Reads as raised
 use Rattle.monomials.proofs.powers.raised.Kinds as raised-kinds
@@ -60,7 +60,7 @@ raised-returns-2 : (t : ℕ) → raised-lts.Need-returns-2 (
   multiplied-reads.Asked,
   multiplied-reads.Learnt,
 ) (raised-at t) raised.Post
-raised-returns-2 t c = search (raised-more, toZ-ofZ)
+raised-returns-2 t c = search (power-more, toZ-ofZ)
 
 pub +raised-spec : {M : Type 1} → statement M
 +raised-spec = close μ-raised λ t. raised-lts.spec (
