@@ -50,14 +50,21 @@ fn fits(m: u64, n: u64) -> bool
     n <= GREATEST_VALUE / m
 }
 
+// The product as one number, which is handed back in a register: where it is too large, some number that is.
+fn multiplied(x: i64, y: i64) -> i64
+    ensures { λ r. ⌜ within r ≡ within (x *ℤ y) ⌝ }
+{
+    if fits(magnitude(x), magnitude(y)) {
+        return x * y;
+    }
+    LARGE
+}
+
 // The exact product of two numbers.
 fn times(x: i64, y: i64) -> Bounded
     ensures { λ r. ⌜ r ≡ within (x *ℤ y) ⌝ }
 {
-    if fits(magnitude(x), magnitude(y)) {
-        return Bounded::Value(x * y);
-    }
-    Bounded::TooLarge
+    within(multiplied(x, y))
 }
 
 // What a factor makes of a number that is too large: zero where it is zero.
@@ -86,18 +93,7 @@ fn product(a: Bounded, b: Bounded) -> Bounded
     times(x, y)
 }
 
-// The product as one number: where it is too large, some number that is.
-fn multiplied(x: i64, y: i64) -> i64
-    ensures { λ r. ⌜ within r ≡ within (x *ℤ y) ⌝ }
-{
-    let Bounded::Value(z) = times(x, y) else {
-        return LARGE;
-    };
-    z
-}
-
-// The power with exponent 0 is one; otherwise it is the base times the power with exponent one less. It is handed back
-// as one number, in a register.
+// The power with exponent 0 is one; otherwise it is the base times the power with exponent one less.
 fn raised(base: i64, e: u8) -> i64
     ensures { λ r. ⌜ within r ≡ within (powerOf base e) ⌝ }
 {

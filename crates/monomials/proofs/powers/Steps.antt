@@ -96,24 +96,29 @@ module _ (m n : ℕ) where
           let p = div-lt-iff-lt-mul {k = m} (omega arith) .0 (leb-false n (greatestValue / m) e) in
           sym (lt-leb (m * n) greatestValue (omega (arith, p)))
 
--- times: m and n are the absolute values, t says whether their product fits
+-- multiplied: m and n are the absolute values, t says whether their product fits
 module _ (x y x′ y′ : ℤ) (m n : ℕ) (t : Bool) (et : t ≡ leb (m * n) greatestValue) (em : m ≡ natAbs x′) (sx : x′ ≡ x)
     (en : n ≡ natAbs y′) (sy : y′ ≡ y) where
   abs-is : natAbs (x *ℤ y) ≡ m * n
   abs-is = abs-mul x y ∙ (let p : natAbs x ≡ m = cc in let q : natAbs y ≡ n = cc in rw (p, q))
 
-  pub times-large : t ≡ false → TooLarge ≡ within (x *ℤ y)
-  times-large h = represents-within TooLarge (x *ℤ y) (rw abs-is (leb-false (m * n) greatestValue (sym et ∙ h)))
+  pub multiplied-large : t ≡ false → within (pos 9223372036854775807) ≡ within (x *ℤ y)
+  unfolding within
+  multiplied-large h = represents-within TooLarge (x *ℤ y) (rw abs-is (leb-false (m * n) greatestValue (sym et ∙ h)))
 
   module _ (h : t ≡ true) where
-    small : natAbs (x *ℤ y) ≤ greatestValue
-    small = rw abs-is (leb-true (m * n) greatestValue (sym et ∙ h))
+    pub multiplied-fits : SFits w64 (x′ *ℤ y′)
+    multiplied-fits =
+        let small = leb-true (m * n) greatestValue (sym et ∙ h) in
+        rw (sx, sy) (fits-within (x *ℤ y) greatestValue (rw abs-is small) (omega arith))
 
-    pub times-fits : SFits w64 (x′ *ℤ y′)
-    times-fits = rw (sx, sy) (fits-within (x *ℤ y) greatestValue small (omega arith))
+    pub multiplied-value : within (back (x′ *ℤ y′)) ≡ within (x *ℤ y)
+    multiplied-value = rw (toZ-ofZ multiplied-fits, sx, sy)
 
-    pub times-value : Value (back (x′ *ℤ y′)) ≡ within (x *ℤ y)
-    times-value = represents-within (Value (back (x′ *ℤ y′))) (x *ℤ y) (toZ-ofZ times-fits ∙ rw (sx, sy), small)
+-- times: z is the product's number
+pub times-is : (x y x′ y′ z z′ : ℤ) (r : Bounded) → r ≡ within z′ → z′ ≡ z → within z ≡ within (x′ *ℤ y′) → x′ ≡ x
+    → y′ ≡ y → r ≡ within (x *ℤ y)
+times-is x y x′ y′ z z′ r er sz ez sx sy = er ∙ rw sz (ez ∙ rw (sx, sy))
 
 -- large_times
 pub large-large : (b : Bounded) → b ≡ TooLarge → TooLarge ≡ largeTimes b
@@ -143,17 +148,6 @@ pub product-numbers : (a b r : Bounded) (x y x′ y′ : ℤ) → a ≡ Value x 
     → y′ ≡ y → r ≡ productOf a b
 unfolding productOf
 product-numbers a b r x y x′ y′ e f h s t = rw (e, f, ← s, ← t) h
-
--- multiplied: b is the product
-module _ (b : Bounded) (x y x′ y′ : ℤ) (h : b ≡ within (x′ *ℤ y′)) (sx : x′ ≡ x) (sy : y′ ≡ y) where
-  pub multiplied-large : b ≡ TooLarge → within (pos 9223372036854775807) ≡ within (x *ℤ y)
-  unfolding within
-  multiplied-large e = sym e ∙ h ∙ rw (sx, sy)
-
-  pub multiplied-value : (z : ℤ) → b ≡ Value z → within z ≡ within (x *ℤ y)
-  multiplied-value z e =
-      let p : within (x *ℤ y) ≡ Value z = rw (← sx, ← sy) (sym h ∙ e) in
-      ap within ((rw p at (within-represents (x *ℤ y))) .0)
 
 -- raised: y is the power with exponent one less
 pub power-none : (b : ℤ) (e : ℕ) → e ≡ 0 → Value (pos 1) ≡ within (powerOf b e)

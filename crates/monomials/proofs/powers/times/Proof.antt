@@ -1,19 +1,21 @@
-use borrow.Author.Needs.{needs}
 use mir.Facts.{toZ-ofZ}
-use Rattle.monomials.proofs.powers.Steps.{times-large, times-fits, times-value}
+use Rattle.monomials.proofs.powers.Steps.{times-is}
+use borrow.Author.Needs.{needs}
 use Rattle.monomials.proofs.powers.times.Statement.{statement}
 use Rattle.monomials.proofs.powers.times.Tie as tie
+use Rattle.monomials.proofs.powers.times.Reads as reads
+use Rattle.monomials.proofs.powers.times.Lts as lts
+use Rattle.monomials.proofs.powers.multiplied.Reads as multiplied-reads
+use Rattle.monomials.proofs.powers.within.Reads as within-reads
 
-mul-t6 : tie.Need-mul-t6
-mul-t6 c = search (times-fits, toZ-ofZ)
+multiplied-requires : tie.Need-multiplied-requires
+multiplied-requires c κs = search needs
+
+within-requires : tie.Need-within-requires
+within-requires c κs = search needs
 
 returns : tie.Need-returns
-returns c = search (times-value, toZ-ofZ)
-
-returns-2 : tie.Need-returns-2
-returns-2 c = search (times-large, toZ-ofZ)
+returns c = search (times-is, toZ-ofZ)
 
 pub times-spec : {M : Type 1} → statement M
-times-spec =
-    tie.close
-    (tie.spec (λ c κs. search needs) (λ c κs. search needs) (λ c κs. search needs) mul-t6 returns returns-2)
+times-spec = tie.close (tie.spec multiplied-requires within-requires returns)
