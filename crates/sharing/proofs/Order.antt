@@ -1,8 +1,7 @@
 -- What adds up over slots is the same in any order of rows.
-use mathlib.Core.Path.{_≡_, ap, _∙_}
+use mathlib.Core.Path.{_≡_, ap}
 use mathlib.Core.List.{List, [], _∷_, _++_}
-use Prim.Native.Nat.{ℕ, _+_}
-use native.Mathlib.Omega.{arith}
+use Prim.Native.Nat.{ℕ}
 use lib.IntN.{ℤ, pos, natAbs, _+ℤ_}
 use Rattle.integers.proofs.Integers.{ring, ints, by-eq}
 use Rattle.points.specs.Points.{Exponents}

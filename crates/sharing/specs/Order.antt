@@ -1,5 +1,5 @@
--- Rows in another order: at every point their slots weigh the same together, and are as many. Shares are another matter,
--- since they go by rank: a worked sheet stands beside H with two rows exchanged, and is refused.
+-- Rows in another order: at every point their slots weigh the same together, and are as many. Shares are another
+-- matter, since they go by rank: H with two rows exchanged stands in the worked list, and is refused.
 use mathlib.Core.Path.{_≡_}
 use mathlib.Core.List.{List, [], _∷_, _++_}
 use Prim.Native.Nat.{ℕ}

@@ -75,7 +75,7 @@ marked =
     -- H with its first two rows exchanged: the same error, and the other row's slot takes it
     ∷ refuses motzkin (motzkinExchanged (negsuc 2))
     (Pair (pos 3) (pos 2) (negsuc 3) ∷ Pair (pos 1) (pos 1) (negsuc 2) ∷ Pair (pos 1) (pos 1) (negsuc 1) ∷ [])
-    (refused 19 1)
+    (record { number = 19; blamed = proof; value = 1 })
     -- I: "shares 0 and −1, the second row's p is 1, refused 19 at 1"
     ∷ refuses motzkin (motzkinProof (negsuc 0))
     (Pair (pos 1) (pos 1) (negsuc 0) ∷ Pair (pos 1) (pos 2) (negsuc 3) ∷ Pair (pos 1) (pos 1) (negsuc 1) ∷ [])

@@ -1,5 +1,5 @@
 -- The ways through the code of words, over what the machine reads back.
-use mathlib.Core.Path.{_≡_, refl, sym, _∙_, ap}
+use mathlib.Core.Path.{_≡_, refl, _∙_, ap}
 use mathlib.Core.Bool.{true, false}
 use mathlib.Core.List.{List}
 use Prim.Native.Nat.{ℕ, suc, _+_, _-_, _%_, _^_, _<_, _≤_}
@@ -25,7 +25,9 @@ module _ (n : ℕ) (h : n < 4294967296) where
   lowered-fits k l = rw raised-is (by-fits (simp ring (omega arith)))
 
   lowered-is : (d : Dec (n < 2147483648)) → pos raised -ℤ pos 2147483648 ≡ toZ w32 n
-  lowered-is (yes l) = let e : raised ≡ n + 2147483648 = omega arith in rw (e, toZ-pos w32 l) (by-eq (simp ring (omega arith)))
+  lowered-is (yes l) =
+      let e : raised ≡ n + 2147483648 = omega arith in
+      rw (e, toZ-pos w32 l) (by-eq (simp ring (omega arith)))
   lowered-is (no l) =
       let e : raised ≡ n - 2147483648 = omega arith in
       let u : 2 ^ 32 - suc (4294967295 - n) ≡ n = omega arith in

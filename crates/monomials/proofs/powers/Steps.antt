@@ -21,7 +21,7 @@ use Rattle.points.proofs.points.Laws.{exponents-counted, Places}
 use Rattle.monomials.specs.Powers.{powerOf, monomialOf, Represents, within, largeTimes, productOf}
 use Rattle.monomials.specs.declared.powers.Bounded.{Bounded}
 use Rattle.monomials.specs.declared.powers.Bounded.the-variants.{Value, TooLarge}
-use Rattle.monomials.proofs.powers.Laws.{power-parity, by-size, within-represents}
+use Rattle.monomials.proofs.powers.Laws.{power-parity, by-size}
 
 represents-within : (b : Bounded) (z : ℤ) → Represents b z → b ≡ within z
 unfolding within
@@ -167,8 +167,8 @@ power-more b b′ b″ y y′ z z′ e sz ez t u ey s h =
     (ez ∙ rw (t, u, ← product-value b y, ey, s) (product-value b (powerOf b (e - 1))))
 
 -- power: r is the power's number
-pub power-is : (b b′ y y′ : ℤ) (e : ℕ) (r : Bounded) → r ≡ within y′ → y′ ≡ y → within y ≡ within (powerOf b′ e) → b′ ≡ b
-    → r ≡ within (powerOf b e)
+pub power-is : (b b′ y y′ : ℤ) (e : ℕ) (r : Bounded) → r ≡ within y′ → y′ ≡ y → within y ≡ within (powerOf b′ e)
+    → b′ ≡ b → r ≡ within (powerOf b e)
 power-is b b′ y y′ e r er sy ey s = er ∙ rw sy (ey ∙ rw s)
 
 -- reduced

@@ -34,32 +34,30 @@ use Rattle.sharing.specs.Sharing.{count}
 use Rattle.sharing.specs.Slots.{CountsKey, Small, HoldsKey, slotsTo, holdsPoint, more, added, stepTo, tallyFrom, tallyOf, holdingOf}
 use Rattle.sharing.specs.declared.slots.Tally.{Tally}
 use Rattle.sharing.proofs.Sharing.{count-cons, count-nil}
-use Rattle.sharing.proofs.slots.Laws.{added-bound, key-bound, lone-slots, middle-carried, no-slots, pair-slots, tally-cons, tally-nil, tally-small, tallied, v-carried, w-carried}
+use Rattle.sharing.proofs.slots.Laws.{key-bound, lone-slots, middle-carried, no-slots, pair-slots, tally-cons, tally-nil, tally-small, tallied, v-carried, w-carried}
 
 -- ---- tallies
 
--- a lone row's slot
-once-added : (hit : Bool) (x y z : ℤ) (a : Tally)
-    → added hit x a ≡ cond hit (more x a) (cond hit (more y a) (cond hit (more z a) a))
+-- with the first of three slots that is met, and no other
+abbrev oneMore : Bool → Bool → Bool → ℤ → ℤ → ℤ → Tally → Tally
+oneMore b d f x y z a = cond b (more x a) (cond d (more y a) (cond f (more z a) a))
+
+-- so it is for a lone row's slot, whose key is v, w and half their sum
+once-added : (b : Bool) (x y z : ℤ) (a : Tally) → added b x a ≡ oneMore b b b x y z a
 unfolding added
 once-added true x y z a = refl
 once-added false x y z a = refl
 
-neither : (b d : Bool) (y z a : Tally) → b || d ≡ false → cond b y (cond d z a) ≡ a
-neither true d y z a h = absurd (false≢true (sym h))
-neither false true y z a h = absurd (false≢true (sym h))
-neither false false y z a h = refl
-
--- of three slots whose keys are two numbers and their half sum, one at most has a key
+-- and for a pair's, since no two of them have one key
 one-added : (key v w : ℕ) (x y z : ℤ) (a : Tally) → (v ≡ w → ⊥)
     → added (eqb (v + w) (key * 2)) z (added (eqb key w) y (added (eqb key v) x a))
-    ≡ cond (eqb key v) (more x a) (cond (eqb key w) (more y a) (cond (eqb (v + w) (key * 2)) (more z a) a))
+    ≡ oneMore (eqb key v) (eqb key w) (eqb (v + w) (key * 2)) x y z a
 unfolding added
 one-added key v w x y z a d = go (ℕ-discrete key v) (ℕ-discrete key w)
   where
     go : Dec (key ≡ v) → Dec (key ≡ w)
-        → cond (eqb (v + w) (key * 2)) (more z (cond (eqb key w) (more y (cond (eqb key v) (more x a) a)) (cond (eqb key v) (more x a) a))) (cond (eqb key w) (more y (cond (eqb key v) (more x a) a)) (cond (eqb key v) (more x a) a))
-        ≡ cond (eqb key v) (more x a) (cond (eqb key w) (more y a) (cond (eqb (v + w) (key * 2)) (more z a) a))
+        → added (eqb (v + w) (key * 2)) z (added (eqb key w) y (added (eqb key v) x a))
+        ≡ oneMore (eqb key v) (eqb key w) (eqb (v + w) (key * 2)) x y z a
     go (yes e) q =
         rw (eq-eqb key v e, ne-eqb key w (λ r. d (omega arith)), ne-eqb (v + w) (key * 2) (λ r. d (omega arith)))
     go (no e) (yes q) = rw (ne-eqb key v e, eq-eqb key w q, ne-eqb (v + w) (key * 2) (λ r. d (omega arith)))
@@ -215,21 +213,20 @@ module _ (s : List ℕ) (sh : Shape) (i : ℕ) (f : ProofFacts s sh) (l : i < sh
 
       -- one slot at most: p where the key is v, else q where it is w, else r where it is the midpoint's
       module _ (v w : ℕ) (ev : v ≡ keyOf (vOf s sh i)) (ew : w ≡ keyOf (wOf s sh i)) where
-        row-added : tallyOf key (slotsTo s sh (i + 1))
-            ≡ cond (eqb key v) (more (i32At s at) a)
-            (cond (eqb key w) (more (i32At s (at + 4)) a)
-            (cond (eqb (v + w) (key * 2)) (more (i32At s (at + 8)) a) a))
+        abbrev with-row : Tally
+        with-row =
+            oneMore (eqb key v) (eqb key w) (eqb (v + w) (key * 2)) (i32At s at) (i32At s (at + 4)) (i32At s (at + 8)) a
+
+        row-added : tallyOf key (slotsTo s sh (i + 1)) ≡ with-row
         unfolding tallyOf
         row-added = go (ℕ-discrete v w)
           where
-            go : Dec (v ≡ w) → tallyFrom key (record { sum = pos 0; count = 0 }) (slotsTo s sh (i + 1))
-                ≡ cond (eqb key v) (more (i32At s at) a)
-                (cond (eqb key w) (more (i32At s (at + 4)) a)
-                (cond (eqb (v + w) (key * 2)) (more (i32At s (at + 8)) a) a))
+            go : Dec (v ≡ w) → tallyFrom key (record { sum = pos 0; count = 0 }) (slotsTo s sh (i + 1)) ≡ with-row
             go (yes e) =
                 let row = lone-slots s sh i (sym (lone s sh i f l v w ev ew) ∙ eq-eqb v w e) in
                 let d : v + v ≡ v * 2 = omega arith in
-                rw (add-one, row, tally-append, tally-cons, tally-nil, ← ha, ← ev, ← (p-there s sh i at ea), ← e, d, halved)
+                let p = p-there s sh i at ea in
+                rw (add-one, row, tally-append, tally-cons, tally-nil, ← ha, ← ev, ← p, ← e, d, halved)
                 (once-added (eqb key v) _ _ _ a)
             go (no e) =
                 let row = pair-slots s sh i (sym (lone s sh i f l v w ev ew) ∙ ne-eqb v w e) in
@@ -255,8 +252,8 @@ module _ (s : List ℕ) (sh : Shape) (i : ℕ) (f : ProofFacts s sh) (l : i < sh
         first-added r e h = h ∙ sym (row-added ∙ rw (eq-eqb key v e))
 
         module _ (past : key ≡ v → ⊥) where
-          pub later-added : (r : Tally) (step : ℕ) → eqb key w || eqb (v + w) (key * 2) ≡ true → step ≡ stepTo (eqb key w)
-              → r ≡ more (i32At s (at + step)) a → r ≡ tallyOf key (slotsTo s sh (i + 1))
+          pub later-added : (r : Tally) (step : ℕ) → eqb key w || eqb (v + w) (key * 2) ≡ true
+              → step ≡ stepTo (eqb key w) → r ≡ more (i32At s (at + step)) a → r ≡ tallyOf key (slotsTo s sh (i + 1))
           later-added r step t e h =
               h ∙ sym (row-added ∙ rw (ne-eqb key v past, e) (go (eqb key w) (eqb (v + w) (key * 2)) t))
             where
@@ -268,8 +265,13 @@ module _ (s : List ℕ) (sh : Shape) (i : ℕ) (f : ProofFacts s sh) (l : i < sh
               go false false t = absurd (false≢true t)
 
           pub none-added : eqb key w || eqb (v + w) (key * 2) ≡ false → a ≡ tallyOf key (slotsTo s sh (i + 1))
-          none-added t =
-              sym (row-added ∙ rw (ne-eqb key v past) (neither (eqb key w) (eqb (v + w) (key * 2)) _ _ a t))
+          none-added t = sym (row-added ∙ rw (ne-eqb key v past) (go (eqb key w) (eqb (v + w) (key * 2)) t))
+            where
+              go : (b d : Bool) → b || d ≡ false
+                  → cond b (more (i32At s (at + 4)) a) (cond d (more (i32At s (at + 8)) a) a) ≡ a
+              go true d t = absurd (false≢true (sym t))
+              go false true t = absurd (false≢true (sym t))
+              go false false t = refl
 
 -- ---- scan, slots_with and held
 

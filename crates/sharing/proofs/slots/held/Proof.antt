@@ -1,17 +1,11 @@
+use borrow.Author.Needs.{needs}
 use mir.Facts.{toZ-ofZ}
 use Rattle.sharing.proofs.slots.Steps.{rank-fits, before-fits, all-fits, held-is, scan-start}
-use borrow.Author.Needs.{needs}
 use Rattle.sharing.proofs.slots.held.Statement.{statement}
 use Rattle.sharing.proofs.slots.held.Tie as tie
-use Rattle.sharing.proofs.slots.held.Reads as reads
-use Rattle.sharing.proofs.slots.held.Lts as lts
-use Rattle.sharing.proofs.slots.scan.Reads as scan-reads
 
 scan-requires : tie.Need-scan-requires
 scan-requires c κs = search (needs, scan-start)
-
-scan-requires-2 : tie.Need-scan-requires-2
-scan-requires-2 c κs = search needs
 
 cast-t9 : tie.Need-cast-t9
 cast-t9 c = search all-fits
@@ -26,4 +20,4 @@ returns : tie.Need-returns
 returns c = search (held-is, toZ-ofZ)
 
 pub held-spec : {M : Type 1} → statement M
-held-spec = tie.close (tie.spec scan-requires scan-requires-2 cast-t9 cast-t10 add-t11 returns)
+held-spec = tie.close (tie.spec scan-requires (λ c κs. search needs) cast-t9 cast-t10 add-t11 returns)

@@ -2,9 +2,6 @@ use borrow.Author.Needs.{needs}
 use Rattle.sharing.proofs.slots.Steps.{scan-start, carried-bound, all-fits, all-counted}
 use Rattle.sharing.proofs.slots.slots_with.Statement.{statement}
 use Rattle.sharing.proofs.slots.slots_with.Tie as tie
-use Rattle.sharing.proofs.slots.slots_with.Reads as reads
-use Rattle.sharing.proofs.slots.slots_with.Lts as lts
-use Rattle.sharing.proofs.slots.scan.Reads as scan-reads
 
 scan-requires : tie.Need-scan-requires
 scan-requires c κs = (search needs, search needs, search needs, search carried-bound, search scan-start)
