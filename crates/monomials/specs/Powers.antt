@@ -3,7 +3,7 @@ use mathlib.Core.Bool.{cond}
 use mathlib.Core.List.{List, [], _∷_}
 use mathlib.Core.Path.{_≡_}
 use Prim.Native.Nat.{ℕ, zero, suc, _≤_, _<_}
-use lib.Dec.{leb, eqb}
+use lib.Dec.{leb}
 use lib.IntN.{ℤ, pos, natAbs, _*ℤ_}
 use Rattle.bounds.specs.Bounds.{greatestValue}
 use Rattle.points.specs.Points.{Exponents}
@@ -30,13 +30,7 @@ Represents TooLarge z = greatestValue < natAbs z
 unfoldable pub within : ℤ → Bounded
 within z = cond (leb (natAbs z) greatestValue) (Value z) TooLarge
 
--- a number that is too large, times a factor: "A zero offset under a positive exponent makes its term zero"
-unfoldable pub largeTimes : Bounded → Bounded
-largeTimes (Value x) = cond (eqb (natAbs x) 0) (Value (pos 0)) TooLarge
-largeTimes TooLarge = TooLarge
-
--- a product of which either factor may be too large
-unfoldable pub productOf : Bounded → Bounded → Bounded
-productOf (Value x) (Value y) = within (x *ℤ y)
-productOf (Value x) TooLarge = largeTimes (Value x)
-productOf TooLarge b = largeTimes b
+-- the number itself, or else one that stands for all that are too large: a product with it is too large unless the
+-- other factor is zero, since "A zero offset under a positive exponent makes its term zero"
+unfoldable pub saturated : ℤ → ℤ
+saturated z = cond (leb (natAbs z) greatestValue) z (pos 9223372036854775807)

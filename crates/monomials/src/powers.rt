@@ -10,7 +10,7 @@ ghost use lib.IntN.{pos, _*ℤ_};
 ghost use lib.ListN.{length, getD};
 ghost use Rattle.bounds.specs.Bounds.{greatestValue};
 ghost use Rattle.points.specs.Points.{exponents};
-ghost use Rattle.monomials.specs.Powers.{powerOf, monomialOf, within, largeTimes, productOf};
+ghost use Rattle.monomials.specs.Powers.{powerOf, monomialOf, within, saturated};
 
 // An exact number, or that its absolute value is over the greatest.
 pub enum Bounded {
@@ -18,21 +18,11 @@ pub enum Bounded {
     TooLarge,
 }
 
+// The number that stands for all whose absolute value is over the greatest. No factor but zero brings it down again.
+const SATURATED: i64 = 9223372036854775807;
+
 // The square root of the greatest value.
 const ROOT: u64 = 268435456;
-
-// A number that is too large.
-const LARGE: i64 = 9223372036854775807;
-
-// The number, where it is not too large.
-fn within(x: i64) -> Bounded
-    ensures { λ r. ⌜ r ≡ within x ⌝ }
-{
-    if magnitude(x) <= GREATEST_VALUE {
-        return Bounded::Value(x);
-    }
-    Bounded::TooLarge
-}
 
 // Whether the product of two absolute values is at most the greatest value. Most are told without a division, by the
 // multiple of ROOT next above n.
@@ -50,64 +40,24 @@ fn fits(m: u64, n: u64) -> bool
     n <= GREATEST_VALUE / m
 }
 
-// The product as one number, which is handed back in a register: where it is too large, some number that is.
-fn multiplied(x: i64, y: i64) -> i64
-    ensures { λ r. ⌜ within r ≡ within (x *ℤ y) ⌝ }
+// The product of two numbers.
+fn product(x: i64, y: i64) -> i64
+    ensures { λ r. ⌜ r ≡ saturated (x *ℤ y) ⌝ }
 {
     if fits(magnitude(x), magnitude(y)) {
         return x * y;
     }
-    LARGE
-}
-
-// The exact product of two numbers.
-fn times(x: i64, y: i64) -> Bounded
-    ensures { λ r. ⌜ r ≡ within (x *ℤ y) ⌝ }
-{
-    within(multiplied(x, y))
-}
-
-// What a factor makes of a number that is too large: zero where it is zero.
-fn large_times(factor: Bounded) -> Bounded
-    ensures { λ r. ⌜ r ≡ largeTimes factor ⌝ }
-{
-    let Bounded::Value(x) = factor else {
-        return Bounded::TooLarge;
-    };
-    if magnitude(x) == 0 {
-        return Bounded::Value(0);
-    }
-    Bounded::TooLarge
-}
-
-// The product of two numbers, either of which may be too large.
-fn product(a: Bounded, b: Bounded) -> Bounded
-    ensures { λ r. ⌜ r ≡ productOf a b ⌝ }
-{
-    let Bounded::Value(x) = a else {
-        return large_times(b);
-    };
-    let Bounded::Value(y) = b else {
-        return large_times(a);
-    };
-    times(x, y)
+    SATURATED
 }
 
 // The power with exponent 0 is one; otherwise it is the base times the power with exponent one less.
-fn raised(base: i64, e: u8) -> i64
-    ensures { λ r. ⌜ within r ≡ within (powerOf base e) ⌝ }
+fn power(base: i64, e: u8) -> i64
+    ensures { λ r. ⌜ r ≡ saturated (powerOf base e) ⌝ }
 {
     if e == 0 {
         return 1;
     }
-    multiplied(base, raised(base, e - 1))
-}
-
-// The power.
-pub fn power(base: i64, e: u8) -> Bounded
-    ensures { λ r. ⌜ r ≡ within (powerOf base e) ⌝ }
-{
-    within(raised(base, e))
+    product(base, power(base, e - 1))
 }
 
 // An exponent of the same power, so that 0, 1 and −1 are multiplied at most twice: their powers go by parity.
@@ -132,13 +82,13 @@ fn offset_at(offsets: &[i32], i: usize) -> i64
 }
 
 // The monomial at the offsets, from the last variable to the first.
-pub fn monomial(p: Point, offsets: &[i32]) -> Bounded
-    ensures { λ r. ⌜ r ≡ within (monomialOf (now (offsets .entry)) (exponents p)) ⌝ }
+fn monomial(p: Point, offsets: &[i32]) -> i64
+    ensures { λ r. ⌜ r ≡ saturated (monomialOf (now (offsets .entry)) (exponents p)) ⌝ }
 {
     let e = p.exps;
     let n = p.variables();
     let mut i = fewer(n, offsets.len());
-    let mut value = Bounded::Value(1);
+    let mut value = 1;
     while 0 < i {
         i -= 1;
         let x = offset_at(offsets, i);
@@ -147,9 +97,19 @@ pub fn monomial(p: Point, offsets: &[i32]) -> Bounded
     value
 }
 
+// The number, where it is not too large.
+fn within(x: i64) -> Bounded
+    ensures { λ r. ⌜ r ≡ within x ⌝ }
+{
+    if magnitude(x) <= GREATEST_VALUE {
+        return Bounded::Value(x);
+    }
+    Bounded::TooLarge
+}
+
 // A coefficient times the monomial at the offsets.
 pub fn term(coefficient: i64, p: Point, offsets: &[i32]) -> Bounded
     ensures { λ r. ⌜ r ≡ within (coefficient *ℤ monomialOf (now (offsets .entry)) (exponents p)) ⌝ }
 {
-    product(Bounded::Value(coefficient), monomial(p, offsets))
+    within(product(coefficient, monomial(p, offsets)))
 }

@@ -10,13 +10,12 @@ use lib.IntN.{ℤ, pos, negsuc, _*ℤ_, natAbs}
 use lib.ListN.{replicate}
 use lib.Signed.{_≤ℤ_}
 use lib.Dec.{leb}
-use borrow.Author.Tests.{leb-true, leb-false}
+use borrow.Author.Tests.{leb-true, leb-false, le-leb, lt-leb}
 use Rattle.integers.proofs.Integers.{one-*ℤ, *ℤ-assoc, *ℤ-swap, *ℤ-nonneg, pos-nonneg, square-nonneg}
 use Rattle.bounds.specs.Bounds.{greatestValue}
 use Rattle.points.specs.Points.{Exponents, hasMidpoint, midpointOf, keepsSign}
 use Rattle.points.proofs.points.Laws.{keeps-more, midpoint-none, midpoint-more, whole-more, whole-sized}
 use Rattle.monomials.specs.Powers.{powerOf, monomialOf, Represents, within}
-use Rattle.monomials.specs.declared.powers.Bounded.{Bounded}
 use Rattle.monomials.specs.declared.powers.Bounded.the-variants.{Value, TooLarge}
 
 -- ---- powers
@@ -85,16 +84,19 @@ monomial-constant (x ∷ xs) (suc n) = one-*ℤ (monomialOf xs (replicate n 0)) 
 
 -- ---- what an answer says
 
--- the absolute value is either within the limit or over it
-pub by-size : (z : ℤ) (P : Bounded → Type 0) → (natAbs z ≤ greatestValue → P (Value z))
-    → (greatestValue < natAbs z → P TooLarge)
-    → P (within z)
-unfolding within
-by-size z P f g = go (leb (natAbs z) greatestValue) refl
-  where
-    go : (b : Bool) → leb (natAbs z) greatestValue ≡ b → P (cond b (Value z) TooLarge)
-    go true e = f (leb-true _ _ e)
-    go false e = g (leb-false _ _ e)
+module _ (z : ℤ) where
+  pub within-small : natAbs z ≤ greatestValue → Value z ≡ within z
+  unfolding within
+  within-small h = rw (le-leb (natAbs z) greatestValue h)
 
-pub within-represents : (z : ℤ) → Represents (within z) z
-within-represents z = by-size z (λ b. Represents b z) (λ h. (refl, h)) (λ h. h)
+  pub within-large : greatestValue < natAbs z → TooLarge ≡ within z
+  unfolding within
+  within-large h = rw (lt-leb (natAbs z) greatestValue h)
+
+  pub within-represents : Represents (within z) z
+  unfolding within
+  within-represents = go (leb (natAbs z) greatestValue) refl
+    where
+      go : (b : Bool) → leb (natAbs z) greatestValue ≡ b → Represents (cond b (Value z) TooLarge) z
+      go true e = (refl, leb-true _ _ e)
+      go false e = leb-false _ _ e

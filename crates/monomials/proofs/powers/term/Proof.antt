@@ -8,4 +8,4 @@ returns : tie.Need-returns
 returns c = search (term-is, toZ-ofZ)
 
 pub term-spec : {M : Type 1} → statement M
-term-spec = tie.close (tie.spec (λ c κs. search needs) (λ c κs. search needs) returns)
+term-spec = tie.close (tie.spec (λ c κs. search needs) (λ c κs. search needs) (λ c κs. search needs) returns)
