@@ -1,21 +1,15 @@
 -- Rows in another order: at every point their slots weigh the same together, and are as many. Shares are another
 -- matter, since they go by rank: H with two rows exchanged stands in the worked list, and is refused.
 use mathlib.Core.Path.{_≡_}
-use mathlib.Core.List.{List, [], _∷_, _++_}
+use mathlib.Core.List.{List}
 use Prim.Native.Nat.{ℕ}
 use lib.IntN.{ℤ}
+use Rattle.points.specs.Lists.{Reordered}
 use Rattle.points.specs.Points.{Exponents}
 use Rattle.squares.specs.Sums.{Sum, gathered, coefficient}
 use Rattle.squares.specs.Rows.{slots}
 use Rattle.rows.specs.ProofSheet.{rowsOf}
 use Rattle.sharing.specs.Sharing.{count, errorAt}
-
--- the same elements, each as often, in some order: the first stands somewhere in the other list, and the rest are a
--- reordering of what stands before and after it there
-abbrev pub Reordered : {A : Type 0} → List A → List A → Type 0
-Reordered [] others = others ≡ []
-Reordered {A} (a ∷ rest) others =
-    (before : List A) × (after : List A) × (others ≡ before ++ (a ∷ after)) × Reordered rest (before ++ after)
 
 -- "a point's sum is the same in whatever order the rows stand", and so is the number of slots there, whatever a row is:
 -- `own` gives the slots of one

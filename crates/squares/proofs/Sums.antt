@@ -11,7 +11,7 @@ use lib.ListN.{length}
 use lib.Signed.{_≤ℤ_, ≤ℤ-refl}
 use Rattle.integers.proofs.Integers.{ring, ints, by-eq, +ℤ-mono, *ℤ-+ℤ, pos-nonneg}
 use Rattle.points.specs.Points.{Exponents, samePoint}
-use Rattle.points.specs.Lists.{All, table}
+use Rattle.points.specs.Lists.{All, table, Reordered}
 use Rattle.points.proofs.points.Laws.{same-eq, same-refl}
 use Rattle.points.proofs.Lists.{all-append, table-none, table-more}
 use Rattle.squares.specs.Sums.{Sum, coefficient, value, gathered}
@@ -181,7 +181,7 @@ coefficient-none P α (t ∷ L) s d = go (samePoint α (t .0)) (same-eq α (t .0
 -- ---- slots gathered from rows, whatever a row is
 
 module _ {A : Type 0} (own : A → Sum) where
-  pub gathered-append : (rows more : List A) → gathered own (rows ++ more) ≡ gathered own rows ++ gathered own more
+  gathered-append : (rows more : List A) → gathered own (rows ++ more) ≡ gathered own rows ++ gathered own more
   unfolding gathered
   gathered-append [] more = refl
   gathered-append (a ∷ rows) more =
@@ -212,3 +212,13 @@ module _ {A : Type 0} (own : A → Sum) where
   unfolding gathered
   gathered-nonneg φ [] h = rw value-nil (pos-nonneg 0)
   gathered-nonneg φ (a ∷ rows) h = rw value-append (+ℤ-mono (h .0) (gathered-nonneg φ rows (h .1)))
+
+  -- what adds up over slots is the same in any order of rows
+  module _ (total : Sum → ℤ) (adds : (L M : Sum) → total (L ++ M) ≡ total L +ℤ total M) where
+    pub gathered-reordered : (rows others : List A) → Reordered rows others
+        → total (gathered own rows) ≡ total (gathered own others)
+    unfolding gathered
+    gathered-reordered [] others e = rw e
+    gathered-reordered (a ∷ rest) others h =
+        let ih = gathered-reordered rest (h .0 ++ h .1) (h .3) in
+        rw (h .2, gathered-append, adds, adds, adds, ih, gathered-append, adds) (by-eq (simp ring (omega ints)))

@@ -45,8 +45,8 @@ unfolding
     shiftedRow shiftedRows headAnswer roomAnswer bodyAnswer inputAnswer pointFor unheldAt unheld unheldAnswer
     negative indefinite judgePair judgeLone judgementOf numberOf judgedAs firstsTo judgedAnswer weightsFor
     exactProof weighedAnswer targetsOf checkAnswer outputOf bare noRows motzkin motzkinProof motzkinExchanged
-    motzkinBytes motzkinProofBytes oneTerm spare accepts refuses motzkinExact marked tabled worked withFloor F.rangeWrong
-    F.rangeAnswer F.floorCount F.floorAfter F.accepts F.refusedBefore F.toldAfter F.searchOf F.outputBy
+    motzkinBytes motzkinProofBytes oneTerm spare accepts refuses motzkinExact marked tabled worked withFloor
+    F.rangeWrong F.rangeAnswer F.floorCount F.floorAfter F.accepts F.refusedBefore F.toldAfter F.searchOf F.outputBy
     F.searchOutput S.finds S.refuses S.heavy S.loneZero S.cases S.ranges S.worked
 computed = (refl, (refl, refl))
 

@@ -13,7 +13,8 @@ use Rattle.monomials.proofs.powers.monomial.Statement.{statement}
 use Rattle.monomials.proofs.powers.monomial.Tie as tie
 
 abbrev Inv-loop : tie.InvT-loop
-Inv-loop offsets e n i₀ value₀ i value = (i ≤ n) × (n ≤ mostVariables) × (i ≤ length offsets) × Places e × (toZ w64 value ≡ saturated (From offsets e n i))
+Inv-loop offsets e n i₀ value₀ i value = (i ≤ n) × (n ≤ mostVariables) × (i ≤ length offsets) × Places e
+    × (toZ w64 value ≡ saturated (From offsets e n i))
 
 abbrev μ-loop : tie.MeasureT-loop
 μ-loop offsets e n i₀ value₀ i value = i
