@@ -132,7 +132,7 @@ pub tally-cons : (key : ℕ) (a : Tally) (t : Exponents × ℤ) (L : Sum)
 unfolding tallyFrom
 tally-cons key a t L = refl
 
-pub added-bound : (hit : Bool) (x : ℤ) (a : Tally) → natAbs x ≤ greatestWeight
+added-bound : (hit : Bool) (x : ℤ) (a : Tally) → natAbs x ≤ greatestWeight
     → (natAbs (added hit x a .sum) ≤ natAbs (a .sum) + greatestWeight) × (added hit x a .count ≤ a .count + 1)
 unfolding added more
 added-bound true x a h = (omega (arith, abs-add (a .sum) x), omega arith)

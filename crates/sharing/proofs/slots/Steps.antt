@@ -1,6 +1,6 @@
 -- The steps of the functions that go over the rows and count slots.
 use mathlib.Core.Path.{_≡_, refl, sym, _∙_}
-use mathlib.Core.Bool.{Bool, true, false, false≢true, cond, _||_}
+use mathlib.Core.Bool.{Bool, true, false, cond, _||_}
 use mathlib.Core.List.{List, [], _∷_, _++_}
 use Prim.Native.Nat.{ℕ, suc, _+_, _*_, _^_, _<_, _≤_}
 use native.Mathlib.Decide.{ℕ-discrete}
@@ -38,26 +38,27 @@ use Rattle.sharing.proofs.slots.Laws.{key-bound, lone-slots, middle-car
 
 -- ---- tallies
 
--- with the first of three slots that is met, and no other
-abbrev oneMore : Bool → Bool → Bool → ℤ → ℤ → ℤ → Tally → Tally
-oneMore b d f x y z a = cond b (more x a) (cond d (more y a) (cond f (more z a) a))
+-- with one slot of a row at most, as the code tells which: at the first end its weight is x, at the second y true, and
+-- at the midpoint y false
+abbrev oneMore : Bool → Bool → Bool → ℤ → (Bool → ℤ) → Tally → Tally
+oneMore first second middle x y a = cond first (more x a) (cond (second || middle) (more (y second) a) a)
 
 -- so it is for a lone row's slot, whose key is v, w and half their sum
-once-added : (b : Bool) (x y z : ℤ) (a : Tally) → added b x a ≡ oneMore b b b x y z a
+once-added : (b : Bool) (x : ℤ) (y : Bool → ℤ) (a : Tally) → added b x a ≡ oneMore b b b x y a
 unfolding added
-once-added true x y z a = refl
-once-added false x y z a = refl
+once-added true x y a = refl
+once-added false x y a = refl
 
 -- and for a pair's, since no two of them have one key
-one-added : (key v w : ℕ) (x y z : ℤ) (a : Tally) → (v ≡ w → ⊥)
-    → added (eqb (v + w) (key * 2)) z (added (eqb key w) y (added (eqb key v) x a))
-    ≡ oneMore (eqb key v) (eqb key w) (eqb (v + w) (key * 2)) x y z a
+one-added : (key v w : ℕ) (x : ℤ) (y : Bool → ℤ) (a : Tally) → (v ≡ w → ⊥)
+    → added (eqb (v + w) (key * 2)) (y false) (added (eqb key w) (y true) (added (eqb key v) x a))
+    ≡ oneMore (eqb key v) (eqb key w) (eqb (v + w) (key * 2)) x y a
 unfolding added
-one-added key v w x y z a d = go (ℕ-discrete key v) (ℕ-discrete key w)
+one-added key v w x y a d = go (ℕ-discrete key v) (ℕ-discrete key w)
   where
     go : Dec (key ≡ v) → Dec (key ≡ w)
-        → added (eqb (v + w) (key * 2)) z (added (eqb key w) y (added (eqb key v) x a))
-        ≡ oneMore (eqb key v) (eqb key w) (eqb (v + w) (key * 2)) x y z a
+        → added (eqb (v + w) (key * 2)) (y false) (added (eqb key w) (y true) (added (eqb key v) x a))
+        ≡ oneMore (eqb key v) (eqb key w) (eqb (v + w) (key * 2)) x y a
     go (yes e) q =
         rw (eq-eqb key v e, ne-eqb key w (λ r. d (omega arith)), ne-eqb (v + w) (key * 2) (λ r. d (omega arith)))
     go (no e) (yes q) = rw (ne-eqb key v e, eq-eqb key w q, ne-eqb (v + w) (key * 2) (λ r. d (omega arith)))
@@ -213,9 +214,11 @@ module _ (s : List ℕ) (sh : Shape) (i : ℕ) (f : ProofFacts s sh) (l : i < sh
 
       -- one slot at most: p where the key is v, else q where it is w, else r where it is the midpoint's
       module _ (v w : ℕ) (ev : v ≡ keyOf (vOf s sh i)) (ew : w ≡ keyOf (wOf s sh i)) where
+        abbrev later : Bool → ℤ
+        later second = i32At s (at + stepTo second)
+
         abbrev with-row : Tally
-        with-row =
-            oneMore (eqb key v) (eqb key w) (eqb (v + w) (key * 2)) (i32At s at) (i32At s (at + 4)) (i32At s (at + 8)) a
+        with-row = oneMore (eqb key v) (eqb key w) (eqb (v + w) (key * 2)) (i32At s at) later a
 
         row-added : tallyOf key (slotsTo s sh (i + 1)) ≡ with-row
         unfolding tallyOf
@@ -227,7 +230,7 @@ module _ (s : List ℕ) (sh : Shape) (i : ℕ) (f : ProofFacts s sh) (l : i < sh
                 let d : v + v ≡ v * 2 = omega arith in
                 let p = p-there s sh i at ea in
                 rw (add-one, row, tally-append, tally-cons, tally-nil, ← ha, ← ev, ← p, ← e, d, halved)
-                (once-added (eqb key v) _ _ _ a)
+                (once-added (eqb key v) (i32At s at) later a)
             go (no e) =
                 let row = pair-slots s sh i (sym (lone s sh i f l v w ev ew) ∙ ne-eqb v w e) in
                 rw (
@@ -246,7 +249,7 @@ module _ (s : List ℕ) (sh : Shape) (i : ℕ) (f : ProofFacts s sh) (l : i < sh
                   ← (q-there s sh i at ea),
                   ← (r-there s sh i at ea),
                 )
-                (one-added key v w _ _ _ a e)
+                (one-added key v w (i32At s at) later a e)
 
         pub first-added : (r : Tally) → key ≡ v → r ≡ more (i32At s at) a → r ≡ tallyOf key (slotsTo s sh (i + 1))
         first-added r e h = h ∙ sym (row-added ∙ rw (eq-eqb key v e))
@@ -254,24 +257,10 @@ module _ (s : List ℕ) (sh : Shape) (i : ℕ) (f : ProofFacts s sh) (l : i < sh
         module _ (past : key ≡ v → ⊥) where
           pub later-added : (r : Tally) (step : ℕ) → eqb key w || eqb (v + w) (key * 2) ≡ true
               → step ≡ stepTo (eqb key w) → r ≡ more (i32At s (at + step)) a → r ≡ tallyOf key (slotsTo s sh (i + 1))
-          later-added r step t e h =
-              h ∙ sym (row-added ∙ rw (ne-eqb key v past, e) (go (eqb key w) (eqb (v + w) (key * 2)) t))
-            where
-              go : (b d : Bool) → b || d ≡ true
-                  → cond b (more (i32At s (at + 4)) a) (cond d (more (i32At s (at + 8)) a) a)
-                  ≡ more (i32At s (at + stepTo b)) a
-              go true d t = refl
-              go false true t = refl
-              go false false t = absurd (false≢true t)
+          later-added r step t e h = h ∙ sym (row-added ∙ rw (ne-eqb key v past, t, e))
 
           pub none-added : eqb key w || eqb (v + w) (key * 2) ≡ false → a ≡ tallyOf key (slotsTo s sh (i + 1))
-          none-added t = sym (row-added ∙ rw (ne-eqb key v past) (go (eqb key w) (eqb (v + w) (key * 2)) t))
-            where
-              go : (b d : Bool) → b || d ≡ false
-                  → cond b (more (i32At s (at + 4)) a) (cond d (more (i32At s (at + 8)) a) a) ≡ a
-              go true d t = absurd (false≢true (sym t))
-              go false true t = absurd (false≢true (sym t))
-              go false false t = refl
+          none-added t = sym (row-added ∙ rw (ne-eqb key v past, t))
 
 -- ---- scan, slots_with and held
 
