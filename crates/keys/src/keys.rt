@@ -25,7 +25,7 @@ pub fn key_at(s: &[u8], at: usize, n: usize) -> u64
     eight_at(s, at + n - 8) >> (64 - 8 * n)
 }
 
-// The same key, where eight bytes begin with them: they are the lowest of these.
+// The same key, where eight bytes or more are left from that place on: the n bytes are the lowest of these eight.
 pub fn key_from(s: &[u8], at: usize, n: usize) -> u64
     requires { ⌜ (1 ≤ n) × (n ≤ mostVariables) × (at + 8 ≤ length (now s)) ⌝ }
     ensures { λ r. ⌜ r ≡ keyOf (bytesAt (now (s .entry)) at n) ⌝ }

@@ -40,14 +40,15 @@ pub record Small (a : Tally) : Type 0 where
   pub sum-small : natAbs (a .sum) ≤ 2 ^ 42
   pub count-small : a .count ≤ 2 ^ 20
 
--- one slot more, and one where it is at the point
+-- one slot more, of weight x
 unfoldable pub more : ℤ → Tally → Tally
 more x a = record { sum = a .sum +ℤ x; count = a .count + 1 }
 
+-- the same, where the slot is at the point
 unfoldable pub added : Bool → ℤ → Tally → Tally
 added hit x a = cond hit (more x a) a
 
--- from a row's first weight to the one at its second end, or at its midpoint
+-- how many bytes after a row's first weight the one at its second end stands, or else the one at its midpoint
 abbrev pub stepTo : Bool → ℕ
 stepTo second = cond second 4 8
 

@@ -38,7 +38,7 @@ fn add(proof: &[u8], at: usize, a: Tally) -> Tally
     }
 }
 
-// How far after a row's first weight the weight at its second end stands, or else the one at its midpoint.
+// How many bytes after a row's first weight the one at its second end stands, or else the one at its midpoint.
 fn weight_step(second: bool) -> usize
     ensures { λ r. ⌜ (r ≡ stepTo second) × (r ≤ 8) ⌝ }
 {

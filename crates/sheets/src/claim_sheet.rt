@@ -38,7 +38,8 @@ pub fn term_point(claim: &[u8], n: usize, t: usize, i: usize) -> Point
     point_at(claim, place_of(8, i, n), n)
 }
 
-// The key of term i's point. Eight bytes begin with it, save in a claim of one term, where eight bytes end with it.
+// The key of term i's point. From the point on at least eight bytes are left, save in a claim of one term; there the
+// eight bytes are read that end with it.
 pub fn term_key(claim: &[u8], n: usize, t: usize, i: usize) -> u64
     requires { ⌜ (ClaimRoom (now claim) n t) × (1 ≤ n) × (i < t) ⌝ }
     ensures { λ r. ⌜ r ≡ keyOf (termPoint (now (claim .entry)) n i) ⌝ }

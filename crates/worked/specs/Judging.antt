@@ -72,7 +72,7 @@ marked =
     -- G: "Accepted"; H: "the first slot takes it, same result as G"
     ∷ accepts motzkinBytes motzkinProofBytes motzkinExact 3 motzkinProofBytes
     ∷ accepts motzkin (motzkinProof (negsuc 2)) motzkinExact 3 motzkinProofBytes
-    -- H with its first two rows exchanged: the same error, and the other row's slot takes it
+    -- not in document 01: H with its first two rows exchanged, the same error, and the other row's slot takes it
     ∷ refuses motzkin (motzkinExchanged (negsuc 2))
     (Pair (pos 3) (pos 2) (negsuc 3) ∷ Pair (pos 1) (pos 1) (negsuc 2) ∷ Pair (pos 1) (pos 1) (negsuc 1) ∷ [])
     (record { number = 19; blamed = proof; value = 1 })
