@@ -17,15 +17,7 @@ fn eight_at(s: &[u8], at: usize) -> u64
     read_u32(s, at) + read_u32(s, at + 4) * 4294967296
 }
 
-// The key of the n bytes from a place on. They are the highest of the eight bytes that end with them.
-pub fn key_at(s: &[u8], at: usize, n: usize) -> u64
-    requires { ⌜ (1 ≤ n) × (n ≤ mostVariables) × (8 ≤ at + n) × (at + n ≤ length (now s)) ⌝ }
-    ensures { λ r. ⌜ r ≡ keyOf (bytesAt (now (s .entry)) at n) ⌝ }
-{
-    eight_at(s, at + n - 8) >> (64 - 8 * n)
-}
-
-// The same key, where eight bytes or more are left from that place on: the n bytes are the lowest of these eight.
+// The key of the n bytes from a place on: they are the lowest of the eight that begin there.
 pub fn key_from(s: &[u8], at: usize, n: usize) -> u64
     requires { ⌜ (1 ≤ n) × (n ≤ mostVariables) × (at + 8 ≤ length (now s)) ⌝ }
     ensures { λ r. ⌜ r ≡ keyOf (bytesAt (now (s .entry)) at n) ⌝ }

@@ -2,8 +2,8 @@
 use crate::layout::count;
 use crate::layout::place_of;
 use integers::words::read_i32;
-use keys::keys::key_at;
 use keys::keys::key_from;
+use keys::keys::key_of;
 use points::points::Point;
 use points::points::point_at;
 ghost use mathlib.Core.Path.{_≡_};
@@ -38,17 +38,15 @@ pub fn term_point(claim: &[u8], n: usize, t: usize, i: usize) -> Point
     point_at(claim, place_of(8, i, n), n)
 }
 
-// The key of term i's point. From the point on at least eight bytes are left, save in a claim of one term; there the
-// eight bytes are read that end with it.
+// The key of term i's point. From there on at least eight bytes are left, save in a claim of one term.
 pub fn term_key(claim: &[u8], n: usize, t: usize, i: usize) -> u64
     requires { ⌜ (ClaimRoom (now claim) n t) × (1 ≤ n) × (i < t) ⌝ }
     ensures { λ r. ⌜ r ≡ keyOf (termPoint (now (claim .entry)) n i) ⌝ }
 {
-    let at = place_of(8, i, n);
     if t == 1 {
-        return key_at(claim, at, n);
+        return key_of(term_point(claim, n, t, i));
     }
-    key_from(claim, at, n)
+    key_from(claim, place_of(8, i, n), n)
 }
 
 // The coefficient of term i.

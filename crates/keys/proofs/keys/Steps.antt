@@ -1,4 +1,4 @@
--- The steps of key_at, key_from and key_of.
+-- The steps of key_from and key_of.
 use mathlib.Core.Path.{_≡_, refl, _∙_, ap}
 use mathlib.Core.List.{List, [], _∷_, _++_}
 use Prim.Native.Nat.{ℕ, suc, _+_, _*_, _-_, _/_, _%_, _^_, _<_, _≤_}
@@ -35,7 +35,7 @@ unfolding keyOf
 key-append [] β = omega arith
 key-append (a ∷ α) β = rw (byte-more (length α)) (omega (arith, key-append α β))
 
--- ---- the ways through key_at and key_from
+-- ---- the ways through key_from
 
 pub eight-key : (s : List ℕ) (at low high : ℕ) → low ≡ u32At s at → high ≡ u32At s (at + 4)
     → low + high * 4294967296 ≡ keyOf (bytesAt s at 8)
@@ -50,28 +50,14 @@ bytes-small s at n b i = go (decLt i n)
     go (yes l) = rw (bytes-get s at n i l) (omega (arith, b (at + i)))
     go (no l) = rw (List·getD-eq-default (bytesAt s at n) 0 {n = i} (rw bytes-length (omega arith))) (omega arith)
 
--- of the key of m + n bytes, the digits of the n last and those of the m first
-module _ (s : List ℕ) (at m n : ℕ) (b : Bytes s) where
-  key-split : keyOf (bytesAt s at (m + n)) ≡ keyOf (bytesAt s (at + m) n) * 2 ^ (8 * m) + keyOf (bytesAt s at m)
-  key-split = rw (bytes-split s at m n, key-append (bytesAt s at m) (bytesAt s (at + m) n), bytes-length s at m)
-
-  first-below : keyOf (bytesAt s at m) < 2 ^ (8 * m)
-  first-below = rw bytes-length at (key-below (bytesAt s at m) (bytes-small s at m b))
-
-  key-high : keyOf (bytesAt s at (m + n)) / 2 ^ (8 * m) ≡ keyOf (bytesAt s (at + m) n)
-  key-high = rw key-split (digits-div (keyOf (bytesAt s (at + m) n)) first-below)
-
-  key-lowest : keyOf (bytesAt s at (m + n)) % 2 ^ (8 * m) ≡ keyOf (bytesAt s at m)
-  key-lowest = rw key-split (digits-mod (keyOf (bytesAt s (at + m) n)) first-below)
-
-pub key-here : (s : List ℕ) (at n eight : ℕ) → Bytes s → n ≤ mostVariables → 8 ≤ at + n
-    → eight ≡ keyOf (bytesAt s (at + n - 8) 8)
-    → eight / 2 ^ (64 - 8 * n) ≡ keyOf (bytesAt s at n)
-key-here s at n eight b h l e =
-    let e₁ : 64 - 8 * n ≡ 8 * (8 - n) = omega arith in
-    let e₂ : 8 - n + n ≡ 8 = omega arith in
-    let e₃ : at + n - 8 + (8 - n) ≡ at = omega arith in
-    rw (e, e₁) (rw (e₂, e₃) at (key-high s (at + n - 8) (8 - n) n b))
+-- of the key of m + n bytes, the digits of the m first
+key-lowest : (s : List ℕ) (at m n : ℕ) → Bytes s
+    → keyOf (bytesAt s at (m + n)) % 2 ^ (8 * m) ≡ keyOf (bytesAt s at m)
+key-lowest s at m n b =
+    let low : keyOf (bytesAt s at m) < 2 ^ (8 * m) =
+    rw bytes-length at (key-below (bytesAt s at m) (bytes-small s at m b)) in
+    rw (bytes-split s at m n, key-append (bytesAt s at m) (bytesAt s (at + m) n), bytes-length s at m)
+    (digits-mod (keyOf (bytesAt s (at + m) n)) low)
 
 -- all bits shifted down to those of n bytes
 mask-is : (n : ℕ) → n ≤ mostVariables → 18446744073709551615 / 2 ^ (64 - 8 * n) ≡ 2 ^ (8 * n) - 1
