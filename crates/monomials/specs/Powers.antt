@@ -2,8 +2,8 @@
 use mathlib.Core.Bool.{cond}
 use mathlib.Core.List.{List, [], _∷_}
 use mathlib.Core.Path.{_≡_}
-use Prim.Native.Nat.{ℕ, zero, suc, _≤_, _<_}
-use lib.Dec.{leb}
+use Prim.Native.Nat.{ℕ, zero, suc, _-_, _%_, _≤_, _<_}
+use lib.Dec.{leb, ltb}
 use lib.IntN.{ℤ, pos, natAbs, _*ℤ_}
 use Rattle.bounds.specs.Bounds.{greatestValue}
 use Rattle.points.specs.Points.{Exponents}
@@ -30,7 +30,15 @@ Represents TooLarge z = greatestValue < natAbs z
 unfoldable pub within : ℤ → Bounded
 within z = cond (leb (natAbs z) greatestValue) (Value z) TooLarge
 
--- the number itself, or else one that stands for all that are too large: a product with it is too large unless the
--- other factor is zero, since "A zero offset under a positive exponent makes its term zero"
+-- the number that stands for all that are too large
+abbrev pub saturation : ℤ
+saturation = pos 9223372036854775807
+
+-- the number itself, or else the one that stands for it: a product with that is too large unless the other factor is
+-- zero, since "A zero offset under a positive exponent makes its term zero"
 unfoldable pub saturated : ℤ → ℤ
-saturated z = cond (leb (natAbs z) greatestValue) z (pos 9223372036854775807)
+saturated z = cond (leb (natAbs z) greatestValue) z saturation
+
+-- a smaller exponent of the same power: those of 0, 1 and −1 go by parity
+unfoldable pub reduced : ℤ → ℕ → ℕ
+reduced x e = cond (ltb e 3) e (cond (ltb 1 (natAbs x)) e (2 - e % 2))

@@ -10,7 +10,7 @@ ghost use lib.IntN.{pos, _*ℤ_};
 ghost use lib.ListN.{length, getD};
 ghost use Rattle.bounds.specs.Bounds.{greatestValue};
 ghost use Rattle.points.specs.Points.{exponents};
-ghost use Rattle.monomials.specs.Powers.{powerOf, monomialOf, within, saturated};
+ghost use Rattle.monomials.specs.Powers.{powerOf, monomialOf, within, saturated, reduced};
 
 // An exact number, or that its absolute value is over the greatest.
 pub enum Bounded {
@@ -62,7 +62,7 @@ fn power(base: i64, e: u8) -> i64
 
 // An exponent of the same power, so that 0, 1 and −1 are multiplied at most twice: their powers go by parity.
 fn reduced(base: i64, e: u8) -> u8
-    ensures { λ r. ⌜ powerOf base r ≡ powerOf base e ⌝ }
+    ensures { λ r. ⌜ r ≡ reduced base e ⌝ }
 {
     if e < 3 {
         return e;

@@ -10,7 +10,7 @@ use lib.Dec.{leb}
 use lib.IntN.{ℤ, pos, natAbs, _*ℤ_, *ℤ-comm, zero-*ℤ}
 use lib.ListN.{length, getD, take, drop, length-take}
 use lib.Seq.{drop-cons, drop-nil, getD-take}
-use borrow.Author.Tests.{leb-true, leb-false, le-leb, lt-leb}
+use borrow.Author.Tests.{leb-true, leb-false, le-leb, lt-leb, lt-ltb, le-ltb}
 use mir.Syntax.{w64}
 use mir.Val.{Fits, SFits}
 use mir.Facts.{toZ-ofZ}
@@ -19,7 +19,7 @@ use Rattle.bounds.specs.Bounds.{mostVariables, greatestValue}
 use Rattle.points.specs.Points.{Exponents, exponents}
 use Rattle.points.specs.declared.points.Point.{Point}
 use Rattle.points.proofs.points.Laws.{exponents-counted, Places}
-use Rattle.monomials.specs.Powers.{powerOf, monomialOf, within, saturated}
+use Rattle.monomials.specs.Powers.{powerOf, monomialOf, within, saturation, saturated, reduced}
 use Rattle.monomials.specs.declared.powers.Bounded.{Bounded}
 use Rattle.monomials.specs.declared.powers.Bounded.the-variants.{Value, TooLarge}
 use Rattle.monomials.proofs.powers.Laws.{power-parity, within-small, within-large}
@@ -31,7 +31,7 @@ module _ (z : ℤ) where
   unfolding saturated
   saturated-small h = rw (le-leb (natAbs z) greatestValue h)
 
-  saturated-large : greatestValue < natAbs z → pos 9223372036854775807 ≡ saturated z
+  saturated-large : greatestValue < natAbs z → saturation ≡ saturated z
   unfolding saturated
   saturated-large h = rw (lt-leb (natAbs z) greatestValue h)
 
@@ -55,7 +55,7 @@ saturated-second x y = go (decLt greatestValue (natAbs y)) (ℕ-discrete (natAbs
     go (yes h) (yes e) = rw (abs-zero x e, zero-*ℤ, zero-*ℤ)
     go (yes h) (no e) =
         rw (← (saturated-large y h))
-        (sym (saturated-large (x *ℤ pos 9223372036854775807) (omega (arith, abs-more x (pos 9223372036854775807) e)))
+        (sym (saturated-large (x *ℤ saturation) (omega (arith, abs-more x (saturation) e)))
         ∙ saturated-large (x *ℤ y) (omega (arith, abs-more x y e)))
 
 saturated-both : (x y : ℤ) → saturated (saturated x *ℤ saturated y) ≡ saturated (x *ℤ y)
@@ -97,7 +97,7 @@ module _ (x y x′ y′ : ℤ) (m n : ℕ) (t : Bool) (et : t ≡ leb (m * n) gr
   abs-is : natAbs (x *ℤ y) ≡ m * n
   abs-is = abs-mul x y ∙ (let p : natAbs x ≡ m = cc in let q : natAbs y ≡ n = cc in rw (p, q))
 
-  pub product-large : t ≡ false → pos 9223372036854775807 ≡ saturated (x *ℤ y)
+  pub product-large : t ≡ false → saturation ≡ saturated (x *ℤ y)
   product-large h = saturated-large (x *ℤ y) (rw abs-is (leb-false (m * n) greatestValue (sym et ∙ h)))
 
   module _ (h : t ≡ true) where
@@ -125,9 +125,31 @@ pub power-more : (b b′ b″ y y′ z z′ : ℤ) (e : ℕ) → z′ ≡ z → 
 power-more b b′ b″ y y′ z z′ e sz ez t u ey s h =
     rw (sz, ez, t, u, ey, s, power-less b e h) (saturated-second b (powerOf b (e - 1)))
 
--- reduced
-pub reduced-parity : (x x′ : ℤ) (m e : ℕ) → m ≡ natAbs x′ → x′ ≡ x → m ≤ 1 → 3 ≤ e → powerOf x (2 - e % 2) ≡ powerOf x e
-reduced-parity x x′ m e em s h l = power-parity x e (rw (← s, ← em) h) (omega arith)
+-- reduced: m is the absolute value
+module _ (x : ℤ) (e : ℕ) where
+  pub reduced-low : e < 3 → e ≡ reduced x e
+  unfolding reduced
+  reduced-low h = rw (lt-ltb e 3 h)
+
+  module _ (x′ : ℤ) (m : ℕ) (em : m ≡ natAbs x′) (s : x′ ≡ x) (l : 3 ≤ e) where
+    pub reduced-same : 1 < m → e ≡ reduced x e
+    unfolding reduced
+    reduced-same h = rw (le-ltb e 3 l, lt-ltb 1 (natAbs x) (rw (← s, ← em) h))
+
+    pub reduced-parity : m ≤ 1 → 2 - e % 2 ≡ reduced x e
+    unfolding reduced
+    reduced-parity h = rw (le-ltb e 3 l, le-ltb 1 (natAbs x) (rw (← s, ← em) h))
+
+  power-reduced : powerOf x (reduced x e) ≡ powerOf x e
+  unfolding reduced
+  power-reduced = go (decLt e 3) (decLt 1 (natAbs x))
+    where
+      go : Dec (e < 3) → Dec (1 < natAbs x) → powerOf x (reduced x e) ≡ powerOf x e
+      go (yes h) d = rw (lt-ltb e 3 h)
+      go (no h) (yes k) = rw (le-ltb e 3 (omega arith), lt-ltb 1 (natAbs x) k)
+      go (no h) (no k) =
+          rw (le-ltb e 3 (omega arith), le-ltb 1 (natAbs x) (omega arith))
+          (power-parity x e (omega arith) (omega arith))
 
 -- monomial: the product of the powers from a variable on
 monomial-past : (x : List ℤ) (α : Exponents) (i : ℕ) → min (length α) (length x) ≤ i
@@ -160,13 +182,13 @@ from-start x e n i h =
 -- r is the power, v the product so far and q both
 pub from-next : (x : List ℤ) (e : List ℕ) (n i d : ℕ) (b b′ b″ r r′ v v′ q q′ : ℤ) → v ≡ saturated (From x e n i)
     → v′ ≡ v → 0 < i → i ≤ length x → i ≤ n → n ≤ mostVariables → Places e
-    → b ≡ getD x (i - 1) (pos 0) → b′ ≡ b → powerOf b′ d ≡ powerOf b′ (getD e (i - 1) 0)
+    → b ≡ getD x (i - 1) (pos 0) → b′ ≡ b → d ≡ reduced b′ (getD e (i - 1) 0)
     → b″ ≡ b → r ≡ saturated (powerOf b″ d) → r′ ≡ r → q ≡ saturated (r′ *ℤ v′) → q′ ≡ q
     → q′ ≡ saturated (From x e n (i - 1))
 unfolding From
 from-next x e n i d b b′ b″ r r′ v v′ q q′ ev sv l h k m le eb s ed t er sr eq sq =
     let j : suc (i - 1) ≡ i = omega arith in
-    let same : powerOf b d ≡ powerOf b (getD e (i - 1) 0) = rw s at ed in
+    let same : powerOf b d ≡ powerOf b (getD e (i - 1) 0) = rw (ed, s) (power-reduced b (getD e (i - 1) 0)) in
     rw (
       monomial-cons x (take n e) (i - 1) (omega arith) (omega (arith, length-take n e)),
       j,
