@@ -30,6 +30,8 @@ Represents TooLarge z = greatestValue < natAbs z
 unfoldable pub within : ℤ → Bounded
 within z = cond (leb (natAbs z) greatestValue) (Value z) TooLarge
 
+-- ---- numbers and exponents as the code counts
+
 -- the number that stands for all that are too large
 abbrev pub saturation : ℤ
 saturation = pos 9223372036854775807
@@ -39,6 +41,6 @@ saturation = pos 9223372036854775807
 unfoldable pub saturated : ℤ → ℤ
 saturated z = cond (leb (natAbs z) greatestValue) z saturation
 
--- a smaller exponent of the same power: those of 0, 1 and −1 go by parity
+-- an exponent of the same power: the powers of 0, 1 and −1 go by parity
 unfoldable pub reduced : ℤ → ℕ → ℕ
 reduced x e = cond (ltb e 3) e (cond (ltb 1 (natAbs x)) e (2 - e % 2))

@@ -13,7 +13,7 @@ abbrev pub All : {A : Type 0} → (A → Type 0) → List A → Type 0
 All P [] = Unit {0}
 All P (a ∷ l) = P a × All P l
 
--- the same elements, each as often, in some order: the first stands somewhere in the other list, and the rest are a
+-- a permutation, the same elements in some order: the first stands somewhere in the other list, and the rest are a
 -- reordering of what stands before and after it there
 abbrev pub Reordered : {A : Type 0} → List A → List A → Type 0
 Reordered [] others = others ≡ []

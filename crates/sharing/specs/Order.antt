@@ -11,20 +11,14 @@ use Rattle.squares.specs.Rows.{slots}
 use Rattle.rows.specs.ProofSheet.{rowsOf}
 use Rattle.sharing.specs.Sharing.{count, errorAt}
 
--- "a point's sum is the same in whatever order the rows stand", and so is the number of slots there; `own` gives the
--- slots of one row
-pub record AnyOrder {A : Type 0} (own : A → Sum) : Type 0 where
-  pub sums : (rows others : List A) → Reordered rows others → (α : Exponents)
-      → coefficient α (gathered own rows) ≡ coefficient α (gathered own others)
-  pub counts : (rows others : List A) → Reordered rows others → (α : Exponents)
-      → count α (gathered own rows) ≡ count α (gathered own others)
-
--- of rows of every kind, whatever slots one has
-abbrev pub RowsInAnyOrder : Type 1
-RowsInAnyOrder = (A : Type 0) (own : A → Sum) → AnyOrder own
-
--- so two proof sheets with the same rows in another order have the same error at every point, under one target
-abbrev pub SheetsInAnyOrder : Type 0
-SheetsInAnyOrder =
-    (s s′ : List ℕ) → Reordered (rowsOf s) (rowsOf s′) → (τ : Exponents → ℤ) (α : Exponents)
-    → errorAt τ (slots (rowsOf s)) α ≡ errorAt τ (slots (rowsOf s′)) α
+-- what does not go by the order of rows
+pub record AnyOrder : Type 1 where
+  -- "a point's sum is the same in whatever order the rows stand", whatever a row is: `own` gives the slots of one
+  pub sums : (A : Type 0) (own : A → Sum) (rows others : List A) → Reordered rows others
+      → (α : Exponents) → coefficient α (gathered own rows) ≡ coefficient α (gathered own others)
+  -- and so is the number of slots there
+  pub counts : (A : Type 0) (own : A → Sum) (rows others : List A) → Reordered rows others
+      → (α : Exponents) → count α (gathered own rows) ≡ count α (gathered own others)
+  -- so two proof sheets with the same rows in another order have the same error at every point, under one target
+  pub errors : (s s′ : List ℕ) → Reordered (rowsOf s) (rowsOf s′)
+      → (τ : Exponents → ℤ) (α : Exponents) → errorAt τ (slots (rowsOf s)) α ≡ errorAt τ (slots (rowsOf s′)) α
