@@ -2,15 +2,15 @@
 use mathlib.Core.Path.{_≡_}
 use mathlib.Core.Bool.{Bool, true, not, _&&_, _||_}
 use mathlib.Core.List.{List}
-use Prim.Native.Nat.{ℕ, suc, _-_, _<_, _≤_}
+use Prim.Native.Nat.{ℕ, suc, _-_, _/_, _^_, _<_, _≤_}
 use lib.Dec.{eqb, ltb, leb}
 use lib.IntN.{natAbs}
 use lib.ListN.{length, getD}
 use Rattle.bounds.specs.Bounds.{greatestExponent, greatestWeight, beyond, mostVariables, mostTerms}
 use Rattle.answers.specs.Answers.{Answer, accepted, refuseIf, refuseAt}
 use Rattle.answers.specs.Searches.{first}
-use Rattle.points.specs.Points.{risesTo, exponentsWithin}
-use Rattle.sheets.specs.Layout.{variables, termCount, claimLength, ClaimRoom}
+use Rattle.points.specs.Points.{Masked, risesTo, exponentsWithin}
+use Rattle.sheets.specs.Layout.{variables, termCount, maskOf, claimLength, ClaimRoom}
 use Rattle.sheets.specs.ClaimSheet.{floorOf, termPoint, coefficientOf}
 use Rattle.claims.specs.declared.claim_checks.TermRule.{TermRule}
 use Rattle.claims.specs.declared.claim_checks.TermRule.the-variants.{Coefficient, Exponent, Order}
@@ -19,9 +19,17 @@ use Rattle.claims.specs.declared.claim_checks.TermRule.the-variants.{Coe
 unfoldable pub countsRight : List ℕ → Bool
 countsRight c = leb 1 (variables c) && leb (variables c) mostVariables && leb (termCount c) mostTerms
 
--- "Bytes 2 and 3: zero"
+-- "byte 2 is wrong where it has a mask bit at or above n": it has none
+abbrev pub MaskWithin : List ℕ → Type 0
+MaskWithin c = (i : ℕ) → variables c ≤ i → Masked (maskOf c) i → ⊥
+
+-- the same as a test: after n bits nothing is left of the mask
+unfoldable pub maskRight : List ℕ → Bool
+maskRight c = eqb (maskOf c / 2 ^ variables c) 0
+
+-- and byte 3 is zero
 unfoldable pub claimHeaderRight : List ℕ → Bool
-claimHeaderRight c = countsRight c && eqb (getD c 2 0) 0 && eqb (getD c 3 0) 0
+claimHeaderRight c = countsRight c && maskRight c && eqb (getD c 3 0) 0
 
 -- term i breaks a rule: "coefficient zero or beyond", "exponent over" the limit, "point not above the one before"
 unfoldable pub termBreaks : TermRule → List ℕ → ℕ → ℕ → ℕ → Bool

@@ -12,18 +12,21 @@ use points::points::exponents_within;
 use points::points::rises;
 use sheets::claim_sheet::coefficient;
 use sheets::claim_sheet::floor;
+use sheets::claim_sheet::mask;
 use sheets::claim_sheet::term_count;
 use sheets::claim_sheet::term_point;
 use sheets::layout::place_of;
 use sheets::layout::variables;
 ghost use mathlib.Core.Path.{_≡_};
-ghost use mathlib.Core.Bool.{not};
+ghost use mathlib.Core.Bool.{not, false};
+ghost use mathlib.Core.Logic.{_↔_};
 ghost use Prim.Native.Nat.{_<_, _≤_};
 ghost use lib.ListN.{length};
+ghost use Rattle.bounds.specs.Bounds.{mostVariables};
 ghost use Rattle.answers.specs.Answers.{says};
 ghost use Rattle.answers.specs.Searches.{first};
-ghost use Rattle.sheets.specs.Layout.{ClaimRoom};
-ghost use Rattle.claims.specs.ClaimChecks.{countsRight, claimHeaderRight, termBreaks, termsAnswer, claimAnswer};
+ghost use Rattle.sheets.specs.Layout.{variables, ClaimRoom};
+ghost use Rattle.claims.specs.ClaimChecks.{countsRight, MaskWithin, maskRight, claimHeaderRight, termBreaks, termsAnswer, claimAnswer};
 ghost use Rattle.claims.specs.declared.claim_checks.TermRule.the-variants.{Coefficient, Exponent, Order};
 
 // What every term has to keep, with its limit.
@@ -51,7 +54,16 @@ fn counts_wrong(claim: &[u8]) -> bool
     MOST_TERMS < term_count(claim)
 }
 
-// 2: whether n, t or bytes 2 and 3 are wrong.
+// Whether the mask has a bit at or above n.
+fn mask_wrong(claim: &[u8]) -> bool
+    requires { ⌜ (8 ≤ length (now claim)) × (variables (now claim) ≤ mostVariables) ⌝ }
+    ensures test { λ r. ⌜ r ≡ not (maskRight (now (claim .entry))) ⌝ }
+    ensures says { λ r. ⌜ (r ≡ false) ↔ MaskWithin (now (claim .entry)) ⌝ }
+{
+    mask(claim) as u64 >> variables(claim) != 0
+}
+
+// 2: whether n, t, the mask or byte 3 is wrong.
 pub fn header_wrong(claim: &[u8]) -> bool
     requires { ⌜ 8 ≤ length (now claim) ⌝ }
     ensures { λ r. ⌜ r ≡ not (claimHeaderRight (now (claim .entry))) ⌝ }
@@ -59,7 +71,7 @@ pub fn header_wrong(claim: &[u8]) -> bool
     if counts_wrong(claim) {
         return true;
     }
-    if claim[2] != 0 {
+    if mask_wrong(claim) {
         return true;
     }
     claim[3] != 0

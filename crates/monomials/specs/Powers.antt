@@ -5,8 +5,10 @@ use mathlib.Core.Path.{_≡_}
 use Prim.Native.Nat.{ℕ, zero, suc, _-_, _%_, _≤_, _<_}
 use lib.Dec.{leb, ltb}
 use lib.IntN.{ℤ, pos, natAbs, _*ℤ_}
+use lib.ListN.{getD}
+use lib.Signed.{_≤ℤ_}
 use Rattle.bounds.specs.Bounds.{greatestValue}
-use Rattle.points.specs.Points.{Exponents}
+use Rattle.points.specs.Points.{Exponents, Masked}
 use Rattle.monomials.specs.declared.powers.Bounded.{Bounded}
 use Rattle.monomials.specs.declared.powers.Bounded.the-variants.{Value, TooLarge}
 
@@ -20,6 +22,14 @@ unfoldable pub monomialOf : List ℤ → Exponents → ℤ
 monomialOf x [] = pos 1
 monomialOf [] (e ∷ α) = pos 1
 monomialOf (x ∷ xs) (e ∷ α) = powerOf x e *ℤ monomialOf xs α
+
+-- variable i of a list of numbers; one that the list does not have counts as 1, as in a monomial
+abbrev pub variable : List ℤ → ℕ → ℤ
+variable x i = getD x i (pos 1)
+
+-- "masked variables at least 0"
+abbrev pub Allowed : ℕ → List ℤ → Type 0
+Allowed mask x = (i : ℕ) → Masked mask i → pos 0 ≤ℤ variable x i
 
 -- what each answer says of the exact number z: a value is z, "at most 2^56" in absolute value; too large is "over 2^56"
 abbrev pub Represents : Bounded → ℤ → Type 0

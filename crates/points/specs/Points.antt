@@ -1,14 +1,15 @@
 -- Points: the exponents of a monomial, one for each variable, and what is asked of them.
 use mathlib.Core.Bool.{Bool, true, false, cond, _&&_}
 use mathlib.Core.List.{List, [], _∷_, _++_}
-use Prim.Native.Nat.{ℕ, _+_, _-_, _/_, _%_}
+use mathlib.Core.Path.{_≡_}
+use Prim.Native.Nat.{ℕ, _+_, _-_, _/_, _%_, _^_, _<_}
 use lib.Dec.{eqb, ltb, leb}
 use lib.ListN.{length, getD, take, replicate}
 use Rattle.bounds.specs.Bounds.{mostVariables}
 use Rattle.points.specs.Lists.{table}
 use Rattle.points.specs.declared.points.Point.{Point}
 use Rattle.points.specs.declared.points.Test.{Test}
-use Rattle.points.specs.declared.points.Test.the-variants.{Equal, EvenSum, Even, Within}
+use Rattle.points.specs.declared.points.Test.the-variants.{Equal, EvenSum, Within}
 
 abbrev pub Exponents : Type 0
 Exponents = List ℕ
@@ -61,18 +62,26 @@ midpointOf [] w = []
 midpointOf (a ∷ v) [] = []
 midpointOf (a ∷ v) (b ∷ w) = (a + b) / 2 ∷ midpointOf v w
 
--- a monomial with these exponents is never negative: "every exponent is even"
-unfoldable pub keepsSign : Exponents → Bool
-keepsSign α = every (λ e. eqb (e % 2) 0) α
+-- "bit i (value 2^i) says that variable i is never negative"
+abbrev pub Masked : ℕ → ℕ → Type 0
+Masked mask i = mask / 2 ^ i % 2 ≡ 1
+
+-- "A point whose odd exponents all belong to masked variables"
+abbrev pub OddsMasked : ℕ → Exponents → Type 0
+OddsMasked mask α = (i : ℕ) → i < length α → getD α i 0 % 2 ≡ 1 → Masked mask i
+
+-- the same as a test: the lowest bit is the first variable's, and half the mask is that of the others
+unfoldable pub keepsSign : ℕ → Exponents → Bool
+keepsSign mask [] = true
+keepsSign mask (e ∷ α) = leb (e % 2) (mask % 2) && keepsSign (mask / 2) α
 
 -- no exponent is over the limit
 unfoldable pub exponentsWithin : ℕ → Exponents → Bool
 exponentsWithin limit α = every (λ e. leb e limit) α
 
--- ---- the same tests as the code has them; `Even` and `Within` look at the first point alone
+-- ---- the same tests as the code has them; `Within` looks at the first point alone
 
 unfoldable pub passes : Test → ℕ → ℕ → Bool
 passes Equal a b = eqb a b
 passes EvenSum a b = evenSum a b
-passes Even a b = eqb (a % 2) 0
 passes (Within limit) a b = leb a limit

@@ -1,10 +1,12 @@
 // Points by value: their exponents, order, midpoint and parity.
 use bounds::bounds::MOST_VARIABLES;
 ghost use mathlib.Core.Path.{_≡_};
+ghost use mathlib.Core.Bool.{true};
+ghost use mathlib.Core.Logic.{_↔_};
 ghost use Prim.Native.Nat.{_+_, _/_, _≤_, min};
 ghost use lib.ListN.{length};
 ghost use Rattle.bounds.specs.Bounds.{mostVariables};
-ghost use Rattle.points.specs.Points.{exponents, pointOf, bytesAt, everyPair, passes, samePoint, risesTo, hasMidpoint, midpointOf, keepsSign, exponentsWithin};
+ghost use Rattle.points.specs.Points.{exponents, pointOf, bytesAt, everyPair, passes, samePoint, risesTo, hasMidpoint, midpointOf, OddsMasked, keepsSign, exponentsWithin};
 
 // The exponents of n variables, in the first n places. Where n is over the number of places, all of them count.
 pub struct Point {
@@ -46,18 +48,16 @@ pub fn point_at(s: &[u8], at: usize, n: usize) -> Point
 pub enum Test {
     Equal,
     EvenSum,
-    Even,
     Within(u8),
 }
 
-// Whether two exponents pass a test; `Even` and `Within` look at x alone.
+// Whether two exponents pass a test; `Within` looks at x alone.
 fn passes(test: Test, x: u8, y: u8) -> bool
     ensures { λ r. ⌜ r ≡ passes test x y ⌝ }
 {
     match test {
         Test::Equal => x == y,
         Test::EvenSum => (x as u16 + y as u16) % 2 == 0,
-        Test::Even => x % 2 == 0,
         Test::Within(limit) => x <= limit,
     }
 }
@@ -97,18 +97,30 @@ pub fn has_midpoint(a: Point, b: Point) -> bool
     all_pass(Test::EvenSum, a, b)
 }
 
-// Whether the monomial with these exponents is never negative.
-pub fn keeps_sign(p: Point) -> bool
-    ensures { λ r. ⌜ r ≡ keepsSign (exponents p) ⌝ }
-{
-    all_pass(Test::Even, p, p)
-}
-
 // Whether no exponent is over the limit.
 pub fn exponents_within(p: Point, limit: u8) -> bool
     ensures { λ r. ⌜ r ≡ exponentsWithin limit (exponents p) ⌝ }
 {
     all_pass(Test::Within(limit), p, p)
+}
+
+// Whether every odd exponent belongs to a variable of the mask, whose lowest bit is the first variable's.
+pub fn keeps_sign(p: Point, mask: u8) -> bool
+    ensures test { λ r. ⌜ r ≡ keepsSign mask (exponents p) ⌝ }
+    ensures says { λ r. ⌜ (r ≡ true) ↔ OddsMasked mask (exponents p) ⌝ }
+{
+    let n = p.variables();
+    let x = p.exps;
+    let mut rest = mask;
+    let mut i = 0;
+    while i < n {
+        if rest % 2 < x[i] % 2 {
+            return false;
+        }
+        rest /= 2;
+        i += 1;
+    }
+    true
 }
 
 // Whether b is above a, compared by the first variable first.

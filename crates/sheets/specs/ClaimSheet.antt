@@ -1,4 +1,4 @@
--- The claim sheet: its floor and its terms, as the bytes give them.
+-- The claim sheet: its domain, its floor and its terms, as the bytes give them.
 use mathlib.Core.List.{List}
 use Prim.Native.Nat.{ℕ}
 use lib.IntN.{ℤ}
@@ -6,7 +6,12 @@ use Rattle.integers.specs.Words.{i32At, withI32}
 use Rattle.points.specs.Lists.{table}
 use Rattle.points.specs.Points.{Exponents, bytesAt}
 use Rattle.squares.specs.Sums.{Sum}
-use Rattle.sheets.specs.Layout.{variables, termCount, pointAt, coefficientAt}
+use Rattle.squares.specs.Domains.{Domain}
+use Rattle.sheets.specs.Layout.{variables, termCount, maskOf, pointAt, coefficientAt}
+
+-- its variables, and those that are never negative
+abbrev pub domainOf : List ℕ → Domain
+domainOf c = record { n = variables c; mask = maskOf c }
 
 -- "Bytes 4 to 7: the floor b, signed"
 unfoldable pub floorOf : List ℕ → ℤ

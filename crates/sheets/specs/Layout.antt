@@ -19,6 +19,10 @@ variables s = getD s 0 0
 abbrev pub termCount : List ℕ → ℕ
 termCount c = getD c 1 0
 
+-- "Claim byte 2 becomes a mask"
+abbrev pub maskOf : List ℕ → ℕ
+maskOf c = getD c 2 0
+
 abbrev pub pointAt : ℕ → ℕ → ℕ
 pointAt n i = place 8 i n
 

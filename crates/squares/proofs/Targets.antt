@@ -1,13 +1,16 @@
 -- Laws of targets: the worst sign, and the coefficients of a polynomial lowered by its floor.
 use mathlib.Core.Path.{_≡_, refl}
 use mathlib.Core.Bool.{Bool, true, false}
-use Prim.Native.Nat.{ℕ}
+use Prim.Native.Nat.{ℕ, _%_}
+use lib.Dec.{eqb}
 use lib.IntN.{ℤ, pos, negℤ, natAbs, _-ℤ_, _*ℤ_, *ℤ-zero, +ℤ-idl, +ℤ-comm}
 use lib.ListN.{replicate}
 use lib.Signed.{_≤ℤ_, _<ℤ_, ≤ℤ-refl}
 use Rattle.integers.proofs.Integers.{ring, ints, by-eq, sizes, negℤ-*ℤ, abs-mul, abs-nonneg, neg-abs-≤ℤ}
-use Rattle.points.specs.Points.{Exponents, samePoint, keepsSign}
+use Rattle.points.specs.Points.{Exponents, every, samePoint, keepsSign}
+use Rattle.points.proofs.points.Laws.{keeps-even}
 use Rattle.squares.specs.Sums.{Sum, coefficient}
+use Rattle.squares.specs.Domains.{Domain}
 use Rattle.squares.specs.Targets.{lowered, worst, target}
 
 -- ---- the worst sign
@@ -42,13 +45,19 @@ worst-positive k c h l = rw (h, abs-nonneg l) (+ℤ-idl (negℤ c))
 
 -- ---- targets
 
-pub target-is : (S : ℕ) (g : Sum) (α : Exponents) → target S g α ≡ pos S *ℤ worst (keepsSign α) (coefficient α g)
-unfolding target
-target-is S g α = refl
+module _ (D : Domain) (S : ℕ) (g : Sum) (α : Exponents) where
+  pub target-is : target D S g α ≡ pos S *ℤ worst (keepsSign (D .mask) α) (coefficient α g)
+  unfolding target
+  target-is = refl
 
-pub target-zero : (S : ℕ) (g : Sum) (α : Exponents) → coefficient α g ≡ pos 0 → target S g α ≡ pos 0
-unfolding target
-target-zero S g α z = rw (z, worst-zero (keepsSign α)) (*ℤ-zero (pos S))
+  pub target-zero : coefficient α g ≡ pos 0 → target D S g α ≡ pos 0
+  unfolding target
+  target-zero z = rw (z, worst-zero (keepsSign (D .mask) α)) (*ℤ-zero (pos S))
+
+  -- without a mask: "if every exponent is even"
+  pub target-unmasked : D .mask ≡ 0 → target D S g α ≡ pos S *ℤ worst (every (λ e. eqb (e % 2) 0) α) (coefficient α g)
+  unfolding target
+  target-unmasked z = rw (z, keeps-even α)
 
 -- ---- the floor taken from the constant
 

@@ -9,6 +9,7 @@ use Rattle.points.specs.Lists.{All}
 use Rattle.points.specs.Points.{Exponents, hasMidpoint}
 use Rattle.squares.specs.Sums.{Sum, coefficient}
 use Rattle.squares.specs.Rows.{Row, slots, Holds}
+use Rattle.squares.specs.Domains.{Domain}
 use Rattle.squares.specs.Targets.{lowered, target}
 use Rattle.squares.specs.declared.rows.Weights.{Weights}
 use Rattle.squares.specs.declared.rows.Weights.the-variants.{Pair, Lone}
@@ -34,9 +35,9 @@ abbrev pub AddsUp : ℕ → (Exponents → ℤ) → Sum → Type 0
 AddsUp n τ L = (α : Exponents) → length α ≡ n → coefficient α L ≡ τ α
 
 -- "every row holds and the weights add up to the target at every point"
-pub record Decomposition (n S : ℕ) (b : ℤ) (f : Sum) (rows : List Row) : Type 0 where
+pub record Decomposition (D : Domain) (S : ℕ) (b : ℤ) (f : Sum) (rows : List Row) : Type 0 where
   pub scale : 0 < S
-  pub sized : Sized n f
-  pub placed : All (Placed n) rows
+  pub sized : Sized (D .n) f
+  pub placed : All (Placed (D .n)) rows
   pub hold : All (λ a. Holds (a .weights)) rows
-  pub adds-up : AddsUp n (target S (lowered n b f)) (slots rows)
+  pub adds-up : AddsUp (D .n) (target D S (lowered (D .n) b f)) (slots rows)

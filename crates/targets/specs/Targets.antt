@@ -13,7 +13,7 @@ use Rattle.points.specs.Points.{Exponents, keepsSign}
 use Rattle.keys.specs.Keys.{keyOf}
 use Rattle.squares.specs.Targets.{lowered, worst, target}
 use Rattle.sheets.specs.Layout.{variables, termCount}
-use Rattle.sheets.specs.ClaimSheet.{floorOf, termPoint, coefficientOf, termsOf}
+use Rattle.sheets.specs.ClaimSheet.{domainOf, floorOf, termPoint, coefficientOf, termsOf}
 use Rattle.rows.specs.ProofSheet.{scaleOf}
 use Rattle.claims.specs.ClaimChecks.{ClaimFacts}
 use Rattle.targets.specs.Carried.{Carried}
@@ -30,7 +30,7 @@ aimOf c s = record { floor = floorOf c; scale = scaleOf s }
 
 -- "Let g be f with b taken from its constant coefficient": the target at a point
 unfoldable pub targetOf : List ℕ → Aim → Exponents → ℤ
-targetOf c a α = target (a .scale) (lowered (variables c) (a .floor) (termsOf c)) α
+targetOf c a α = target (domainOf c) (a .scale) (lowered (variables c) (a .floor) (termsOf c)) α
 
 -- a point that sheets can hold, with its key, beside a claim that passes 1 to 7 and an aim within its bounds
 pub record Targeted (c : List ℕ) (a : Aim) (α : Exponents) (key : ℕ) : Type 0 where
@@ -57,6 +57,6 @@ coefficientWith c n t key = coefficientFound c n t (first (hasKey c n key) t)
 unfoldable pub loweredBy : Aim → ℕ → ℤ → ℤ
 loweredBy a key x = cond (eqb key 0) (x -ℤ a .floor) x
 
--- the target at a point, by its key and its coefficient
-unfoldable pub targetWith : Aim → Exponents → ℕ → ℤ → ℤ
-targetWith a α key x = pos (a .scale) *ℤ worst (keepsSign α) (loweredBy a key x)
+-- the target at a point, by the mask, its key and its coefficient
+unfoldable pub targetWith : ℕ → Aim → Exponents → ℕ → ℤ → ℤ
+targetWith mask a α key x = pos (a .scale) *ℤ worst (keepsSign mask α) (loweredBy a key x)

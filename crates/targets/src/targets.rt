@@ -5,6 +5,7 @@ use points::points::keeps_sign;
 use rows::proof_sheet::scale;
 use sheets::claim_sheet::coefficient;
 use sheets::claim_sheet::floor;
+use sheets::claim_sheet::mask;
 use sheets::claim_sheet::term_count;
 use sheets::claim_sheet::term_key;
 use sheets::layout::variables;
@@ -105,12 +106,12 @@ fn scaled(scale: u64, c: i64) -> i64
     scale as i64 * c
 }
 
-// The target at a point, by its key and its coefficient.
-fn target_with(aim: Aim, p: Point, key: u64, c: i64) -> i64
+// The target at a point, by the mask, its key and its coefficient.
+fn target_with(mask: u8, aim: Aim, p: Point, key: u64, c: i64) -> i64
     requires { ⌜ (natAbs c ≤ greatestWeight) × (AimWithin aim) ⌝ }
-    ensures { λ r. ⌜ (r ≡ targetWith aim (exponents p) key c) × (natAbs r ≤ 2 ^ 51) ⌝ }
+    ensures { λ r. ⌜ (r ≡ targetWith mask aim (exponents p) key c) × (natAbs r ≤ 2 ^ 51) ⌝ }
 {
-    scaled(aim.scale, worst(keeps_sign(p), lowered_by(c, aim, key)))
+    scaled(aim.scale, worst(keeps_sign(p, mask), lowered_by(c, aim, key)))
 }
 
 // The target at a point with its key.
@@ -120,7 +121,7 @@ pub fn target_at(claim: &[u8], aim: Aim, p: Point, key: u64) -> i64
 {
     let n = variables(claim);
     let t = term_count(claim);
-    target_with(aim, p, key, coefficient_with(claim, n, t, key))
+    target_with(mask(claim), aim, p, key, coefficient_with(claim, n, t, key))
 }
 
 // The target at the point of term i, with its key.
@@ -131,5 +132,5 @@ pub fn term_target(claim: &[u8], aim: Aim, i: usize, p: Point, key: u64) -> i64
 {
     let n = variables(claim);
     let t = term_count(claim);
-    target_with(aim, p, key, coefficient(claim, n, t, i))
+    target_with(mask(claim), aim, p, key, coefficient(claim, n, t, i))
 }

@@ -13,7 +13,7 @@ use borrow.Author.Tests.{eqb-true, not-false, lt-ltb, ltb-false, leb-true}
 use Rattle.integers.proofs.Integers.{fits-within}
 use Rattle.integers.proofs.words.Laws.{Bytes}
 use Rattle.integers.proofs.Tests.{nor, nand}
-use Rattle.bounds.specs.Bounds.{greatestExponent, greatestWeight}
+use Rattle.bounds.specs.Bounds.{greatestExponent, greatestWeight, mostVariables, mostTerms}
 use Rattle.bounds.proofs.bounds.Laws.{within-bound, bound-within}
 use Rattle.answers.specs.Answers.{says, Passes, Short}
 use Rattle.answers.specs.declared.answers.Verdict.{Verdict}
@@ -25,7 +25,7 @@ use Rattle.points.proofs.points.Laws.{same-eq, rises-self, rises-trans}
 use Rattle.sheets.specs.Layout.{variables, termCount, ClaimRoom, claimLength}
 use Rattle.sheets.specs.ClaimSheet.{floorOf, withFloor, termPoint, coefficientOf}
 use Rattle.sheets.proofs.claim_sheet.Laws.{floored-length, floored-floor, floored-before, floored-point, floored-coefficient}
-use Rattle.claims.specs.ClaimChecks.{termBreaks, termsAnswer, claimAnswer, ClaimFacts, countsRight, claimHeaderRight}
+use Rattle.claims.specs.ClaimChecks.{termBreaks, termsAnswer, claimAnswer, ClaimFacts, countsRight, maskRight, claimHeaderRight}
 use Rattle.claims.specs.declared.claim_checks.TermRule.{TermRule}
 use Rattle.claims.specs.declared.claim_checks.TermRule.the-variants.{Coefficient, Exponent, Order}
 
@@ -49,18 +49,22 @@ module _ (c : List ℕ) (n t i : ℕ) where
       let z = nand (ltb 0 (suc i)) _ h (lt-ltb 0 (suc i) (omega arith)) in
       rw e at (not-false (risesTo (termPoint c n (suc i - 1)) (termPoint c n (suc i))) z)
 
--- a right header's counts, and room for the terms where the length is right too
-pub header-room : (c : List ℕ) → claimHeaderRight c ≡ true → length c ≡ claimLength (variables c) (termCount c)
-    → (1 ≤ variables c) × ClaimRoom c (variables c) (termCount c)
-unfolding claimHeaderRight countsRight
-header-room c h sized =
+-- right counts, and room for the terms where the rest of the header and the length are right too
+pub counts-fact : (c : List ℕ) → countsRight c ≡ true
+    → (1 ≤ variables c) × (variables c ≤ mostVariables) × (termCount c ≤ mostTerms)
+unfolding countsRight
+counts-fact c h =
     let a = and-eq-true-iff _ _ .0 h in
     let b = and-eq-true-iff _ _ .0 (a .0) in
-    let d = and-eq-true-iff _ _ .0 (b .0) in
-    let e = and-eq-true-iff _ _ .0 (d .0) in (
-      leb-true _ _ (e .0),
-      record { few = leb-true _ _ (e .1); terms = leb-true _ _ (d .1); long = omega arith },
-    )
+    (leb-true _ _ (b .0), leb-true _ _ (b .1), leb-true _ _ (a .1))
+
+pub header-room : (c : List ℕ) → claimHeaderRight c ≡ true → length c ≡ claimLength (variables c) (termCount c)
+    → (1 ≤ variables c) × ClaimRoom c (variables c) (termCount c)
+unfolding claimHeaderRight
+header-room c h sized =
+    let a = and-eq-true-iff _ _ .0 h in
+    let f = counts-fact c (and-eq-true-iff _ _ .0 (a .0) .0) in
+    (f .0, record { few = f .1; terms = f .2; long = omega arith })
 
 pub claim-facts : (c : List ℕ) → Passes (claimAnswer c) → ClaimFacts c (variables c) (termCount c)
 unfolding claimAnswer termsAnswer
@@ -98,7 +102,7 @@ module _ (c : List ℕ) (b : ℤ) where
   terms-floored n t = rw (breaks-floored _ n t, breaks-floored _ n t, breaks-floored _ n t)
 
   header-floored : claimHeaderRight (withFloor c b) ≡ claimHeaderRight c
-  unfolding claimHeaderRight countsRight
+  unfolding claimHeaderRight countsRight maskRight
   header-floored = rw (
     floored-before c b 0 (omega arith),
     floored-before c b 1 (omega arith),

@@ -1,27 +1,30 @@
 -- The steps of the checks 1 to 7, by the numbers of the refusals.
 use mathlib.Core.Path.{_≡_, sym, _∙_, ap}
 use mathlib.Core.Bool.{Bool, true, false, not}
+use mathlib.Core.Logic.{_↔_}
 use mathlib.Core.List.{List}
-use Prim.Native.Nat.{ℕ, _+_, _-_, _<_, _≤_}
-use native.Mathlib.Nat.{pos-of-ne-zero}
+use Prim.Native.Nat.{ℕ, zero, suc, _+_, _-_, _/_, _%_, _^_, _<_, _≤_}
+use native.Mathlib.Nat.{pos-of-ne-zero, zero-div}
+use native.Mathlib.Decide.{ℕ-discrete}
 use native.Mathlib.Omega.{arith}
 use lib.Dec.{ltb, eqb}
 use lib.IntN.{ℤ, natAbs}
 use lib.ListN.{length, getD}
-use borrow.Author.Tests.{not-true, eq-eqb, ne-eqb, lt-ltb, le-ltb, le-leb, lt-leb, not-false}
+use lib.Pow.{shr-shr}
+use borrow.Author.Tests.{not-true, eq-eqb, eqb-true, ne-eqb, lt-ltb, le-ltb, le-leb, lt-leb, not-false}
 use Rattle.bounds.specs.Bounds.{beyond, mostVariables, mostTerms}
 use Rattle.bounds.proofs.bounds.Laws.{over}
 use Rattle.answers.specs.Answers.{says}
 use Rattle.answers.specs.declared.answers.Verdict.{Verdict}
-use Rattle.points.specs.Points.{exponents, pointOf, risesTo, exponentsWithin}
+use Rattle.points.specs.Points.{exponents, pointOf, Masked, risesTo, exponentsWithin}
 use Rattle.points.specs.declared.points.Point.{Point}
-use Rattle.points.proofs.points.Laws.{exponents-of}
-use Rattle.sheets.specs.Layout.{variables, termCount, place, ClaimRoom}
+use Rattle.points.proofs.points.Laws.{exponents-of, masked-more}
+use Rattle.sheets.specs.Layout.{variables, termCount, maskOf, place, ClaimRoom}
 use Rattle.sheets.specs.ClaimSheet.{floorOf, termPoint, coefficientOf}
 use Rattle.sheets.proofs.layout.Laws.{claim-asked}
-use Rattle.claims.specs.ClaimChecks.{countsRight, claimHeaderRight, termBreaks, termsAnswer}
+use Rattle.claims.specs.ClaimChecks.{countsRight, MaskWithin, maskRight, claimHeaderRight, termBreaks, termsAnswer}
 use Rattle.claims.specs.declared.claim_checks.TermRule.the-variants.{Coefficient, Exponent, Order}
-use Rattle.claims.proofs.claim_checks.Laws.{header-room}
+use Rattle.claims.proofs.claim_checks.Laws.{counts-fact, header-room}
 
 -- ---- 2: n and t are the counts that were read, r the test of both
 
@@ -39,6 +42,38 @@ module _ (c : List ℕ) (n : ℕ) (en : n ≡ variables c) where
     unfolding countsRight
     counts-terms q t et = rw (← en, ← et, le-leb 1 n p, le-leb n mostVariables q) (over mostTerms t)
 
+-- a number without bits is 0
+no-bits : (m k : ℕ) → m ≤ k → ((i : ℕ) → Masked m i → ⊥) → m ≡ 0
+no-bits m zero l f = omega arith
+no-bits m (suc k) l f =
+    let half = no-bits (m / 2) k (omega arith) (λ i h. f (suc i) (rw (masked-more m i) at h)) in
+    go (ℕ-discrete (m % 2) 1) half
+  where
+    go : Dec (m % 2 ≡ 1) → m / 2 ≡ 0 → m ≡ 0
+    go (yes h) e = absurd (f 0 (omega arith))
+    go (no h) e = omega arith
+
+-- and above n bits nothing is left exactly where there is no bit
+module _ (m n : ℕ) where
+  none-above : m / 2 ^ n ≡ 0 → (i : ℕ) → n ≤ i → Masked m i → ⊥
+  none-above h i l t =
+      let e : i ≡ n + (i - n) = omega arith in
+      let k = rw (e, ← (shr-shr m n (i - n)), h, zero-div (2 ^ (i - n))) at t in omega arith
+
+  above-none : ((i : ℕ) → n ≤ i → Masked m i → ⊥) → m / 2 ^ n ≡ 0
+  above-none f = no-bits (m / 2 ^ n) (m / 2 ^ n) (omega arith) (λ i h. f (n + i) (omega arith) (rw (shr-shr m n i) at h))
+
+-- m is the mask that was read
+module _ (c : List ℕ) (n m : ℕ) (en : n ≡ variables c) (em : m ≡ maskOf c) where
+  pub mask-tested : not (eqb (m / 2 ^ n) 0) ≡ not (maskRight c)
+  unfolding maskRight
+  mask-tested = rw (en, em)
+
+  pub mask-says : (not (eqb (m / 2 ^ n) 0) ≡ false) ↔ MaskWithin c
+  mask-says =
+      (λ h. rw (← en, ← em) (none-above m n (eqb-true _ _ (not-false _ h))),
+      λ f. rw (eq-eqb _ 0 (above-none m n (rw (← en, ← em) at f))))
+
 module _ (c : List ℕ) (r : Bool) (e : r ≡ not (countsRight c)) where
   pub header-counts : r ≡ true → true ≡ not (claimHeaderRight c)
   unfolding claimHeaderRight
@@ -48,13 +83,17 @@ module _ (c : List ℕ) (r : Bool) (e : r ≡ not (countsRight c)) where
     right : countsRight c ≡ true
     right = not-false _ (sym e ∙ h)
 
-    pub header-two : (getD c 2 0 ≡ 0 → ⊥) → true ≡ not (claimHeaderRight c)
-    unfolding claimHeaderRight
-    header-two k = rw (right, ne-eqb (getD c 2 0) 0 k)
+    pub mask-asked : variables c ≤ mostVariables
+    mask-asked = counts-fact c right .1
 
-    pub header-three : getD c 2 0 ≡ 0 → not (eqb (getD c 3 0) 0) ≡ not (claimHeaderRight c)
-    unfolding claimHeaderRight
-    header-three k = rw (right, eq-eqb (getD c 2 0) 0 k)
+    module _ (m : Bool) (em : m ≡ not (maskRight c)) where
+      pub header-mask : m ≡ true → true ≡ not (claimHeaderRight c)
+      unfolding claimHeaderRight
+      header-mask k = rw (right, not-true (maskRight c) (sym em ∙ k))
+
+      pub header-three : m ≡ false → not (eqb (getD c 3 0) 0) ≡ not (claimHeaderRight c)
+      unfolding claimHeaderRight
+      header-three k = rw (right, not-false (maskRight c) (sym em ∙ k))
 
 -- ---- 5: z is the coefficient, z′ what the machine reads back of it
 

@@ -5,6 +5,7 @@ use mathlib.Core.Bool.{true, Bool, false, cond}
 use mathlib.Core.List.{List, [], _∷_}
 use Prim.Native.Nat.{ℕ, zero, suc, _+_, _-_, _/_, _%_, _≤_, _<_}
 use native.Mathlib.Nat.{zero-add, suc-add}
+use native.Mathlib.Decide.{ℕ-discrete}
 use native.Mathlib.Omega.{arith}
 use lib.IntN.{ℤ, pos, negsuc, _*ℤ_, natAbs}
 use lib.ListN.{replicate}
@@ -14,8 +15,8 @@ use borrow.Author.Tests.{leb-true, leb-false, le-leb, lt-leb}
 use Rattle.integers.proofs.Integers.{one-*ℤ, *ℤ-assoc, *ℤ-swap, *ℤ-nonneg, pos-nonneg, square-nonneg}
 use Rattle.bounds.specs.Bounds.{greatestValue}
 use Rattle.points.specs.Points.{Exponents, hasMidpoint, midpointOf, keepsSign}
-use Rattle.points.proofs.points.Laws.{keeps-more, midpoint-none, midpoint-more, whole-more, whole-sized}
-use Rattle.monomials.specs.Powers.{powerOf, monomialOf, Represents, within}
+use Rattle.points.proofs.points.Laws.{keeps-more, masked-more, midpoint-none, midpoint-more, whole-more, whole-sized}
+use Rattle.monomials.specs.Powers.{powerOf, monomialOf, Allowed, Represents, within}
 use Rattle.monomials.specs.declared.powers.Bounded.the-variants.{Value, TooLarge}
 
 -- ---- powers
@@ -35,6 +36,19 @@ power-even : (x : ℤ) (e : ℕ) → e % 2 ≡ 0 → pos 0 ≤ℤ powerOf x e
 power-even x e h =
     let k : e ≡ e / 2 + e / 2 = omega arith in
     rw (k, power-add) (square-nonneg (powerOf x (e / 2)))
+
+power-nonneg : (x : ℤ) (e : ℕ) → pos 0 ≤ℤ x → pos 0 ≤ℤ powerOf x e
+unfolding powerOf
+power-nonneg x zero h = pos-nonneg 1
+power-nonneg x (suc e) h = *ℤ-nonneg h (power-nonneg x e h)
+
+-- an odd power only where the bit is 1, and then of a number that is not negative
+power-sign : (x : ℤ) (e bit : ℕ) → e % 2 ≤ bit → bit < 2 → (bit ≡ 1 → pos 0 ≤ℤ x) → pos 0 ≤ℤ powerOf x e
+power-sign x e bit l h f = go (ℕ-discrete bit 1)
+  where
+    go : Dec (bit ≡ 1) → pos 0 ≤ℤ powerOf x e
+    go (yes k) = power-nonneg x e (f k)
+    go (no d) = power-even x e (omega arith)
 
 -- the powers of 0, 1 and −1 with positive exponents: two more change nothing, so they go by parity
 power-two-more : (x : ℤ) (e : ℕ) → natAbs x ≤ 1 → powerOf x (suc (suc (suc e))) ≡ powerOf x (suc e)
@@ -56,13 +70,16 @@ power-parity x (suc (suc (suc e))) h l =
 
 -- ---- monomials
 
-pub monomial-sign : (x : List ℤ) (α : Exponents) → keepsSign α ≡ true → pos 0 ≤ℤ monomialOf x α
+-- never negative where every odd exponent belongs to a variable that is not
+pub monomial-sign : (mask : ℕ) (x : List ℤ) (α : Exponents) → Allowed mask x → keepsSign mask α ≡ true
+    → pos 0 ≤ℤ monomialOf x α
 unfolding monomialOf
-monomial-sign x [] t = pos-nonneg 1
-monomial-sign [] (e ∷ α) t = pos-nonneg 1
-monomial-sign (x ∷ xs) (e ∷ α) t =
-    let q = keeps-more e α t in
-    *ℤ-nonneg (power-even x e (q .0)) (monomial-sign xs α (q .1))
+monomial-sign mask x [] a t = pos-nonneg 1
+monomial-sign mask [] (e ∷ α) a t = pos-nonneg 1
+monomial-sign mask (x ∷ xs) (e ∷ α) a t =
+    let q = keeps-more mask e α t in
+    *ℤ-nonneg (power-sign x e (mask % 2) (q .0) (omega arith) (λ h. a 0 (omega arith)))
+    (monomial-sign (mask / 2) xs α (λ i h. a (suc i) (rw (masked-more mask i) at h)) (q .1))
 
 pub monomial-mean : (x : List ℤ) (v w : Exponents) → hasMidpoint v w ≡ true
     → monomialOf x (midpointOf v w) *ℤ monomialOf x (midpointOf v w) ≡ monomialOf x v *ℤ monomialOf x w

@@ -1,18 +1,20 @@
 -- Laws of points: the same point, the order, midpoints, points by value, bytes as exponents, and one variable more.
 use mathlib.Core.Path.{_≡_, refl, sym, _∙_, ap, ap₂}
 use mathlib.Core.Logic.{_⊎_, inl, inr}
-use mathlib.Core.Bool.{Bool, true, false, cond, and-eq-true-iff, false≢true}
+use mathlib.Core.Bool.{Bool, true, false, cond, _&&_, and-eq-true-iff, false≢true}
 use mathlib.Core.List.{List, [], _∷_, _++_}
-use Prim.Native.Nat.{ℕ, zero, suc, _+_, _-_, _/_, _%_, _<_, _≤_, min}
+use Prim.Native.Nat.{ℕ, zero, suc, _+_, _-_, _/_, _%_, _^_, _<_, _≤_, min}
 use native.Mathlib.Nat.{add-assoc}
+use native.Mathlib.Decide.{ℕ-discrete}
 use native.Mathlib.Omega.{arith}
 use lib.Dec.{eqb, ltb, leb}
 use lib.ListN.{length, getD, take, replicate, length-replicate, replicate-append-replicate}
+use lib.Pow.{shr-shr}
 use lib.Seq.{take-append-seam}
-use borrow.Author.Tests.{lt-ltb, le-ltb, ltb-true, ltb-false, le-leb, leb-true, eq-eqb, eqb-true}
+use borrow.Author.Tests.{lt-ltb, le-ltb, ltb-true, ltb-false, le-leb, lt-leb, leb-true, eq-eqb, ne-eqb, eqb-true}
 use Rattle.bounds.specs.Bounds.{mostVariables}
 use Rattle.points.specs.Lists.{table}
-use Rattle.points.specs.Points.{Exponents, exponents, pointOf, bytesAt, every, everyPair, samePoint, risesTo, evenSum, hasMidpoint, midpointOf, keepsSign, exponentsWithin}
+use Rattle.points.specs.Points.{Exponents, exponents, pointOf, bytesAt, every, everyPair, samePoint, risesTo, evenSum, hasMidpoint, midpointOf, Masked, OddsMasked, keepsSign, exponentsWithin}
 use Rattle.points.specs.declared.points.Point.{Point}
 use Rattle.points.proofs.Lists.{table-length, table-get, table-split, table-same}
 
@@ -145,11 +147,12 @@ zeros-within limit (suc n) = rw (le-leb 0 limit (omega arith), zeros-within limi
 
 -- ---- one variable more
 
-pub keeps-more : (e : ℕ) (α : Exponents) → keepsSign (e ∷ α) ≡ true → (e % 2 ≡ 0) × (keepsSign α ≡ true)
-unfolding keepsSign every
-keeps-more e α h =
-    let q = and-eq-true-iff (eqb (e % 2) 0) (every (λ k. eqb (k % 2) 0) α) .0 h in
-    (eqb-true (e % 2) 0 (q .0), q .1)
+pub keeps-more : (mask e : ℕ) (α : Exponents) → keepsSign mask (e ∷ α) ≡ true
+    → (e % 2 ≤ mask % 2) × (keepsSign (mask / 2) α ≡ true)
+unfolding keepsSign
+keeps-more mask e α h =
+    let q = and-eq-true-iff (leb (e % 2) (mask % 2)) (keepsSign (mask / 2) α) .0 h in
+    (leb-true (e % 2) (mask % 2) (q .0), q .1)
 
 pub midpoint-none : (w : Exponents) → midpointOf [] w ≡ []
 unfolding midpointOf
@@ -204,3 +207,38 @@ midpoint-within limit (a ∷ v) (b ∷ w) h k =
     let q = and-eq-true-iff (leb b limit) (every (λ e. leb e limit) w) .0 k in
     let m : (a + b) / 2 ≤ limit = omega (arith, leb-true a limit (p .0), leb-true b limit (q .0)) in
     rw (le-leb ((a + b) / 2) limit m, midpoint-within limit v w (p .1) (q .1))
+
+-- ---- masks
+
+-- bit i of what is left of a mask after its lowest bit
+pub masked-more : (mask i : ℕ) → mask / 2 / 2 ^ i ≡ mask / 2 ^ suc i
+masked-more mask i = let k : suc i ≡ 1 + i = omega arith in rw k (shr-shr mask 1 i)
+
+-- without a mask: "every exponent is even"
+pub keeps-even : (α : Exponents) → keepsSign 0 α ≡ every (λ e. eqb (e % 2) 0) α
+unfolding keepsSign every
+keeps-even [] = refl
+keeps-even (e ∷ α) = ap₂ _&&_ (go (ℕ-discrete (e % 2) 0)) (keeps-even α)
+  where
+    go : Dec (e % 2 ≡ 0) → leb (e % 2) 0 ≡ eqb (e % 2) 0
+    go (yes z) = rw z
+    go (no d) = rw (lt-leb (e % 2) 0 (omega arith), ne-eqb (e % 2) 0 d)
+
+-- the test holds exactly where the words do
+pub odds-masked : (mask : ℕ) (α : Exponents) → keepsSign mask α ≡ true → OddsMasked mask α
+odds-masked mask [] t i l h = absurd (omega arith)
+odds-masked mask (e ∷ α) t zero l h = let q = keeps-more mask e α t in omega (arith, q .0)
+odds-masked mask (e ∷ α) t (suc i) l h =
+    rw (← (masked-more mask i)) (odds-masked (mask / 2) α (keeps-more mask e α t .1) i (omega arith) h)
+
+pub masked-odds : (mask : ℕ) (α : Exponents) → OddsMasked mask α → keepsSign mask α ≡ true
+unfolding keepsSign
+masked-odds mask [] f = refl
+masked-odds mask (e ∷ α) f =
+    let first : e % 2 ≤ mask % 2 = go (ℕ-discrete (e % 2) 1) in
+    rw (le-leb (e % 2) (mask % 2) first)
+    (masked-odds (mask / 2) α (λ i l h. rw (masked-more mask i) (f (suc i) (omega arith) h)))
+  where
+    go : Dec (e % 2 ≡ 1) → e % 2 ≤ mask % 2
+    go (yes h) = let k = f 0 (omega arith) h in omega arith
+    go (no h) = omega arith

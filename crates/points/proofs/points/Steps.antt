@@ -1,24 +1,25 @@
 -- The steps of the functions over points: the loops that test places, compare two points, and fill eight places.
 use mathlib.Core.Path.{_≡_, refl, sym, _∙_, ap}
-use mathlib.Core.Bool.{Bool, true, false, cond, and-false}
+use mathlib.Core.Logic.{_↔_}
+use mathlib.Core.Bool.{Bool, true, false, cond, _&&_, and-false}
 use mathlib.Core.List.{List, [], _∷_, _++_, append-assoc}
 use Prim.Native.Nat.{ℕ, zero, suc, _+_, _-_, _/_, _<_, _≤_, min, _%_}
 use native.Mathlib.Nat.{le-of-lt}
 use native.Mathlib.Numerals.{add-one}
 use native.Mathlib.Omega.{arith}
 use lib.Dec.{leb, eqb, ltb}
-use lib.ListN.{length, getD, set, drop, replicate, length-append, length-take}
+use lib.ListN.{length, getD, set, take, drop, replicate, length-append, length-take, drop-of-length-le}
 use lib.Seq.{drop-cons, drop-nil, getD-take, set-at, ext-getD}
-use borrow.Author.Tests.{lt-ltb, le-ltb, eq-eqb, eqb-true}
+use borrow.Author.Tests.{lt-ltb, le-ltb, le-leb, lt-leb, eq-eqb, eqb-true}
 use borrow.Author.Count.{below-more}
 use Rattle.bounds.specs.Bounds.{mostVariables}
 use Rattle.points.specs.Lists.{table}
-use Rattle.points.specs.Points.{evenSum, Exponents, exponents, pointOf, every, everyPair, risesTo, midpointOf, passes, keepsSign, exponentsWithin, samePoint, hasMidpoint}
+use Rattle.points.specs.Points.{evenSum, Exponents, exponents, pointOf, every, everyPair, risesTo, midpointOf, passes, OddsMasked, keepsSign, exponentsWithin, samePoint, hasMidpoint}
 use Rattle.points.specs.declared.points.Point.{Point}
 use Rattle.points.specs.declared.points.Test.{Test}
-use Rattle.points.specs.declared.points.Test.the-variants.{Equal, EvenSum, Even, Within}
+use Rattle.points.specs.declared.points.Test.the-variants.{Equal, EvenSum, Within}
 use Rattle.points.proofs.Lists.{table-length, table-get}
-use Rattle.points.proofs.points.Laws.{Places, midpoint-length}
+use Rattle.points.proofs.points.Laws.{Places, exponents-counted, odds-masked, masked-odds, midpoint-length}
 
 -- ---- points by value
 
@@ -103,7 +104,7 @@ module _ (p : ℕ → ℕ → Bool) (a b : Point) (n m : ℕ) (ea : Places (a .e
         sym (pair-true p (exponents a) (exponents b) (omega arith)
         (passed-exponents p a b (length (exponents a)) ea eb (omega arith) (omega arith) (λ j l. k j (omega arith))))
 
--- the four tests, of two exponents
+-- the three tests, of two exponents
 module _ (test : Test) (x y : ℕ) where
   pub passes-equal : test ≡ Equal → eqb x y ≡ passes test x y
   unfolding passes
@@ -112,10 +113,6 @@ module _ (test : Test) (x y : ℕ) where
   pub passes-sum : test ≡ EvenSum → eqb ((x + y) % 2) 0 ≡ passes test x y
   unfolding passes evenSum
   passes-sum h = rw h
-
-  pub passes-even : test ≡ Even → eqb (x % 2) 0 ≡ passes test x y
-  unfolding passes
-  passes-even h = rw h
 
   pub passes-within : (limit : ℕ) → test ≡ Within limit → leb x limit ≡ passes test x y
   unfolding passes
@@ -137,13 +134,46 @@ module _ (r : Bool) (v w : Exponents) where
   test-midpoint h = h
 
 module _ (r : Bool) (v : Exponents) where
-  pub test-sign : r ≡ everyPair (passes Even) v v → r ≡ keepsSign v
-  unfolding passes keepsSign
-  test-sign h = h ∙ sym (every-pair _ v)
-
   pub test-within : (limit : ℕ) → r ≡ everyPair (passes (Within limit)) v v → r ≡ exponentsWithin limit v
   unfolding passes exponentsWithin
   test-within limit h = h ∙ sym (every-pair _ v)
+
+-- ---- masks
+
+-- the exponents from place i on decide, with what is left of the mask there
+unfoldable pub SignFrom : ℕ → List ℕ → ℕ → ℕ → ℕ → Type 0
+SignFrom mask x n rest i = keepsSign mask (take n x) ≡ keepsSign rest (drop i (take n x))
+
+pub sign-start : (mask : ℕ) (x : List ℕ) (n : ℕ) → SignFrom mask x n mask 0
+unfolding SignFrom
+sign-start mask x n = refl
+
+module _ (mask n rest i : ℕ) (x : List ℕ) (e : SignFrom mask x n rest i) (h : i < n) (k : n ≤ mostVariables)
+    (l : Places x) where
+  sign-here : keepsSign mask (take n x) ≡ leb (getD x i 0 % 2) (rest % 2) && keepsSign (rest / 2) (drop (suc i) (take n x))
+  unfolding SignFrom keepsSign
+  sign-here = e ∙ rw (drop-cons (take n x) i 0 (omega (arith, length-take n x)), getD-take n x i 0 h)
+
+  pub sign-next : getD x i 0 % 2 ≤ rest % 2 → SignFrom mask x n (rest / 2) (i + 1)
+  unfolding SignFrom
+  sign-next t = rw add-one (sign-here ∙ rw (le-leb _ _ t))
+
+-- r is what the loop answered, in both forms
+module _ (mask : ℕ) (α : Exponents) (r : Bool) (e : r ≡ keepsSign mask α) where
+  pub sign-says : (r ≡ true) ↔ OddsMasked mask α
+  sign-says = (λ t. odds-masked mask α (sym e ∙ t), λ f. e ∙ masked-odds mask α f)
+
+module _ (mask n rest i : ℕ) (p : Point) (e : SignFrom mask (p .exps) n rest i) (en : n ≡ length (exponents p)) where
+  pub sign-stop : i < n → n ≤ mostVariables → Places (p .exps) → rest % 2 < getD (p .exps) i 0 % 2
+      → false ≡ keepsSign mask (exponents p)
+  sign-stop h k l t =
+      rw (← (exponents-counted p n en)) (sym (sign-here mask n rest i (p .exps) e h k l ∙ rw (lt-leb _ _ t)))
+
+  pub sign-end : n ≤ i → true ≡ keepsSign mask (exponents p)
+  unfolding SignFrom keepsSign
+  sign-end h =
+      rw (← (exponents-counted p n en))
+      (sym (e ∙ rw (drop-of-length-le (take n (p .exps)) {i = i} (omega (arith, length-take n (p .exps))))))
 
 -- ---- the order
 

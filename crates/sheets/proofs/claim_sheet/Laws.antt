@@ -13,7 +13,7 @@ use Rattle.points.proofs.Lists.{all-table, table-same}
 use Rattle.points.proofs.points.Laws.{bytes-length, bytes-same}
 use Rattle.squares.specs.Decomposition.{Sized}
 use Rattle.sheets.specs.Layout.{variables, termCount, pointAt, coefficientAt}
-use Rattle.sheets.specs.ClaimSheet.{floorOf, withFloor, termPoint, coefficientOf, termOf, termsOf}
+use Rattle.sheets.specs.ClaimSheet.{domainOf, floorOf, withFloor, termPoint, coefficientOf, termOf, termsOf}
 
 -- a floor has 32 bits
 pub floor-fits : (c : List ℕ) → Bytes c → SFits w32 (floorOf c)
@@ -57,6 +57,9 @@ module _ (c : List ℕ) (b : ℤ) where
   pub floored-before : (j : ℕ) → j < 4 → getD (withFloor c b) j 0 ≡ getD c j 0
   unfolding withFloor
   floored-before = written-before c 4 b
+
+  pub floored-domain : domainOf (withFloor c b) ≡ domainOf c
+  floored-domain = rw (floored-before 0 (omega arith), floored-before 2 (omega arith))
 
   pub floored-point : (n i : ℕ) → termPoint (withFloor c b) n i ≡ termPoint c n i
   unfolding withFloor termPoint

@@ -11,8 +11,8 @@ use Rattle.bounds.specs.Bounds.{greatestWeight, greatestScale}
 use Rattle.points.specs.Points.{Exponents}
 use Rattle.squares.specs.Targets.{lowered, target}
 use Rattle.sheets.specs.Layout.{variables}
-use Rattle.sheets.specs.ClaimSheet.{floorOf, withFloor, termsOf}
-use Rattle.sheets.proofs.claim_sheet.Laws.{floored-floor, floored-before, floored-terms}
+use Rattle.sheets.specs.ClaimSheet.{domainOf, floorOf, withFloor, termsOf}
+use Rattle.sheets.proofs.claim_sheet.Laws.{floored-floor, floored-before, floored-domain, floored-terms}
 use Rattle.rows.specs.ProofSheet.{scaleOf}
 use Rattle.targets.specs.Targets.{AimWithin, aimOf, targetOf}
 use Rattle.targets.specs.declared.targets.Aim.{Aim}
@@ -26,14 +26,14 @@ unfolding aimOf
 aim-within c s b S = record { floor-within = b; scale-within = S }
 
 pub targets-are : (c s : List ℕ) (α : Exponents)
-    → targetOf c (aimOf c s) α ≡ target (scaleOf s) (lowered (variables c) (floorOf c) (termsOf c)) α
+    → targetOf c (aimOf c s) α ≡ target (domainOf c) (scaleOf s) (lowered (variables c) (floorOf c) (termsOf c)) α
 unfolding aimOf targetOf
 targets-are c s α = refl
 
 -- ---- targets
 
 pub target-of : (c : List ℕ) (a : Aim) (α : Exponents)
-    → targetOf c a α ≡ target (a .scale) (lowered (variables c) (a .floor) (termsOf c)) α
+    → targetOf c a α ≡ target (domainOf c) (a .scale) (lowered (variables c) (a .floor) (termsOf c)) α
 unfolding targetOf
 target-of c a α = refl
 
@@ -43,4 +43,4 @@ pub targets-floored : (c s : List ℕ) (b : ℤ) → 8 ≤ length c → natAbs b
 unfolding targetOf aimOf
 targets-floored c s b l w =
     let read = floored-floor c b l (fits-within b greatestWeight w (lit< tt)) in
-    fun-ext (λ α. rw (read, floored-terms c b, floored-before c b 0 (omega arith)))
+    fun-ext (λ α. rw (read, floored-terms c b, floored-domain c b, floored-before c b 0 (omega arith)))

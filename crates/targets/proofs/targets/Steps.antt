@@ -32,7 +32,7 @@ use Rattle.squares.specs.Sums.{Sum, coefficient}
 use Rattle.squares.specs.Targets.{lowered, worst}
 use Rattle.squares.proofs.Targets.{worst-kept, worst-negative, worst-positive, target-is, lowered-constant, lowered-other}
 use Rattle.squares.proofs.Sums.{coefficient-nil, coefficient-cons, coefficient-append}
-use Rattle.sheets.specs.Layout.{variables, termCount, ClaimRoom}
+use Rattle.sheets.specs.Layout.{variables, termCount, maskOf, ClaimRoom}
 use Rattle.sheets.specs.ClaimSheet.{floorOf, termPoint, coefficientOf, termOf, termsOf}
 use Rattle.sheets.proofs.claim_sheet.Laws.{terms-table, term-point, term-coefficient}
 use Rattle.rows.specs.ProofSheet.{scaleOf}
@@ -214,11 +214,11 @@ module _ (c : List ℕ) (n t : ℕ) (facts : ClaimFacts c n t) (α : Exponents) 
 
   -- the target, from the coefficient of the polynomial
   target-here : (a : Aim) (x : ℤ) → n ≡ variables c → t ≡ termCount c → x ≡ coefficient α (terms t)
-      → targetWith a α (keyOf α) x ≡ targetOf c a α
+      → targetWith (maskOf c) a α (keyOf α) x ≡ targetOf c a α
   unfolding targetWith targetOf loweredBy
   target-here a x en et ex =
       rw (ex, terms-table c n t en et, target-is, ← en)
-      (ap (λ (y : ℤ). pos (a .scale) *ℤ worst (keepsSign α) y) (go (samePoint α (replicate n 0)) refl))
+      (ap (λ (y : ℤ). pos (a .scale) *ℤ worst (keepsSign (maskOf c) α) y) (go (samePoint α (replicate n 0)) refl))
     where
       f : Sum
       f = termsOf c
@@ -231,13 +231,13 @@ module _ (c : List ℕ) (n t : ℕ) (facts : ClaimFacts c n t) (α : Exponents) 
 
 -- ---- target_with: x is the coefficient, y the same with the floor taken from it, z with the worst sign
 
-pub with-made : (a : Aim) (p : Point) (key : ℕ) (k : Bool) (x x′ y y′ z z′ r r′ : ℤ) → r ≡ pos (a .scale) *ℤ z′
-    → z ≡ worst k y′ → y ≡ loweredBy a key x′ → k ≡ keepsSign (exponents p) → r′ ≡ r → z′ ≡ z → y′ ≡ y → x′ ≡ x
-    → r′ ≡ targetWith a (exponents p) key x
+pub with-made : (mask : ℕ) (a : Aim) (p : Point) (key : ℕ) (k : Bool) (x x′ y y′ z z′ r r′ : ℤ) → r ≡ pos (a .scale) *ℤ z′
+    → z ≡ worst k y′ → y ≡ loweredBy a key x′ → k ≡ keepsSign mask (exponents p) → r′ ≡ r → z′ ≡ z → y′ ≡ y → x′ ≡ x
+    → r′ ≡ targetWith mask a (exponents p) key x
 unfolding targetWith
-with-made a p key k x x′ y y′ z z′ r r′ er ez ey ek br bz by bx = br ∙ er ∙ rw (bz, ez, ek, by, ey, bx)
+with-made mask a p key k x x′ y y′ z z′ r r′ er ez ey ek br bz by bx = br ∙ er ∙ rw (bz, ez, ek, by, ey, bx)
 
--- ---- target_at and term_target: x is the coefficient, r the target
+-- ---- target_at and term_target: m is the mask, x the coefficient, r the target
 
 module _ (c : List ℕ) (n t : ℕ) (en : n ≡ variables c) (et : t ≡ termCount c) (a : Aim) (α : Exponents) (key : ℕ)
     (given : Targeted c a α key) where
@@ -250,9 +250,9 @@ module _ (c : List ℕ) (n t : ℕ) (en : n ≡ variables c) (et : t ≡ termCou
   carried : Carried n α
   carried = rw en (given .point)
 
-  module _ (x x′ r r′ : ℤ) (er : r ≡ targetWith a α key x′) (br : r′ ≡ r) (bx : x′ ≡ x) where
+  module _ (m : ℕ) (em : m ≡ maskOf c) (x x′ r r′ : ℤ) (er : r ≡ targetWith m a α key x′) (br : r′ ≡ r) (bx : x′ ≡ x) where
     made : x ≡ coefficient α (table (termOf c n t) t) → r′ ≡ targetOf c a α
-    made ex = br ∙ er ∙ rw (bx, given .keyed) (target-here c n t facts-here α carried a x en et ex)
+    made ex = br ∙ er ∙ rw (em, bx, given .keyed) (target-here c n t facts-here α carried a x en et ex)
 
     pub target-made : x ≡ coefficientWith c n t key → r′ ≡ targetOf c a α
     target-made ex = made (ex ∙ rw (given .keyed) (coefficient-found c n t facts-here α carried))

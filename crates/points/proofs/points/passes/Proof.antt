@@ -1,5 +1,5 @@
 use borrow.Author.Needs.{needs}
-use Rattle.points.proofs.points.Steps.{passes-equal, passes-sum, passes-even, passes-within}
+use Rattle.points.proofs.points.Steps.{passes-equal, passes-sum, passes-within}
 use Rattle.points.proofs.points.passes.Statement.{statement}
 use Rattle.points.proofs.points.passes.Tie as tie
 
@@ -10,13 +10,9 @@ returns-2 : tie.Need-returns-2
 returns-2 c = search passes-sum
 
 returns-3 : tie.Need-returns-3
-returns-3 c = search passes-even
-
-returns-4 : tie.Need-returns-4
-returns-4 c = search passes-within
+returns-3 c = search passes-within
 
 pub passes-spec : {M : Type 1} → statement M
 passes-spec =
     tie.close
-    (tie.spec (λ c. search needs) (λ c. search needs) (λ c. search needs) (λ c. search needs)
-    (λ c. search needs) returns returns-2 returns-3 returns-4)
+    (tie.spec (λ c. search needs) (λ c. search needs) (λ c. search needs) (λ c. search needs) returns returns-2 returns-3)
