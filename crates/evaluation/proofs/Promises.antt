@@ -58,5 +58,5 @@ evaluation-promises c x Gives meant = record {
   given = λ e. meant _ .1 (told-passed _ _ (passes c x e));
   exact = λ z q. let t = value-told _ _ z (meant z .0 q) in (evaluable c x (t .0), t .1);
   -- the joint to the check
-  floored = λ s out h z q. rw (value-told _ _ z (meant z .0 q) .1) (floor-kept c s (length out) h x);
+  floored = λ s out h a z q. rw (value-told _ _ z (meant z .0 q) .1) (floor-kept c s (length out) h x a);
 }

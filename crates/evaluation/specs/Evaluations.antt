@@ -14,8 +14,9 @@ use Rattle.answers.specs.declared.answers.Verdict.the-variants as Verdicts
 use Rattle.points.specs.Lists.{table}
 use Rattle.monomials.specs.Powers.{monomialOf}
 use Rattle.squares.specs.Sums.{valueAt}
+use Rattle.squares.specs.Domains.{Admits}
 use Rattle.sheets.specs.Layout.{variables, termCount}
-use Rattle.sheets.specs.ClaimSheet.{floorOf, termPoint, coefficientOf, termOf, termsOf}
+use Rattle.sheets.specs.ClaimSheet.{domainOf, floorOf, termPoint, coefficientOf, termOf, termsOf}
 use Rattle.claims.specs.ClaimChecks.{claimAnswer}
 use Rattle.judging.specs.Check.{checkAnswer}
 use Rattle.evaluation.specs.declared.evaluations.Evaluation.{Evaluation}
@@ -82,5 +83,7 @@ pub record EvaluationPromises (c : List ℕ) (x : List ℤ) (Gives : ℤ → Typ
   pub given : Evaluable c x → Gives (valueAt x (termsOf c))
   pub exact : (z : ℤ) → Gives z → Evaluable c x × (z ≡ valueAt x (termsOf c))
   -- Demand 3: "At whatever offsets that claim is evaluated, every value reported is the polynomial's exact value there
-  -- and at least the floor", where the claim is accepted with some proof and output
-  pub floored : (s out : List ℕ) → Passes (checkAnswer c s (length out)) → (z : ℤ) → Gives z → floorOf c ≤ℤ z
+  -- and at least the floor", where the claim is accepted with some proof and output; by note 3 "evaluation takes any
+  -- point and promises the floor only there", where the masked variables are at least 0
+  pub floored : (s out : List ℕ) → Passes (checkAnswer c s (length out)) → Admits (domainOf c) x
+      → (z : ℤ) → Gives z → floorOf c ≤ℤ z

@@ -18,10 +18,10 @@ use Rattle.answers.specs.declared.searches.Found as Index
 use Rattle.answers.specs.declared.searches.Found.the-variants.{At, Nothing}
 use Rattle.answers.proofs.answers.Laws.{passes-or-fails, refused-blames, refused-number, short-accepted, short-refused}
 use Rattle.answers.proofs.searches.Laws.{first-inside, first-before, none-wrong}
-use Rattle.squares.specs.Sums.{valueAt}
+use Rattle.squares.specs.Floor.{Floors}
 use Rattle.sheets.specs.Layout.{rowCount}
-use Rattle.sheets.specs.ClaimSheet.{withFloor, termsOf}
-use Rattle.sheets.proofs.claim_sheet.Laws.{floored-floor, floored-terms}
+use Rattle.sheets.specs.ClaimSheet.{domainOf, withFloor, termsOf}
+use Rattle.sheets.proofs.claim_sheet.Laws.{floored-floor, floored-domain, floored-terms}
 use Rattle.checks.specs.Input.{WellFormed}
 use Rattle.checks.proofs.proof_checks.Laws.{rows-counted}
 use Rattle.checks.proofs.input.Laws.{input-formed, input-enough}
@@ -126,12 +126,12 @@ module _ (c s : List ℕ) (lo hi : ℤ) (room : ℕ) where
     found-counts =
         let f = simp ring at (read-eq (w .floor-is)) in by-eq (simp ring (omega (ints, f, w .tried-is)))
 
-    found-floors : (x : List ℤ) → b ≤ℤ valueAt x (termsOf c)
-    found-floors x =
+    found-floors : Floors (domainOf c) b (termsOf c)
+    found-floors =
         let long = claim-eight c s _ (searchable c s lo hi room (w .ready) .sheets) in
         let fits = fits-within b greatestWeight found-small (lit< tt) in
-        rw (floored-floor c b long fits, floored-terms c b)
-        at (floor-kept (withFloor c b) s room found-passes x)
+        rw (floored-floor c b long fits, floored-terms c b, floored-domain c b)
+        at (floor-kept (withFloor c b) s room found-passes)
 
   -- ---- 23, and that a floor is found where there is one
 

@@ -11,8 +11,8 @@ use lib.Signed.{_≤ℤ_, _<ℤ_}
 use Rattle.bounds.specs.Bounds.{greatestWeight, greatestSpan}
 use Rattle.answers.specs.Answers as Answers
 use Rattle.answers.specs.Answers.{blameless, Passes}
-use Rattle.squares.specs.Sums.{valueAt}
-use Rattle.sheets.specs.ClaimSheet.{withFloor, termsOf}
+use Rattle.squares.specs.Floor.{Floors}
+use Rattle.sheets.specs.ClaimSheet.{domainOf, withFloor, termsOf}
 use Rattle.checks.specs.Input.{WellFormed}
 use Rattle.judging.specs.Check.{checkAnswer, outputOf}
 use Rattle.judging.specs.Promises.{CheckPromises}
@@ -38,8 +38,8 @@ pub record FloorPromises (c s : List ℕ) (lo hi : ℤ) (out : List ℕ) (b : �
   pub written : o ≡ outputOf (withFloor c b) s out
   -- "the number of floors tried, which is hi minus the floor found, plus one"
   pub counts : pos tried ≡ hi -ℤ b +ℤ pos 1
-  -- Demand 3: "the polynomial is at least the floor at all whole offsets, of either sign and however large"
-  pub floors : (x : List ℤ) → b ≤ℤ valueAt x (termsOf c)
+  -- Demand 3: "the polynomial is at least the floor", by note 3 "at whole points with masked variables at least 0"
+  pub floors : Floors (domainOf c) b (termsOf c)
   -- and all else that its check promises
   pub checked : CheckPromises (withFloor c b) s out (Passes (checkAnswer (withFloor c b) s (length out))) k o
 

@@ -8,19 +8,18 @@ use native.Mathlib.Omega.{arith}
 use lib.IntN.{ℤ}
 use lib.ListN.{length, take, drop}
 use lib.Seq.{drop-length, take-at, drop-at}
-use lib.Signed.{_≤ℤ_}
 use Rattle.integers.proofs.words.Laws.{Bytes}
 use Rattle.bounds.specs.Bounds.{greatestWeight}
 use Rattle.answers.specs.Answers.{accepted, blameless, Passes, Short}
 use Rattle.answers.proofs.answers.Laws.{passes-or-fails, passes-then, then-on, accepted-passes, short-then}
 use Rattle.points.specs.Points.{Exponents}
-use Rattle.squares.specs.Sums.{valueAt}
 use Rattle.squares.specs.Rows.{slots}
 use Rattle.squares.specs.Decomposition.{AddsUp}
 use Rattle.squares.specs.Targets.{lowered, target}
-use Rattle.squares.proofs.Floor.{floor}
+use Rattle.squares.specs.Floor.{Floors}
+use Rattle.squares.proofs.Floor.{floor, admits-all}
 use Rattle.sheets.specs.Layout.{variables, rowCount}
-use Rattle.sheets.specs.ClaimSheet.{floorOf, termsOf}
+use Rattle.sheets.specs.ClaimSheet.{domainOf, floorOf, termsOf}
 use Rattle.sheets.proofs.claim_sheet.Laws.{terms-sized}
 use Rattle.rows.specs.ProofSheet.{scaleOf, rowsOf}
 use Rattle.checks.specs.Input.{WellFormed}
@@ -40,7 +39,7 @@ module _ (c s : List ℕ) where
   abbrev τ : Exponents → ℤ
   τ = targetsOf c s
 
-  targets-meant : (α : Exponents) → τ α ≡ target (scaleOf s) (lowered (variables c) (floorOf c) (termsOf c)) α
+  targets-meant : (α : Exponents) → τ α ≡ target (domainOf c) (scaleOf s) (lowered (variables c) (floorOf c) (termsOf c)) α
   unfolding targetsOf
   targets-meant α = targets-are c s α
 
@@ -71,11 +70,11 @@ module _ (c s : List ℕ) where
     }
 
     -- demand 3, the floor
-    pub floor-kept : (x : List ℤ) → floorOf c ≤ℤ valueAt x (termsOf c)
+    pub floor-kept : Floors (domainOf c) (floorOf c) (termsOf c)
     floor-kept =
         let own = sheets-checked c s accepted-formed in
         let d = accepted-decomposes in
-        floor (variables c) (scaleOf s) (floorOf c) (termsOf c) (shiftedRows τ s)
+        floor (domainOf c) (scaleOf s) (floorOf c) (termsOf c) (shiftedRows τ s)
         (record {
           scale = own .proof .header .scale-positive;
           sized = terms-sized c;
@@ -186,6 +185,7 @@ module _ (c s out : List ℕ) where
     rest = rw e written-rest;
     leaves = λ n. e ∙ refused-kept (λ h. n (meant .1 h));
     floors = λ a. floor-kept c s (length out) (meant .0 a);
+    everywhere = λ a z x. floor-kept c s (length out) (meant .0 a) x (admits-all (domainOf c) x z);
     keeps = λ f l d.
         let h = accepted-passes _ _ (exact-accepted c s f d (length out) l) in
         (meant .1 h, e ∙ written h ∙ rw (exact-bytes c s f d b));

@@ -11,8 +11,9 @@ use Rattle.points.specs.Lists.{All}
 use Rattle.squares.specs.Sums.{valueAt}
 use Rattle.squares.specs.Rows.{Row, slots, Holds}
 use Rattle.squares.specs.Decomposition.{AddsUp}
-use Rattle.sheets.specs.Layout.{variables, rowCount}
-use Rattle.sheets.specs.ClaimSheet.{floorOf, termsOf}
+use Rattle.squares.specs.Floor.{Floors}
+use Rattle.sheets.specs.Layout.{variables, maskOf, rowCount}
+use Rattle.sheets.specs.ClaimSheet.{domainOf, floorOf, termsOf}
 use Rattle.rows.specs.ProofSheet.{scaleOf, rowsOf}
 use Rattle.checks.specs.Input.{WellFormed}
 use Rattle.sharing.specs.Shifts.{shiftedRows}
@@ -41,9 +42,11 @@ pub record CheckPromises (c s out : List ℕ) (Accepted : Type 0) (k : ℕ) (o :
   pub rest : drop (length s) o ≡ drop (length s) out
   -- Demand 1: "a refusal must write no byte"
   pub leaves : (Accepted → ⊥) → o ≡ out
-  -- Demand 3: "If a claim and proof are accepted .. then the polynomial is at least the floor at all whole offsets, of
-  -- either sign and however large"
-  pub floors : Accepted → (x : List ℤ) → floorOf c ≤ℤ valueAt x (termsOf c)
+  -- Demand 3: "If a claim and proof are accepted .. then the polynomial is at least the floor", by note 3 "at whole
+  -- points with masked variables at least 0"
+  pub floors : Accepted → Floors (domainOf c) (floorOf c) (termsOf c)
+  -- and without a mask "at all whole offsets, of either sign and however large"
+  pub everywhere : Accepted → maskOf c ≡ 0 → (x : List ℤ) → floorOf c ≤ℤ valueAt x (termsOf c)
   -- Demand 3: "whenever a claim and proof are well-formed, the proposed weights already add up to the target at every
   -- point, every row holds with them and the output is long enough, the proof is accepted. The output's first bytes
   -- then equal the proof, byte by byte, and its later bytes keep their values"

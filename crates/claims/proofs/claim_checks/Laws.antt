@@ -1,14 +1,15 @@
 -- Laws of the checks 1 to 7: what it says of a claim that it passes them, that it may have another floor, and how short
 -- its answers are.
 use mathlib.Core.Path.{_≡_, refl, sym, _∙_, fun-ext}
-use mathlib.Core.Bool.{Bool, true, false, true≢false, and-eq-true-iff}
+use mathlib.Core.Bool.{Bool, true, false, _&&_, true≢false, and-true, and-eq-true-iff}
 use mathlib.Core.List.{List}
-use Prim.Native.Nat.{ℕ, suc, _-_, _<_, _≤_}
+use Prim.Native.Nat.{ℕ, suc, _-_, _^_, _<_, _≤_}
+use native.Mathlib.Nat.{zero-div}
 use native.Mathlib.Decide.{le-ind}
 use native.Mathlib.Omega.{arith}
 use lib.Dec.{eqb, ltb, lit<}
 use lib.IntN.{ℤ, natAbs}
-use lib.ListN.{length}
+use lib.ListN.{length, getD}
 use borrow.Author.Tests.{eqb-true, not-false, lt-ltb, ltb-false, leb-true}
 use Rattle.integers.proofs.Integers.{fits-within}
 use Rattle.integers.proofs.words.Laws.{Bytes}
@@ -22,7 +23,7 @@ use Rattle.answers.proofs.answers.Laws.{passes-if, passes-at, if-on, passed, sh
 use Rattle.answers.proofs.searches.Laws.{none-wrong}
 use Rattle.points.specs.Points.{samePoint, risesTo, exponentsWithin}
 use Rattle.points.proofs.points.Laws.{same-eq, rises-self, rises-trans}
-use Rattle.sheets.specs.Layout.{variables, termCount, ClaimRoom, claimLength}
+use Rattle.sheets.specs.Layout.{variables, termCount, maskOf, ClaimRoom, claimLength}
 use Rattle.sheets.specs.ClaimSheet.{floorOf, withFloor, termPoint, coefficientOf}
 use Rattle.sheets.proofs.claim_sheet.Laws.{floored-length, floored-floor, floored-before, floored-point, floored-coefficient}
 use Rattle.claims.specs.ClaimChecks.{termBreaks, termsAnswer, claimAnswer, ClaimFacts, countsRight, maskRight, claimHeaderRight}
@@ -87,6 +88,11 @@ claim-facts c h =
       exponents-within = λ i l. exponents-fact c _ _ i (none-wrong _ _ (p₆ .0) i l);
       rising = λ i l. rising-fact c _ _ i (none-wrong _ _ (p₇ .0) (suc i) l);
     }
+
+-- a mask of 0 is right
+pub header-unmasked : (c : List ℕ) → maskOf c ≡ 0 → claimHeaderRight c ≡ countsRight c && eqb (getD c 3 0) 0
+unfolding claimHeaderRight maskRight
+header-unmasked c z = rw (z, zero-div (2 ^ variables c), and-true (countsRight c))
 
 -- ---- with another floor within its bounds the claim passes as well
 

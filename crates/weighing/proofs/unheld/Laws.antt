@@ -107,7 +107,7 @@ module _ (c s : List ℕ) (a : Aim) where
     elsewhere α apart wrong =
         let none = coefficient-none (λ β. unheldAt τ s β ≡ false) α (termsOf c) listed-terms
         (λ q. true≢false (sym wrong ∙ q)) in
-        let zero = target-of c a α ∙ target-zero (a .scale) _ α
+        let zero = target-of c a α ∙ target-zero _ (a .scale) _ α
         (lowered-other (variables c) (a .floor) (termsOf c) α apart ∙ none) in
         true≢false (sym wrong ∙ met-zero τ s α zero)
 

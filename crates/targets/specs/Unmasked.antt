@@ -1,0 +1,30 @@
+-- A claim without a mask is judged as document 01 says, and admits all whole offsets.
+use mathlib.Core.Path.{_≡_}
+use mathlib.Core.Bool.{_&&_}
+use mathlib.Core.List.{List}
+use Prim.Native.Nat.{ℕ, _%_}
+use lib.Dec.{eqb}
+use lib.IntN.{ℤ, pos, _*ℤ_}
+use lib.ListN.{getD}
+use Rattle.points.specs.Points.{Exponents, every}
+use Rattle.squares.specs.Sums.{coefficient}
+use Rattle.squares.specs.Domains.{Admits}
+use Rattle.squares.specs.Targets.{lowered, worst}
+use Rattle.sheets.specs.Layout.{variables, maskOf}
+use Rattle.sheets.specs.ClaimSheet.{domainOf, termsOf}
+use Rattle.claims.specs.ClaimChecks.{countsRight, claimHeaderRight}
+use Rattle.targets.specs.Targets.{targetOf}
+use Rattle.targets.specs.declared.targets.Aim.{Aim}
+
+pub record Unmasked (c : List ℕ) : Type 0 where
+  -- 2: "Bytes 2 and 3: zero"
+  pub header : claimHeaderRight c ≡ countsRight c && eqb (getD c 3 0) 0
+  -- "S times the coefficient of g if every exponent is even, else minus S times its absolute value"
+  pub targets : (a : Aim) (α : Exponents) → targetOf c a α
+      ≡ pos (a .scale) *ℤ worst (every (λ e. eqb (e % 2) 0) α)
+      (coefficient α (lowered (variables c) (a .floor) (termsOf c)))
+  -- "all whole offsets, of either sign and however large"
+  pub admits : (x : List ℤ) → Admits (domainOf c) x
+
+abbrev pub AsBefore : Type 0
+AsBefore = (c : List ℕ) → maskOf c ≡ 0 → Unmasked c
