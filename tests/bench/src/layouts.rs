@@ -64,7 +64,7 @@ fn rows_all_alike(k: usize) -> (Claim, Proof) {
 fn sheets(mut terms: Vec<(Point, i32)>, ends: Vec<(Point, Point)>) -> (Claim, Proof) {
     terms.sort();
     let rows = ends.into_iter().map(|(v, w)| Row { v, w, weights: PROPOSED }).collect();
-    (Claim { n: 8, floor: 0, terms }, Proof { n: 8, scale: 1, rows })
+    (Claim { n: 8, mask: 0, floor: 0, terms }, Proof { n: 8, scale: 1, rows })
 }
 
 /// Every row has an end at the constant. From one floor down to the next each p rises by one, and a

@@ -120,7 +120,7 @@ fn print_evaluation(name: &str, exponent: fn(u8, u8) -> u8, offsets: [i32; 8]) {
     let point =
         |term| [term].into_iter().chain((1..8).map(move |variable| exponent(term, variable)));
     let terms = (0..64).map(|term| (point(term).collect(), 7)).collect();
-    let claim = Claim { n: 8, floor: 0, terms };
+    let claim = Claim { n: 8, mask: 0, floor: 0, terms };
     let [library, same] = evaluation_times(&claim.bytes(), &offsets);
     println!("{name:<34}{library}  {same}  {:>5.2}", library.minimum / same.minimum);
 }

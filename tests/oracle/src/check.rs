@@ -47,8 +47,7 @@ fn targets(claim: &Claim, scale: u32) -> BTreeMap<Point, Integer> {
 
     let scale = Integer::from(scale);
     let target = |(point, coefficient): (Point, Integer)| {
-        let even = point.iter().all(|exponent| exponent % 2 == 0);
-        let worst = if even { coefficient } else { -&coefficient.abs() };
+        let worst = if claim.keeps_sign(&point) { coefficient } else { -&coefficient.abs() };
         (point, &scale * &worst)
     };
     g.into_iter().map(target).collect()

@@ -3,9 +3,10 @@
 use crate::verdict::{refuse_at, refuse_if, Refusal};
 use crate::{beyond, points, too_high, word, words, Point};
 
-/// A claim: the polynomial as its terms, and the floor under it.
+/// A claim: the polynomial as its terms, the variables that are never negative, and the floor.
 pub struct Claim {
     pub variables: usize,
+    mask: u8,
     pub floor: i32,
     pub terms: Vec<(Point, i32)>,
 }
@@ -15,13 +16,25 @@ impl Claim {
     pub fn origin(&self) -> Point {
         vec![0; self.variables]
     }
+
+    /// A coefficient at the point keeps its sign: every odd exponent is of a masked variable.
+    pub fn keeps_sign(&self, point: &Point) -> bool {
+        let mut exponents = point.iter().enumerate();
+        exponents.all(|(variable, exponent)| exponent % 2 == 0 || has_bit(self.mask, variable))
+    }
+}
+
+/// The mask says that the variable is never negative.
+fn has_bit(mask: u8, variable: usize) -> bool {
+    mask >> variable & 1 == 1
 }
 
 /// The number of variables and of terms, refused by 1 and 2.
 pub fn header(bytes: &[u8]) -> Result<(usize, usize), Refusal> {
     refuse_if(1, bytes.len() < 8)?;
     let (n, t) = (usize::from(bytes[0]), usize::from(bytes[1]));
-    refuse_if(2, !(1..=8).contains(&n) || t > 64 || bytes[2..4] != [0, 0])?;
+    let is_past = (n..8).any(|variable| has_bit(bytes[2], variable));
+    refuse_if(2, !(1..=8).contains(&n) || t > 64 || is_past || bytes[3] != 0)?;
     Ok((n, t))
 }
 
@@ -43,5 +56,6 @@ pub fn read(bytes: &[u8]) -> Result<Claim, Refusal> {
     refuse_at(6, points.iter().position(too_high))?;
     let falling = points.windows(2).position(|two| two[0] >= two[1]);
     refuse_at(7, falling.map(|index| index + 1))?;
-    Ok(Claim { variables: n, floor, terms: points.into_iter().zip(coefficients).collect() })
+    let terms = points.into_iter().zip(coefficients).collect();
+    Ok(Claim { variables: n, mask: bytes[2], floor, terms })
 }

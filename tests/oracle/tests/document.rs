@@ -1,12 +1,13 @@
 //! The oracle against documents 01 and 02: the examples, the table of refusals, the program's
-//! input, evaluations and searches.
+//! input, masks, evaluations and searches.
 
 mod common;
 
 use oracle::{check, evaluate, search, text, Integer, Refusal};
 use refusals::{rule, said_by, EntryPoint, Sheet, RULES};
+use sheets::masked::{b_claim, cube, product_claim};
 use sheets::worked::{
-    motzkin_claim, power_claim, square_claim, square_input, square_proof, SQUARE_CUTS,
+    lone_proof, motzkin_claim, power_claim, square_claim, square_input, square_proof, SQUARE_CUTS,
 };
 use sheets::{posts, searches, table, Case, Claim, Proof};
 use std::collections::BTreeSet;
@@ -85,6 +86,92 @@ fn an_absent_constant_has_the_index_after_the_terms() {
     let claim = Claim::new(5, &[([2], 1), ([4], 1)]);
     let proof = Proof::new(1, &[([2], [2], [1, 0, 0]), ([4], [4], [1, 0, 0])]);
     assert_eq!(check(&claim.bytes(), &proof.bytes(), 100), Err(Refusal { number: 16, index: 2 }));
+}
+
+/// The shifted weights of an accepted proof.
+fn shifted(claim: Claim, proof: &Proof) -> Result<Vec<[i32; 3]>, Refusal> {
+    let proof = proof.bytes();
+    check(&claim.bytes(), &proof, proof.len()).map(|accepted| accepted.weights)
+}
+
+const NEGATIVE_END: Refusal = Refusal { number: 18, index: 0 };
+const CLAIM_HEADER: Refusal = Refusal { number: 2, index: 0 };
+
+#[test]
+fn a_masked_odd_point_keeps_its_sign() {
+    assert_eq!(shifted(b_claim(0), &square_proof()), Ok(vec![[1, 1, -2]]));
+    assert_eq!(shifted(b_claim(1), &square_proof()), Ok(vec![[1, 1, 2]]));
+    assert_eq!(shifted(b_claim(2), &square_proof()), Err(CLAIM_HEADER));
+    assert_eq!(shifted(square_claim(0, -2).masked(1), &square_proof()), Ok(vec![[1, 1, -2]]));
+
+    assert_eq!(shifted(power_claim(3), &lone_proof([3])), Err(NEGATIVE_END));
+    assert_eq!(shifted(power_claim(3).masked(1), &lone_proof([3])), Ok(vec![[1, 0, 0]]));
+}
+
+#[test]
+fn every_odd_exponent_has_to_be_masked() {
+    let product = |mask| shifted(product_claim::<2>(mask), &lone_proof([1, 1]));
+    for mask in 0..3 {
+        assert_eq!(product(mask), Err(NEGATIVE_END), "{mask}");
+    }
+    assert_eq!(product(3), Ok(vec![[1, 0, 0]]));
+
+    let product = |mask| shifted(product_claim::<8>(mask), &lone_proof([1; 8]));
+    assert_eq!(product(255), Ok(vec![[1, 0, 0]]));
+    for variable in 0..8 {
+        assert_eq!(product(255 - (1 << variable)), Err(NEGATIVE_END), "{variable}");
+    }
+}
+
+/// Bit i of the mask is of the exponent at place i.
+#[test]
+fn a_bit_is_of_one_variable() {
+    for odd in 0..8 {
+        let mut point = [2; 8];
+        point[odd] = 3;
+        let claim = Claim::new(0, &[(point, 1)]);
+        for bit in 0..8 {
+            let verdict = shifted(claim.clone().masked(1 << bit), &lone_proof(point));
+            let expected = if bit == odd { Ok(vec![[1, 0, 0]]) } else { Err(NEGATIVE_END) };
+            assert_eq!(verdict, expected, "{odd} {bit}");
+        }
+    }
+}
+
+#[test]
+fn a_mask_has_bits_of_variables_only() {
+    for n in 1..=8 {
+        for mask in 0..=255 {
+            let claim = Claim { n, mask, floor: 0, terms: vec![] };
+            let proof = Proof { n, scale: 1, rows: vec![] };
+            let is_past = u32::from(mask) >= 1 << n;
+            let expected = if is_past { Err(CLAIM_HEADER) } else { Ok(vec![]) };
+            assert_eq!(shifted(claim, &proof), expected, "{n} {mask}");
+        }
+    }
+    let mut claim = b_claim(1).bytes();
+    claim[3] = 1;
+    assert_eq!(evaluate(&claim, &[0]), Err(CLAIM_HEADER));
+}
+
+/// 16 names the first term without a slot by the order of terms alone.
+#[test]
+fn no_mask_moves_a_term_without_a_slot() {
+    let claim = Claim::new(0, &[([1, 0], -1), ([1, 1], 1), ([2, 0], 1)]);
+    for mask in 0..4 {
+        let verdict = shifted(claim.clone().masked(mask), &lone_proof([2, 0]));
+        assert_eq!(verdict, Err(Refusal { number: 16, index: 0 }), "{mask}");
+    }
+}
+
+/// The floor is promised where no masked variable is negative; a value is given everywhere.
+#[test]
+fn an_accepted_claim_may_be_under_its_floor_at_a_masked_negative_offset() {
+    let cube = cube();
+    assert_eq!(shifted(cube.claim.clone(), &cube.proof), Ok(vec![[1, 0, 0]]));
+    assert_eq!(cube.claim.floor, 0);
+    assert_eq!(evaluate(&cube.claim.bytes(), &[-2]), Ok(Integer::from(-8)));
+    assert_eq!(evaluate(&cube.claim.bytes(), &[2]), Ok(Integer::from(8)));
 }
 
 #[test]

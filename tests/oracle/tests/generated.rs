@@ -2,10 +2,10 @@
 
 mod common;
 
-use oracle::{check, evaluate, search, Integer, Refusal};
+use oracle::{check, evaluate, search, Integer, Refusal, Verdict};
 use refusals::LIBRARY;
 use sheets::random::{Kind, Plan, Rng, Shape};
-use sheets::MOST;
+use sheets::{Case, MOST};
 
 #[test]
 fn shifted_weights_are_the_planned_ones() {
@@ -33,6 +33,34 @@ fn every_kind_comes_to_what_it_was_made_for() {
             }
         }
     }
+}
+
+/// The verdict on the case with another mask.
+fn with_mask(case: &Case, mask: u8) -> Verdict {
+    let mut claim = case.claim.clone();
+    claim[2] = mask;
+    check(&claim, &case.proof, case.room)
+}
+
+/// Many accepted claims have a plus sign at an odd point that their mask keeps: without the mask
+/// the verdict is another. In some of them it is another too where all variables are masked.
+#[test]
+fn masks_count_among_the_accepted() {
+    let (mut kept, mut partly) = (0, 0);
+    for kind in [Kind::Accepted, Kind::Extreme, Kind::Found] {
+        let mut rng = Rng::new(6);
+        for _ in 0..1000 {
+            let case = kind.case(&mut rng);
+            let verdict = check(&case.claim, &case.proof, case.room);
+            let all = u8::MAX >> (8 - case.claim[0]);
+            assert!(verdict.is_ok(), "{kind}");
+            let counts = with_mask(&case, 0) != verdict;
+            kept += usize::from(counts);
+            partly += usize::from(counts && with_mask(&case, all) != verdict);
+        }
+    }
+    assert!(kept > 500, "{kept} claims keep a sign by their mask");
+    assert!(partly > 10, "{partly} of them do not keep every sign");
 }
 
 /// A search finds the highest of the carried floors, and none past the lowest.

@@ -1,9 +1,10 @@
 //! Builder of claims and proofs in bytes, and the sheets that tests are made of.
 //!
-//! `worked`, `posts` and `papers` hold sheets with the text the program prints for them, `table`
-//! the examples of the table of refusals, `searches` searches with what they find, `random` the
-//! generators.
+//! `worked`, `masked`, `posts` and `papers` hold sheets with the text the program prints for them,
+//! `table` the examples of the table of refusals, `searches` searches with what they find, `random`
+//! the generators.
 
+pub mod masked;
 pub mod papers;
 pub mod posts;
 pub mod random;
@@ -20,15 +21,22 @@ pub const MOST: i32 = 1 << 30;
 /// A claim has at most so many terms.
 pub const MOST_TERMS: usize = 64;
 
-/// Every exponent is even.
-fn is_even(point: &Point) -> bool {
-    point.iter().all(|exponent| exponent % 2 == 0)
+/// Bit i of the mask says that variable i is never negative.
+fn is_masked(mask: u8, variable: usize) -> bool {
+    mask >> variable & 1 == 1
+}
+
+/// Every odd exponent is of a masked variable.
+fn keeps_sign(mask: u8, point: &Point) -> bool {
+    let mut exponents = point.iter().enumerate();
+    exponents.all(|(variable, exponent)| exponent % 2 == 0 || is_masked(mask, variable))
 }
 
 /// A claim to be written as a sheet. Nothing in it has to be right.
 #[derive(Clone, Debug)]
 pub struct Claim {
     pub n: u8,
+    pub mask: u8,
     pub floor: i32,
     pub terms: Vec<(Point, i32)>,
 }
@@ -70,14 +78,19 @@ pub struct Case {
 }
 
 impl Claim {
-    /// A claim whose points have `N` exponents.
+    /// A claim whose points have `N` exponents, with no variable masked.
     pub fn new<const N: usize>(floor: i32, terms: &[([u8; N], i32)]) -> Claim {
         let terms = terms.iter().map(|(point, c)| (point.to_vec(), *c)).collect();
-        Claim { n: N as u8, floor, terms }
+        Claim { n: N as u8, mask: 0, floor, terms }
+    }
+
+    /// The claim with a mask.
+    pub fn masked(self, mask: u8) -> Claim {
+        Claim { mask, ..self }
     }
 
     pub fn bytes(&self) -> Vec<u8> {
-        let mut bytes = vec![self.n, self.terms.len() as u8, 0, 0];
+        let mut bytes = vec![self.n, self.terms.len() as u8, self.mask, 0];
         bytes.extend(self.floor.to_le_bytes());
         bytes.extend(self.terms.iter().flat_map(|(point, _)| point));
         bytes.extend(self.terms.iter().flat_map(|(_, coefficient)| coefficient.to_le_bytes()));
@@ -127,9 +140,10 @@ impl Proof {
     }
 }
 
-/// Every example: the worked sheets, the posts, the papers.
+/// Every example: the worked sheets, those with masks, the posts, the papers.
 pub fn examples() -> Vec<Example> {
-    [worked::examples(), posts::examples(), papers::examples()].into_iter().flatten().collect()
+    let all = [worked::examples(), masked::examples(), posts::examples(), papers::examples()];
+    all.into_iter().flatten().collect()
 }
 
 impl Example {

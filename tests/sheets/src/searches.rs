@@ -1,5 +1,6 @@
 //! Searches for the highest floor that the rows carry, with what they find.
 
+use crate::masked::b_claim;
 use crate::worked::{motzkin_claim, motzkin_proof, square_claim, square_proof};
 use crate::{papers, Case, Claim, Proof, MOST};
 
@@ -37,7 +38,7 @@ fn search(name: &'static str, case: &Case, lo: i64, hi: i64, outcome: Outcome) -
 
 /// Every named search.
 pub fn searches() -> Vec<Search> {
-    [worked(), bounds(), orders(), gaps()].into_iter().flatten().collect()
+    [worked(), masked(), bounds(), orders(), gaps()].into_iter().flatten().collect()
 }
 
 /// Square with a floor of its own.
@@ -61,6 +62,27 @@ fn worked() -> Vec<Search> {
         search("E", &e, -5, 5, Ok((0, 6, &[]))),
         search("F", &e, 1, 5, Err(23)),
         search("G", &g, -10, 10, Ok((0, 11, &[[1, 1, -2], [2, 2, -4], [1, 1, -2]]))),
+    ]
+}
+
+/// B with masks. Its pair carries the floor 0 either way, by another r; lone rows carry the floor 1,
+/// which is true where x is never negative, and none where x may be.
+fn masked() -> Vec<Search> {
+    let pair = |mask| Case::new(&b_claim(mask), &square_proof());
+    let lone_rows = Proof::new(1, &[0, 1, 2].map(|point| ([point], [point], [0, 0, 0])));
+    let lone = |mask| Case::new(&b_claim(mask), &lone_rows);
+    vec![
+        search("B", &pair(0), -3, 3, Ok((0, 4, &[[1, 1, -2]]))),
+        search("B masked", &pair(1), -3, 3, Ok((0, 4, &[[1, 1, 2]]))),
+        search("B masked past n", &pair(2), -3, 3, Err(2)),
+        search("B in lone rows", &lone(0), -3, 3, Err(23)),
+        search(
+            "B masked in lone rows",
+            &lone(1),
+            -3,
+            3,
+            Ok((1, 3, &[[0; 3], [2, 0, 0], [1, 0, 0]])),
+        ),
     ]
 }
 

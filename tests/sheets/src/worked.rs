@@ -58,6 +58,14 @@ pub fn power_claim(exponent: u8) -> Claim {
     Claim::new(0, &[([exponent], 1)])
 }
 
+/// The proof of a claim whose only term has coefficient 1: a lone row at the term's point.
+pub fn lone_proof<const N: usize>(point: [u8; N]) -> Proof {
+    Proof::new(1, &[(point, point, [1, 0, 0])])
+}
+
+/// What the program prints for such a claim with floor 0, where its proof is accepted.
+pub const LONE_TEXT: &str = "accepted rows 1 scale 1 floor 0\nrow 0 p 1 q 0 r 0\n";
+
 const MOTZKIN_TEXT: &str = "accepted rows 3 scale 1 floor 0\n\
     row 0 p 1 q 1 r -2\n\
     row 1 p 2 q 2 r -4\n\
@@ -101,11 +109,6 @@ pub fn examples() -> Vec<Example> {
             text: "refused 19 at 1\n",
         },
         motzkin("I", -1, "refused 19 at 1\n"),
-        Example {
-            name: "J",
-            claim: power_claim(56),
-            proof: Proof::new(1, &[([56], [56], [1, 0, 0])]),
-            text: "accepted rows 1 scale 1 floor 0\nrow 0 p 1 q 0 r 0\n",
-        },
+        Example { name: "J", claim: power_claim(56), proof: lone_proof([56]), text: LONE_TEXT },
     ]
 }

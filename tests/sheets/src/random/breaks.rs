@@ -115,7 +115,7 @@ fn spoil_claim_header(rng: &mut Rng, claim: &mut [u8]) {
         0 => claim[0] = 0,
         1 => claim[0] = past_byte(rng, 9),
         2 => claim[1] = past_byte(rng, 65),
-        3 => claim[2] = past_byte(rng, 1),
+        3 if claim[0] < 8 => claim[2] |= 1 << past(rng, claim[0].into()..=7),
         _ => claim[3] = past_byte(rng, 1),
     }
 }

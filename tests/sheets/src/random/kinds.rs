@@ -4,6 +4,7 @@ use super::breaks::{self, Break};
 use super::offsets::{largest_terms, offsets, over_largest_term};
 use super::ranges::{around, down_to, outside, wrong, Floors};
 use super::rows::JUDGED;
+use super::shape::mask;
 use super::{Plan, Rng, Shape};
 use crate::{Case, Claim, Proof, MOST_TERMS};
 use refusals::EntryPoint::{self, Check, Evaluation, Program, Search};
@@ -237,7 +238,7 @@ fn damage(rng: &mut Rng, sheet: &mut Vec<u8>) {
 fn noise(rng: &mut Rng) -> Case {
     let n = 1 + rng.below(3);
     let (t, k) = (rng.below(3), rng.below(3));
-    let mut claim = vec![n as u8, t as u8, 0, 0, 0, 0, 0, 0];
+    let mut claim = vec![n as u8, t as u8, mask(rng, n), 0, 0, 0, 0, 0];
     let mut proof = vec![n as u8, 0, k as u8, 0, 1, 0, 0, 0];
     let most = rng.pick(&[1, 2, 4, 255]);
     let mut body = |length: usize| -> Vec<u8> {

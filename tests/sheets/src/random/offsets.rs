@@ -1,5 +1,6 @@
 //! Random offsets, and claims whose terms come up to 2^56.
 
+use super::shape::mask;
 use super::Rng;
 use crate::{Claim, Point, MOST_TERMS};
 use std::collections::BTreeMap;
@@ -37,7 +38,8 @@ pub fn largest_terms(rng: &mut Rng) -> (Claim, Vec<i32>) {
         }
     }
     let offsets = bits.iter().map(|&bits| power_of_two(rng, bits)).collect();
-    (Claim { n: n as u8, floor: 0, terms: terms.into_iter().collect() }, offsets)
+    let (mask, terms) = (mask(rng, n), terms.into_iter().collect());
+    (Claim { n: n as u8, mask, floor: 0, terms }, offsets)
 }
 
 /// The same with one coefficient one further from zero, so that its term is over 2^56.

@@ -4,7 +4,7 @@
 
 use super::rows::{faulty_row, filling_row, holding_row};
 use super::{Rng, Shape};
-use crate::{is_even, Claim, Point, Proof, Row, MOST, MOST_TERMS};
+use crate::{keeps_sign, Claim, Point, Proof, Row, MOST, MOST_TERMS};
 use std::collections::BTreeMap;
 
 /// Sheets and the weights that the shift must give them.
@@ -17,6 +17,7 @@ pub struct Plan {
 /// Rows with their shifted weights, while a plan is made.
 struct Draft {
     n: usize,
+    mask: u8,
     scale: i64,
     rows: Vec<Row<i64>>,
 }
@@ -45,7 +46,7 @@ impl Plan {
 impl Draft {
     fn new(rng: &mut Rng, shape: &Shape, faults: &[u32]) -> Option<Draft> {
         let (n, scale) = (shape.pool[0].len(), i64::from(shape.scale));
-        let mut draft = Draft { n, scale, rows: Vec::new() };
+        let mut draft = Draft { n, mask: shape.mask, scale, rows: Vec::new() };
         for _ in 0..shape.rows {
             let row = holding_row(rng, shape, &draft.rows);
             draft.rows.push(row);
@@ -53,8 +54,8 @@ impl Draft {
         for &fault in faults {
             draft.rows.push(faulty_row(rng, shape, fault)?);
         }
-        draft.settle_odd_points(rng)?;
-        draft.settle_even_points();
+        draft.settle_worst_points(rng)?;
+        draft.settle_kept_points();
         while draft.rows.len() < shape.least_rows {
             let row = filling_row(rng, shape, &draft.rows);
             draft.rows.push(row);
@@ -71,11 +72,11 @@ impl Draft {
         sums
     }
 
-    /// Rows between even ends that bring the sum at each odd point to a multiple of the scale
-    /// which is not positive. None where that takes too large a weight.
-    fn settle_odd_points(&mut self, rng: &mut Rng) -> Option<()> {
+    /// Rows between even ends that bring the sum at each point of the worst sign to a multiple of
+    /// the scale which is not positive. None where that takes too large a weight.
+    fn settle_worst_points(&mut self, rng: &mut Rng) -> Option<()> {
         for (point, sum) in self.sums() {
-            if is_even(&point) || (sum <= 0 && sum % self.scale == 0) {
+            if keeps_sign(self.mask, &point) || (sum <= 0 && sum % self.scale == 0) {
                 continue;
             }
             let times = (-sum).div_euclid(self.scale).max(0) + rng.within(0..=2);
@@ -91,11 +92,11 @@ impl Draft {
         Some(())
     }
 
-    /// Lone rows that bring the sum at each even point to a multiple of the scale.
-    fn settle_even_points(&mut self) {
+    /// Lone rows that bring the sum at each point of kept sign to a multiple of the scale.
+    fn settle_kept_points(&mut self) {
         for (point, sum) in self.sums() {
             let missing = (-sum).rem_euclid(self.scale);
-            if is_even(&point) && missing > 0 {
+            if keeps_sign(self.mask, &point) && missing > 0 {
                 self.rows.push(Row { v: point.clone(), w: point, weights: [missing, 0, 0] });
             }
         }
@@ -106,7 +107,7 @@ impl Draft {
         let mut coefficients: BTreeMap<Point, i64> = BTreeMap::new();
         for (point, sum) in self.sums() {
             let times = sum / self.scale;
-            let coefficient = if is_even(&point) { times } else { rng.signed(times) };
+            let coefficient = if keeps_sign(self.mask, &point) { times } else { rng.signed(times) };
             coefficients.insert(point, coefficient);
         }
         let constant = coefficients.entry(vec![0; self.n]).or_default();
@@ -119,7 +120,7 @@ impl Draft {
         };
         let terms = coefficients.into_iter().map(|(point, c)| Some((point, narrow(c)?)));
         let terms: Vec<(Point, i32)> = terms.collect::<Option<_>>()?;
-        let claim = Claim { n: self.n as u8, floor: narrow(floor)?, terms };
+        let claim = Claim { n: self.n as u8, mask: self.mask, floor: narrow(floor)?, terms };
         (claim.terms.len() <= MOST_TERMS).then_some(claim)
     }
 

@@ -2,7 +2,7 @@
 //! and around them.
 
 use super::{Rng, Shape};
-use crate::{is_even, Row, MOST};
+use crate::{keeps_sign, Row, MOST};
 
 /// The numbers that judge single rows after the shift.
 pub const JUDGED: [u32; 3] = [17, 18, 19];
@@ -19,7 +19,7 @@ pub fn holding_row(rng: &mut Rng, shape: &Shape, earlier: &[Row<i64>]) -> Row<i6
     };
     let weights = if v != w {
         holding_weights(rng, shape.weight)
-    } else if is_even(&v) {
+    } else if keeps_sign(shape.mask, &v) {
         [end_weight(rng, shape.weight), 0, 0]
     } else {
         [0, 0, 0]
@@ -28,12 +28,12 @@ pub fn holding_row(rng: &mut Rng, shape: &Shape, earlier: &[Row<i64>]) -> Row<i6
 }
 
 /// A row that holds and leaves every sum as good as it was: its weights are multiples of the scale
-/// where its points are all even, else zeros.
+/// where coefficients keep their signs at all of its points, else zeros.
 pub fn filling_row(rng: &mut Rng, shape: &Shape, earlier: &[Row<i64>]) -> Row<i64> {
     let row = holding_row(rng, shape, earlier);
     let (a, b) = (rng.within(0..=5), rng.within(0..=5));
     let cross = (4 * a * b).isqrt();
-    let weights = if row.slots().iter().any(|(point, _)| !is_even(point)) {
+    let weights = if row.slots().iter().any(|(point, _)| !keeps_sign(shape.mask, point)) {
         [0, 0, 0]
     } else if row.is_lone() {
         [a, 0, 0]

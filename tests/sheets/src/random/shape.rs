@@ -1,11 +1,13 @@
 //! How large plans are, and the points of their rows.
 
 use super::Rng;
-use crate::{Point, Row, MOST};
+use crate::{is_masked, Point, Row, MOST};
 
 /// How large a plan is to be.
 #[derive(Clone, Debug)]
 pub struct Shape {
+    /// The variables that are never negative.
+    pub mask: u8,
     /// The points that rows are drawn from, in order.
     pub pool: Vec<Point>,
     /// Midpoints are of the pool too.
@@ -29,7 +31,8 @@ impl Shape {
         let step = rng.pick(&[1, 1, 1, 2]);
         let top = rng.once_in(4);
         Shape {
-            pool: grid(rng, n, sides, step, top),
+            mask: mask(rng, n),
+            pool: grid(rng, &vec![step; n], sides, top),
             closed: rng.once_in(2),
             only_pairs: false,
             rows: rng.pick(&[0, 1, 2, 3, 5, 8, 13, 40]),
@@ -46,8 +49,10 @@ impl Shape {
         let sides = if n == 1 { [55, 1] } else { [8, 8] };
         let many = rng.once_in(2);
         let top = rng.once_in(2);
+        let mask = mask(rng, n);
         Shape {
-            pool: grid(rng, n, sides, 2, top),
+            mask,
+            pool: grid(rng, &steps(mask, n), sides, top),
             closed: true,
             only_pairs: false,
             rows: if many { 150 } else { 2 },
@@ -61,8 +66,10 @@ impl Shape {
     pub fn low(rng: &mut Rng) -> Shape {
         let n = rng.pick(&[1, 2, 3]);
         let sides = [1 + rng.below(4), 1 + rng.below(3)];
+        let mask = mask(rng, n);
         Shape {
-            pool: grid(rng, n, sides, 2, false),
+            mask,
+            pool: grid(rng, &steps(mask, n), sides, false),
             closed: rng.once_in(2),
             only_pairs: false,
             rows: 1 + rng.below(12),
@@ -72,10 +79,11 @@ impl Shape {
         }
     }
 
-    /// A shape of so many pairs of 8 variables, with terms at up to 64 points.
+    /// A shape of so many pairs of 8 variables, none of them masked, with terms at up to 64 points.
     pub fn pairs(rng: &mut Rng, rows: usize) -> Shape {
         Shape {
-            pool: grid(rng, 8, [8, 8], 2, false),
+            mask: 0,
+            pool: grid(rng, &[2; 8], [8, 8], false),
             closed: true,
             only_pairs: true,
             rows,
@@ -110,13 +118,26 @@ impl Shape {
     }
 }
 
-/// Points on a grid with two random directions of the given step, from the least exponents on or
+/// A mask for `n` variables: none of them, all, or any.
+pub fn mask(rng: &mut Rng, n: usize) -> u8 {
+    let all = u8::MAX >> (8 - n);
+    let any = rng.byte() & all;
+    rng.pick(&[0, all, any, any])
+}
+
+/// Steps for each variable between points whose coefficients keep their signs.
+fn steps(mask: u8, n: usize) -> Vec<usize> {
+    (0..n).map(|variable| if is_masked(mask, variable) { 1 } else { 2 }).collect()
+}
+
+/// Points on a grid with two random directions of the given steps, from the least exponents on or
 /// up to the greatest.
-fn grid(rng: &mut Rng, n: usize, sides: [usize; 2], step: usize, top: bool) -> Vec<Point> {
-    let mut direction = || -> Vec<usize> { (0..n).map(|_| step * rng.below(2)).collect() };
+fn grid(rng: &mut Rng, steps: &[usize], sides: [usize; 2], top: bool) -> Vec<Point> {
+    let n = steps.len();
+    let mut direction = || -> Vec<usize> { steps.iter().map(|step| step * rng.below(2)).collect() };
     let (mut first, mut second) = (direction(), direction());
-    first[0] = step;
-    second[n - 1] = step;
+    first[0] = steps[0];
+    second[n - 1] = steps[n - 1];
     let span = |i, j| first.iter().zip(&second).map(move |(a, b)| i * a + j * b);
     let start = span(sides[0] - 1, sides[1] - 1).map(|last| if top { 120 - last } else { 0 });
     let start: Vec<usize> = start.collect();
