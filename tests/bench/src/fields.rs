@@ -13,6 +13,7 @@ pub struct Sheets<'a> {
     pub k: usize,
     pub floor: i64,
     pub scale: i64,
+    mask: u8,
     claim: &'a [u8],
     proof: &'a [u8],
 }
@@ -46,10 +47,11 @@ impl<'a> Sheets<'a> {
     pub fn of_claim(claim: &'a [u8]) -> Result<Sheets<'a>, Refusal> {
         refuse_if(1, claim.len() < 8)?;
         let (n, t) = (usize::from(claim[0]), usize::from(claim[1]));
-        refuse_if(2, n == 0 || n > 8 || t > 64 || claim[2] != 0 || claim[3] != 0)?;
+        let mask = claim[2];
+        refuse_if(2, n == 0 || n > 8 || t > 64 || u32::from(mask) >> n != 0 || claim[3] != 0)?;
         refuse_if(3, claim.len() != 8 + t * (n + 4))?;
         let floor = word(claim, 4);
-        let sheets = Sheets { n, t, k: 0, floor, scale: 0, claim, proof: &[] };
+        let sheets = Sheets { n, t, k: 0, floor, scale: 0, mask, claim, proof: &[] };
         refuse_if(4, beyond(floor))?;
         let wrong = |&term: &usize| {
             let coefficient = sheets.coefficient(term);
@@ -135,10 +137,22 @@ impl<'a> Sheets<'a> {
         let coefficient = found.map_or(0, |term| self.coefficient(term));
         if point.iter().all(|&exponent| exponent == 0) {
             self.scale * (coefficient - self.floor)
-        } else if point.iter().all(|exponent| exponent % 2 == 0) {
+        } else if self.keeps_sign(point) {
             self.scale * coefficient
         } else {
             -self.scale * coefficient.abs()
         }
+    }
+
+    /// Every odd exponent is of a masked variable. The mask's lowest bit is the first variable's.
+    fn keeps_sign(&self, point: &[u8]) -> bool {
+        let mut rest = self.mask;
+        for exponent in point {
+            if rest % 2 < exponent % 2 {
+                return false;
+            }
+            rest /= 2;
+        }
+        true
     }
 }
