@@ -1,11 +1,13 @@
-//! What a floor means: the polynomial is nowhere under it. Two posts show what trials cannot tell.
+//! What a floor means: where no masked variable is negative, the polynomial is nowhere under it. Two
+//! posts show what trials cannot tell, and a masked cube what a floor leaves open.
 
 use crate::answers;
 use crate::report::{equal, Outcome, Report};
 use oracle::Integer;
+use sheets::masked::cube;
 use sheets::posts::{post_4, post_9};
 use sheets::random::{offsets, Kind, Rng};
-use sheets::{Case, Example};
+use sheets::{is_masked, Case, Example};
 
 /// How many accepted sheets of each kind are looked at, and at how many places each.
 const SHEETS: usize = 300;
@@ -29,11 +31,13 @@ pub fn run(report: &mut Report) {
     for (post, low_value) in [(post_4(), 0), (post_9(), -1)] {
         let name = post.name;
         report.add(&format!("{name} within ±{MOST_READING}"), has_no_low_reading(&post));
-        report.add(&format!("{name} at {LOW_PLACE:?}"), has_low_value(&post, low_value));
+        report.add(&format!("{name} at {LOW_PLACE:?}"), has_value(&post, &LOW_PLACE, low_value));
     }
+    report.add("cube-masked at -2", is_under_its_floor());
 }
 
-/// Claims evaluated exactly at numbers of any size; some of the values are the floor.
+/// Claims evaluated exactly at numbers of any size that their masks admit; some of the values are
+/// the floor.
 fn are_at_least(name: &str, floor_of: FloorOf) -> Outcome {
     let mut rng = Rng::new(1);
     let mut are_floors = Vec::new();
@@ -42,7 +46,7 @@ fn are_at_least(name: &str, floor_of: FloorOf) -> Outcome {
             let case = kind.case(&mut rng);
             let Some(floor) = floor_of(&case, &mut rng)? else { continue };
             for _ in 0..PLACES {
-                let numbers = numbers(&mut rng, case.offsets.len());
+                let numbers = admitted(&case.claim, numbers(&mut rng, case.offsets.len()));
                 are_floors.push(is_floor(&floor.into(), &case.claim, &numbers)?);
             }
         }
@@ -80,6 +84,16 @@ fn numbers(rng: &mut Rng, count: usize) -> Vec<Integer> {
     offsets(rng, count).into_iter().map(Integer::from).collect()
 }
 
+/// The numbers, without their signs for the variables that the claim's mask says are never negative.
+fn admitted(claim: &[u8], mut numbers: Vec<Integer>) -> Vec<Integer> {
+    for (variable, number) in numbers.iter_mut().enumerate() {
+        if is_masked(claim[2], variable) {
+            *number = number.abs();
+        }
+    }
+    numbers
+}
+
 /// No reading gives a value under the floor.
 fn has_no_low_reading(post: &Example) -> Outcome {
     let (claim, floor) = (post.claim.bytes(), i64::from(post.claim.floor));
@@ -94,8 +108,17 @@ fn has_no_low_reading(post: &Example) -> Outcome {
     Ok(())
 }
 
-fn has_low_value(post: &Example, expected: i64) -> Outcome {
-    equal("the value", &expected, &value(&post.claim.bytes(), &LOW_PLACE)?)
+fn has_value(example: &Example, offsets: &[i32], expected: i64) -> Outcome {
+    equal("the value", &expected, &value(&example.claim.bytes(), offsets)?)
+}
+
+/// The masked cube is accepted with the floor 0, and has its exact value under it at an offset that
+/// the mask does not admit.
+fn is_under_its_floor() -> Outcome {
+    let cube = cube();
+    let case = Case::new(&cube.claim, &cube.proof);
+    equal("the floor", &Some(0), &accepted_floor(&case, &mut Rng::new(0))?)?;
+    has_value(&cube, &[-2], -8)
 }
 
 /// The value that the library gives.

@@ -1,4 +1,5 @@
-//! Tests of single sheets: the examples, the table of refusals, searches, the program's input, C.
+//! Tests of single sheets: the examples, the table of refusals, masks, searches, the program's
+//! input, C.
 
 use crate::report::{equal, Outcome, Report};
 use crate::{answers, files, program};
@@ -6,7 +7,7 @@ use oracle::Refusal;
 use sheets::random::Rng;
 use sheets::searches::{searches, Found, Search};
 use sheets::worked::{power_claim, square_input, SQUARE_CUTS};
-use sheets::{table, Case, Example};
+use sheets::{table, Case, Claim, Example, Proof, Row};
 use std::process::Command;
 use std::{env, fs, process};
 
@@ -46,6 +47,9 @@ pub fn run(report: &mut Report) {
     report.add("no other examples", are_all(&examples));
     for entry in table::entries() {
         report.add(&format!("table {}", entry.number), refuses(&entry));
+    }
+    for n in 1..=8 {
+        report.add(&format!("masks of {n} variables"), are_read(n));
     }
     for search in searches() {
         report.add(&format!("search {}", search.name), comes_to_its_outcome(&search));
@@ -89,6 +93,31 @@ fn refuses(entry: &table::Entry) -> Outcome {
         let refusal = answers::compare(entry_point, &entry.case, &mut Rng::new(0))?;
         equal(&format!("{entry_point:?}"), &expected, &refusal)
     })
+}
+
+/// Every mask, with every set of odd exponents in a claim of one term and one lone row: it is
+/// accepted where the mask has all of them and nothing past the variables.
+fn are_read(n: u8) -> Outcome {
+    let (mut rng, all) = (Rng::new(0), u8::MAX >> (8 - n));
+    for odd in 0..=all {
+        let point: Vec<u8> = (0..n).map(|variable| 2 + (odd >> variable & 1)).collect();
+        let row = Row { v: point.clone(), w: point.clone(), weights: [1, 0, 0] };
+        let proof = Proof { n, scale: 1, rows: vec![row] };
+        for mask in 0..=255 {
+            let claim = Claim { n, mask, floor: 0, terms: vec![(point.clone(), 1)] };
+            let verdict = answers::check(&Case::new(&claim, &proof), &mut rng)?;
+            let expected = if mask > all {
+                Some(2)
+            } else if odd & !mask != 0 {
+                Some(18)
+            } else {
+                None
+            };
+            let number = verdict.err().map(|refusal| refusal.number);
+            equal(&format!("odd {odd:b}, mask {mask:b}"), &expected, &number)?;
+        }
+    }
+    Ok(())
 }
 
 /// The library and the oracle come to the outcome of a named search.

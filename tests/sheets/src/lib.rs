@@ -22,7 +22,7 @@ pub const MOST: i32 = 1 << 30;
 pub const MOST_TERMS: usize = 64;
 
 /// Bit i of the mask says that variable i is never negative.
-fn is_masked(mask: u8, variable: usize) -> bool {
+pub fn is_masked(mask: u8, variable: usize) -> bool {
     mask >> variable & 1 == 1
 }
 
