@@ -2,6 +2,9 @@
  * Burmelox: floors under polynomials, checked and searched, and the polynomials evaluated.
  * docs/FORMAT.md has the layout of both sheets, what each refusal means and what to do about it.
  *
+ * Byte 2 of a claim is its mask: bit i, of value 2^i, says that variable i is never negative. The
+ * mask admits the integers at which each of these variables is at least 0; mask 0 admits all.
+ *
  * Sheets, outputs and offsets may be of any length and content: what is wrong is refused, and a
  * refusal writes nothing. The functions keep no state and allocate nothing, so any thread may call
  * them at any time with buffers of its own.
@@ -21,9 +24,9 @@ extern "C" {
 #endif
 
 #define BURMELOX_VERSION_MAJOR 0
-#define BURMELOX_VERSION_MINOR 2
+#define BURMELOX_VERSION_MINOR 3
 #define BURMELOX_VERSION_PATCH 0
-#define BURMELOX_VERSION "0.2.0"
+#define BURMELOX_VERSION "0.3.0"
 
 /*
  * An answer is one number. It is under 65,536 where nothing is refused: the number of rows of an
@@ -46,7 +49,7 @@ enum burmelox_sheet {
 /* The number of a refusal; its index is that of a term or a row where the comment says so. */
 enum burmelox_refusal {
     BURMELOX_CLAIM_TOO_SHORT = 1,       /* under 8 bytes */
-    BURMELOX_CLAIM_HEADER = 2,          /* n, t, or bytes 2 and 3 */
+    BURMELOX_CLAIM_HEADER = 2,          /* n, t, a mask bit at or above n, or byte 3 */
     BURMELOX_CLAIM_LENGTH_WRONG = 3,
     BURMELOX_FLOOR_BEYOND = 4,
     BURMELOX_COEFFICIENT_WRONG = 5,     /* zero or beyond the limit; term */
@@ -94,17 +97,18 @@ enum burmelox_refusal {
 /*
  * Checks whether the proof shows the claim's floor. Where it does, the answer is the number of
  * rows, the output's first proof_len bytes are the exact proof and later ones keep their values;
- * the polynomial is then at least its floor at all integers. Any other answer is a refusal. The
- * output may not be the proof's own buffer.
+ * the polynomial is then at least its floor at all integers that the mask admits. Any other answer
+ * is a refusal. The output may not be the proof's own buffer.
  */
 uint64_t burmelox_check(const uint8_t *claim, size_t claim_len,
                         const uint8_t *proof, size_t proof_len,
                         uint8_t *output, size_t output_len);
 
 /*
- * Evaluates the claim's polynomial at the offsets, one for each variable. Answers 0 and stores the
- * exact value, which is at least the floor if the claim is accepted with any proof; any other
- * answer is a refusal, and the value stays as it was.
+ * Evaluates the claim's polynomial at the offsets, one for each variable, whether the mask admits
+ * them or not. Answers 0 and stores the exact value, which is at least the floor if the mask admits
+ * the offsets and the claim is accepted with any proof; any other answer is a refusal, and the
+ * value stays as it was.
  */
 uint64_t burmelox_evaluate(const uint8_t *claim, size_t claim_len,
                            const int32_t *offsets, size_t offsets_len,
@@ -116,10 +120,10 @@ uint64_t burmelox_evaluate(const uint8_t *claim, size_t claim_len,
  * claim's own floor is not used, though it has to be within its limits. Where a floor is found, the
  * answer is the number of rows, the floor is stored, and as `tried` the number of floors tried,
  * hi - floor + 1; the output's first proof_len bytes are the exact proof of this floor and later
- * ones keep their values. The polynomial is then at least that floor at all integers, and a check
- * of any higher floor up to hi is refused. The claim is not changed: write the floor into its bytes
- * 4 to 7 before it is checked with that proof. Any other answer is a refusal; the output, the floor
- * and `tried` then stay as they were.
+ * ones keep their values. The polynomial is then at least that floor at all integers that the mask
+ * admits, and a check of any higher floor up to hi is refused. The claim is not changed: write the
+ * floor into its bytes 4 to 7 before it is checked with that proof. Any other answer is a refusal;
+ * the output, the floor and `tried` then stay as they were.
  */
 uint64_t burmelox_search(const uint8_t *claim, size_t claim_len,
                          const uint8_t *proof, size_t proof_len,
