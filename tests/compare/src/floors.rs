@@ -1,5 +1,5 @@
-//! What a floor means: where no masked variable is negative, the polynomial is nowhere under it. Two
-//! posts show what trials cannot tell, and a masked cube what a floor leaves open.
+//! What a floor means: where no masked variable is negative, the polynomial is nowhere under it.
+//! Two posts show what trials cannot tell, and a masked cube what a floor leaves open.
 
 use crate::answers;
 use crate::report::{equal, Outcome, Report};
@@ -84,7 +84,7 @@ fn numbers(rng: &mut Rng, count: usize) -> Vec<Integer> {
     offsets(rng, count).into_iter().map(Integer::from).collect()
 }
 
-/// The numbers, without their signs for the variables that the claim's mask says are never negative.
+/// The numbers, those of the claim's masked variables without their signs.
 fn admitted(claim: &[u8], mut numbers: Vec<Integer>) -> Vec<Integer> {
     for (variable, number) in numbers.iter_mut().enumerate() {
         if is_masked(claim[2], variable) {

@@ -1,9 +1,9 @@
 //! An independent checker of floors, written from documents 01 and 02 alone, with big integers.
 //!
 //! Sheets are parsed into structures, targets and slots are kept in maps by point, and every
-//! number that is computed is an [`Integer`]. One module a section: `claim` (with the mask of
-//! document 02's note 3), `proof`, `check` (targets, sharing, judging), `evaluate`, `text` (what the
-//! program prints), and `search` for note 1 of document 02.
+//! number that is computed is an [`Integer`]. One module a section: `claim`, `proof`, `check`
+//! (targets, sharing, judging), `evaluate`, `text` (what the program prints). Of document 02,
+//! note 1 is `search`, and the mask of note 3 is in `claim`.
 
 mod check;
 mod claim;

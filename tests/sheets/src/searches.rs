@@ -65,24 +65,19 @@ fn worked() -> Vec<Search> {
     ]
 }
 
-/// B with masks. Its pair carries the floor 0 either way, by another r; lone rows carry the floor 1,
-/// which is true where x is never negative, and none where x may be.
+/// B with masks. Its pair carries the floor 0 either way, by another r. Lone rows carry the floor 1
+/// where x is never negative, and none where it may be.
 fn masked() -> Vec<Search> {
     let pair = |mask| Case::new(&b_claim(mask), &square_proof());
     let lone_rows = Proof::new(1, &[0, 1, 2].map(|point| ([point], [point], [0, 0, 0])));
     let lone = |mask| Case::new(&b_claim(mask), &lone_rows);
+    let lone_weights = [[0, 0, 0], [2, 0, 0], [1, 0, 0]];
     vec![
         search("B", &pair(0), -3, 3, Ok((0, 4, &[[1, 1, -2]]))),
         search("B masked", &pair(1), -3, 3, Ok((0, 4, &[[1, 1, 2]]))),
         search("B masked past n", &pair(2), -3, 3, Err(2)),
         search("B in lone rows", &lone(0), -3, 3, Err(23)),
-        search(
-            "B masked in lone rows",
-            &lone(1),
-            -3,
-            3,
-            Ok((1, 3, &[[0; 3], [2, 0, 0], [1, 0, 0]])),
-        ),
+        search("B masked in lone rows", &lone(1), -3, 3, Ok((1, 3, &lone_weights))),
     ]
 }
 
