@@ -28,7 +28,7 @@ use Rattle.judging.specs.Check.{targetsOf, checkAnswer, outputOf}
 use Rattle.text.specs.Text.{digits, natural, integer, counted, numbered}
 use Rattle.text.specs.Lines.{scaleText, acceptedLine, laterText, weightsText, rowLine, refusedLine}
 use Rattle.report.specs.Reports.{ended, linesOf, rowsText, firstText, acceptedText, refusedText, reportable, reportText}
-use Rattle.worked.specs.Sheets.{joined, word, words, claimOf, proofOf, squareWith, square, squareProof, motzkin, motzkinProof}
+use Rattle.worked.specs.Sheets.{joined, word, words, claimOf, proofOf, squareWith, square, squareProof, masked, maskedSquare, motzkin, motzkinProof}
 use Rattle.burmelox_check.specs.Input.{saidLength, splits, claimEnd, claimPart, proofPart}
 use Rattle.burmelox_check.specs.Printing.{sheetsText, programText}
 use Rattle.burmelox_check.specs.Cases.{cases, Worked}
@@ -41,9 +41,9 @@ unfolding
     floorMod share table bytesAt every everyPair samePoint risesTo midpointOf evenSum hasMidpoint
     exponentsWithin keepsSign gathered coefficient slotsAt lowered worst target floorOf termPoint coefficientOf
     termOf termsOf scaleOf vOf wOf wordsAt tripleOf weightsOf rowOf rowsOf tripleFor withTriple withWeights
-    withRows accepted refused refuseIf refuseAt blameless andThen kept first beyond C.countsRight C.claimHeaderRight
+    withRows accepted refused refuseIf refuseAt blameless andThen kept first beyond C.countsRight C.maskRight C.claimHeaderRight
     C.termBreaks C.termsAnswer C.claimAnswer P.proofHeaderRight P.headerAnswer P.qOrR P.anyBeyond P.rowBreaks
-    P.rowsAnswer joined word words claimOf proofOf squareWith square squareProof count errorAt shiftedWeight
+    P.rowsAnswer joined word words claimOf proofOf squareWith square squareProof masked maskedSquare count errorAt shiftedWeight
     aimOf targetOf slotsTo rankOf shiftedWeights shiftRow slotsBefore shiftedRow headAnswer roomAnswer
     bodyAnswer inputAnswer pointFor unheldAt unheld unheldAnswer negative indefinite judgePair judgeLone
     judgementOf numberOf judgedAs firstsTo judgedAnswer weightsFor exactProof weighedAnswer targetsOf

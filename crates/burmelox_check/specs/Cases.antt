@@ -6,7 +6,7 @@ use Prim.Native.String.{String}
 use lib.IntN.{pos, negsuc}
 use lib.ListN.{take}
 use Rattle.text.specs.Text.{ascii}
-use Rattle.worked.specs.Sheets.{claimOf, squareWith, square, squareProof, motzkin, motzkinProof}
+use Rattle.worked.specs.Sheets.{claimOf, squareWith, square, squareProof, maskedSquare, motzkin, motzkinProof}
 use Rattle.burmelox_check.specs.Printing.{programText}
 
 -- an input and what is printed for it
@@ -23,6 +23,9 @@ cases =
     -- G; H: "same result as G"
     record { input = motzkin ++ motzkinProof (negsuc 1); text = motzkinText }
     ∷ record { input = motzkin ++ motzkinProof (negsuc 2); text = motzkinText }
+    -- B with mask 1; a sheet with a mask is split as others are, and one that 2 refuses is not
+    ∷ record { input = maskedSquare 1 ++ squareProof; text = "accepted rows 1 scale 1 floor 0\nrow 0 p 1 q 1 r 2\n" }
+    ∷ record { input = maskedSquare 2 ++ squareProof; text = "refused 2 at 0\n" }
     -- D: "A refusal prints `refused 19 at 0`"
     ∷ record { input = squareWith (pos 1) (negsuc 1) ++ squareProof; text = "refused 19 at 0\n" }
     -- "the whole input is the claim if it is refused by 1 or 2 or is too short"

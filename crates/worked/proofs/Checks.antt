@@ -26,17 +26,17 @@ use Rattle.claims.specs.ClaimChecks as C
 use Rattle.checks.specs.ProofChecks as P
 use Rattle.checks.specs.Input.{headAnswer, formedAnswer}
 use Rattle.checks.specs.declared.proof_checks.RowRule.the-variants as R
-use Rattle.worked.specs.Sheets.{joined, word, words, claimOf, proofOf, squareWith, square, squareProof, twoTerms, oneRow}
+use Rattle.worked.specs.Sheets.{joined, word, words, claimOf, proofOf, squareWith, square, squareProof, twoTerms, oneRow, masked}
 use Rattle.worked.specs.Checks.{Case, claims, proves, full, manyPoints, manyRows, small, cases, Worked}
 
 small-worked : map (λ (c : Case). formedAnswer (c .claim) (c .proof)) small ≡ map (λ (c : Case). c .answer) small
 unfolding
     u32At i32At table bytesAt every everyPair samePoint risesTo evenSum hasMidpoint exponentsWithin accepted
     refused refuseIf refuseAt blameless andThen kept first beyond floorOf termPoint coefficientOf C.countsRight
-    C.claimHeaderRight C.termBreaks C.termsAnswer C.claimAnswer scaleOf vOf wOf wordsAt tripleOf
+    C.maskRight C.claimHeaderRight C.termBreaks C.termsAnswer C.claimAnswer scaleOf vOf wOf wordsAt tripleOf
     P.proofHeaderRight P.headerAnswer P.qOrR P.anyBeyond P.rowBreaks P.rowsAnswer headAnswer formedAnswer joined
     word words claimOf proofOf squareWith square squareProof claims proves twoTerms oneRow full manyPoints
-    manyRows small
+    manyRows masked small
 small-worked = refl
 
 -- ---- 256 rows
@@ -100,7 +100,7 @@ rows-right =
 
 claim-right : says (Accepted 0) ≡ C.claimAnswer square
 unfolding
-    says accepted refuseIf refuseAt kept first C.claimAnswer C.termsAnswer C.countsRight C.claimHeaderRight
+    says accepted refuseIf refuseAt kept first C.claimAnswer C.termsAnswer C.countsRight C.maskRight C.claimHeaderRight
     C.termBreaks floorOf termPoint coefficientOf i32At u32At bytesAt table beyond exponentsWithin every risesTo
     squareWith square claimOf joined word words
 claim-right = refl

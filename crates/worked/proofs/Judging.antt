@@ -29,32 +29,36 @@ use Rattle.weighing.specs.Exact.{weightsFor, exactProof}
 use Rattle.weighing.specs.Weighed.{weighedAnswer}
 use Rattle.judging.specs.Check.{targetsOf, checkAnswer, outputOf}
 use Rattle.floors.specs.Search as F
-use Rattle.worked.specs.Sheets.{joined, word, words, claimOf, proofOf, squareWith, square, squareProof, oneRow, bare, noRows, motzkin, motzkinProof, motzkinExchanged, motzkinBytes, motzkinProofBytes, oneTerm}
-use Rattle.worked.specs.Judging.{spare, accepts, refuses, motzkinExact, marked, tabled, worked, Worked, Exchanged}
+use Rattle.worked.specs.Sheets.{joined, word, words, claimOf, proofOf, squareWith, square, squareProof, oneRow, bare, noRows, motzkin, motzkinProof, motzkinExchanged, motzkinBytes, motzkinProofBytes, oneTerm, masked, maskedSquare, maskedProduct, productProof, maskedCube, cubeProof}
+use Rattle.worked.specs.Judging.{spare, accepts, refuses, motzkinExact, marked, tabled, withMask, worked, Worked, TargetMasked, Exchanged}
 use Rattle.worked.specs.Searches as S
 
-computed : Worked × S.Worked
+computed : Worked × S.Worked × TargetMasked
 unfolding
     u32At i32At withBits withI32 floorDiv floorMod share table bytesAt every everyPair samePoint risesTo
     midpointOf evenSum hasMidpoint exponentsWithin keepsSign gathered coefficient slotsAt lowered worst target
     floorOf termPoint coefficientOf termOf termsOf scaleOf vOf wOf wordsAt tripleOf weightsOf rowOf rowsOf
     tripleFor withTriple withWeights withRows accepted refused refuseIf refuseAt blameless andThen kept first beyond
-    C.countsRight C.claimHeaderRight C.termBreaks C.termsAnswer C.claimAnswer P.proofHeaderRight P.headerAnswer
+    C.countsRight C.maskRight C.claimHeaderRight C.termBreaks C.termsAnswer C.claimAnswer P.proofHeaderRight P.headerAnswer
     P.qOrR P.anyBeyond P.rowBreaks P.rowsAnswer joined word words claimOf proofOf squareWith square squareProof
     oneRow count errorAt shiftedWeight aimOf targetOf slotsTo rankOf shiftedWeights shiftRow slotsBefore
     shiftedRow shiftedRows headAnswer roomAnswer bodyAnswer inputAnswer pointFor unheldAt unheld unheldAnswer
     negative indefinite judgePair judgeLone judgementOf numberOf judgedAs firstsTo judgedAnswer weightsFor
     exactProof weighedAnswer targetsOf checkAnswer outputOf bare noRows motzkin motzkinProof motzkinExchanged
-    motzkinBytes motzkinProofBytes oneTerm spare accepts refuses motzkinExact marked tabled worked withFloor
+    motzkinBytes motzkinProofBytes oneTerm masked maskedSquare maskedProduct productProof maskedCube cubeProof spare
+    accepts refuses motzkinExact marked tabled withMask worked withFloor
     F.rangeWrong F.rangeAnswer F.floorCount F.floorAfter F.accepts F.refusedBefore F.toldAfter F.searchOf F.outputBy
     F.searchOutput S.finds S.refuses S.heavy S.loneZero S.cases S.ranges S.worked
-computed = (refl, (refl, refl))
+computed = (refl, (refl, refl), (refl, refl))
 
 pub all-worked : Worked
 all-worked = computed .0
 
 pub all-searched : S.Worked
 all-searched = computed .1
+
+pub target-masked : TargetMasked
+target-masked = computed .2
 
 -- the second sheet has H's second row first, then its first
 pub rows-exchanged : Exchanged

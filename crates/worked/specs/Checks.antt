@@ -7,7 +7,7 @@ use lib.ListN.{replicate}
 use Rattle.answers.specs.Answers.{Answer, accepted, refused}
 use Rattle.points.specs.Lists.{table}
 use Rattle.checks.specs.Input.{formedAnswer}
-use Rattle.worked.specs.Sheets.{joined, word, claimOf, proofOf, square, squareProof, twoTerms, oneRow}
+use Rattle.worked.specs.Sheets.{joined, word, claimOf, proofOf, square, squareProof, twoTerms, oneRow, masked}
 
 pub record Case : Type 0 where
   pub claim : List ℕ
@@ -40,7 +40,7 @@ small =
     ∷ claims (claimOf 0 (pos 0) [] []) (refused 2 0)
     ∷ claims (claimOf 9 (pos 0) [] []) (refused 2 0)
     ∷ claims (claimOf 1 (pos 0) (replicate 65 []) []) (refused 2 0)
-    ∷ claims (1 ∷ 0 ∷ 1 ∷ 0 ∷ word (pos 0)) (refused 2 0)
+    ∷ claims (masked 2 square) (refused 2 0)
     ∷ claims (1 ∷ 0 ∷ 0 ∷ 1 ∷ word (pos 0)) (refused 2 0)
     ∷ claims (claimOf 1 (pos 0) [] [] ++ (0 ∷ [])) (refused 3 0)
     ∷ claims (claimOf 1 (pos (2 ^ 30 + 1)) [] []) (refused 4 0)
@@ -69,6 +69,9 @@ small =
     ∷ proves (oneRow 0 2 (pos 1) (pos 1) (pos (2 ^ 30 + 1))) (refused 15 0)
     -- at the limits
     ∷ claims square (accepted 0)
+    ∷ claims (masked 1 square) (accepted 0)
+    ∷ record { claim = masked 255 (full (pos 1)); proof = proofOf 8 (pos 1) 0 [] []; answer = accepted 0 }
+    ∷ claims (masked 128 (claimOf 7 (pos 0) [] [])) (refused 2 0)
     ∷ record { claim = full (pos (2 ^ 30)); proof = proofOf 8 (pos 1) 0 [] []; answer = accepted 0 }
     ∷ record { claim = full (negsuc (2 ^ 30 - 1)); proof = proofOf 8 (pos 1) 0 [] []; answer = accepted 0 }
     ∷ proves (oneRow 0 120 (pos (2 ^ 30)) (pos (2 ^ 30)) (negsuc (2 ^ 30 - 1))) (accepted 0)

@@ -5,7 +5,7 @@ use Prim.Native.Nat.{ℕ, _-_, _^_}
 use lib.IntN.{ℤ, pos, negsuc}
 use Rattle.answers.specs.Answers.{claim, offsets, refused}
 use Rattle.evaluation.specs.Evaluations.{Told, value, refusal, evaluationOf}
-use Rattle.worked.specs.Sheets.{claimOf, twoTerms, square}
+use Rattle.worked.specs.Sheets.{claimOf, twoTerms, square, maskedCube}
 
 pub record Case : Type 0 where
   pub claim : List ℕ
@@ -39,6 +39,9 @@ cases =
     -- Square
     ∷ at square (negsuc 2 ∷ []) (value (pos 16))
     ∷ at square (pos 1 ∷ []) (value (pos 0))
+    -- "evaluation takes any point": x³ with mask 1, whose floor 0 holds from 0 on
+    ∷ at (maskedCube 1) (negsuc 1 ∷ []) (value (negsuc 7))
+    ∷ at (maskedCube 1) (pos 2 ∷ []) (value (pos 8))
     -- "A zero offset under a positive exponent makes its term zero, however large the rest"
     ∷ at (oneAt 2 (120 ∷ 1 ∷ [])) (least ∷ pos 0 ∷ []) (value (pos 0))
     ∷ at (oneAt 2 (1 ∷ 120 ∷ [])) (pos 0 ∷ greatest ∷ []) (value (pos 0))

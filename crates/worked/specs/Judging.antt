@@ -12,7 +12,7 @@ use Rattle.squares.specs.declared.rows.Weights.the-variants.{Pair, Lone}
 use Rattle.rows.specs.ProofSheet.{rowsOf}
 use Rattle.sharing.specs.Shifts.{shiftedRows}
 use Rattle.judging.specs.Check.{targetsOf, checkAnswer, outputOf}
-use Rattle.worked.specs.Sheets.{claimOf, proofOf, squareWith, square, squareProof, oneRow, bare, noRows, motzkin, motzkinProof, motzkinExchanged, motzkinBytes, motzkinProofBytes, oneTerm}
+use Rattle.worked.specs.Sheets.{claimOf, proofOf, squareWith, square, squareProof, oneRow, bare, noRows, motzkin, motzkinProof, motzkinExchanged, motzkinBytes, motzkinProofBytes, oneTerm, maskedSquare, maskedProduct, productProof, maskedCube, cubeProof}
 
 -- two sheets and an output; the weights that every row has after the shift, the answer, and the output afterwards
 pub record Case : Type 0 where
@@ -103,6 +103,21 @@ tabled =
     (Lone (pos 1) ∷ []) (record { number = 16; blamed = proof; value = 1 })
     ∷ []
 
+-- document 02, note 3
+unfoldable pub withMask : List Case
+withMask =
+    -- "Sheet B is kept with mask 0; with mask 1 its target at point 1 is 2"; a second variable it does not have
+    accepts (maskedSquare 0) squareProof (Pair (pos 1) (pos 1) (negsuc 1) ∷ []) 1 squareProof
+    ∷ accepts (maskedSquare 1) squareProof (Pair (pos 1) (pos 1) (pos 2) ∷ []) 1 (oneRow 0 2 (pos 1) (pos 1) (pos 2))
+    ∷ refuses (maskedSquare 2) squareProof (Pair (pos 1) (pos 1) (negsuc 1) ∷ []) (refused 2 0)
+    -- "A point whose odd exponents all belong to masked variables": all, not some
+    ∷ refuses (maskedProduct 0) productProof (Lone (negsuc 0) ∷ []) (refused 18 0)
+    ∷ refuses (maskedProduct 1) productProof (Lone (negsuc 0) ∷ []) (refused 18 0)
+    ∷ refuses (maskedProduct 2) productProof (Lone (negsuc 0) ∷ []) (refused 18 0)
+    ∷ accepts (maskedProduct 3) productProof (Lone (pos 1) ∷ []) 1 productProof
+    ∷ accepts (maskedCube 1) cubeProof (Lone (pos 1) ∷ []) 1 cubeProof
+    ∷ []
+
 -- ---- the definitions give every weight, answer and byte
 
 unfoldable pub worked : Case → Case
@@ -116,7 +131,12 @@ worked a = record {
 }
 
 abbrev pub Worked : Type 0
-Worked = map worked (marked ++ tabled) ≡ marked ++ tabled
+Worked = map worked (marked ++ (tabled ++ withMask)) ≡ marked ++ (tabled ++ withMask)
+
+-- B's target at point 1
+abbrev pub TargetMasked : Type 0
+TargetMasked =
+    (targetsOf (maskedSquare 0) squareProof (1 ∷ []) ≡ negsuc 1) × (targetsOf (maskedSquare 1) squareProof (1 ∷ []) ≡ pos 2)
 
 -- H's rows in another order are those of the sheet beside it: its errors are the same, and its shares are not
 abbrev pub Exchanged : Type 0

@@ -8,7 +8,7 @@ use lib.ListN.{length, replicate}
 use Rattle.answers.specs.Answers.{Answer, output, range, refused}
 use Rattle.floors.specs.Search.{Told, found, refusal, rangeWrong, searchOf, searchOutput}
 use Rattle.worked.specs.Judging.{spare}
-use Rattle.worked.specs.Sheets.{claimOf, squareWith, square, squareProof, oneRow, bare, noRows, motzkin, motzkinProofBytes, oneTerm}
+use Rattle.worked.specs.Sheets.{claimOf, squareWith, square, squareProof, oneRow, bare, noRows, motzkin, motzkinProofBytes, oneTerm, maskedCube, cubeProof}
 
 -- two sheets, a range and an output; what is told, and the output afterwards
 pub record Case : Type 0 where
@@ -68,6 +68,9 @@ cases =
     (pos 3) (pos 7) (pos 5) 3 1 (oneRow 2 2 (pos 1) (pos 0) (pos 0))
     -- G
     ∷ finds motzkin motzkinProofBytes (negsuc 9) (pos 10) (pos 0) 11 3 motzkinProofBytes
+    -- x³ with mask 1 and without
+    ∷ finds (maskedCube 1) cubeProof (negsuc 1) (pos 2) (pos 0) 3 1 cubeProof
+    ∷ refuses (maskedCube 0) cubeProof (negsuc 1) (pos 2) (spare cubeProof) (refused 23 0)
     -- 22 comes after 1 to 15, which the claim's own floor has to pass
     ∷ refuses square squareProof (pos 1) (pos 0) (spare squareProof) (record { number = 22; blamed = range; value = 0 })
     ∷ refuses square squareProof (pos 1) (pos 0) (replicate 21 7) (record { number = 11; blamed = output; value = 0 })

@@ -2,7 +2,7 @@
 use mathlib.Core.List.{List, [], _∷_, _++_, map}
 use Prim.Native.Nat.{ℕ}
 use lib.IntN.{ℤ, pos, negsuc}
-use lib.ListN.{length}
+use lib.ListN.{length, take, drop}
 use mir.Syntax.{w32}
 use mir.Val.{ofZ}
 use Rattle.integers.specs.Words.{bytesOf}
@@ -19,7 +19,7 @@ word z = bytesOf (ofZ w32 z)
 unfoldable pub words : List ℤ → List ℕ
 words zs = joined (map word zs)
 
--- n, the floor, the points and the coefficients
+-- n, the floor, the points and the coefficients; no mask
 unfoldable pub claimOf : ℕ → ℤ → List (List ℕ) → List ℤ → List ℕ
 claimOf n b points coefficients = n ∷ length points ∷ 0 ∷ 0 ∷ word b ++ (joined points ++ words coefficients)
 
@@ -75,6 +75,30 @@ motzkinExchanged r =
 -- one term in one variable
 unfoldable pub oneTerm : ℕ → ℤ → List ℕ
 oneTerm e x = claimOf 1 (pos 0) ((e ∷ []) ∷ []) (x ∷ [])
+
+-- ---- sheets with a mask
+
+-- a claim with a mask in byte 2
+unfoldable pub masked : ℕ → List ℕ → List ℕ
+masked mask c = take 2 c ++ (mask ∷ drop 3 c)
+
+-- "Sheet B", with a mask
+unfoldable pub maskedSquare : ℕ → List ℕ
+maskedSquare mask = masked mask (squareWith (pos 0) (pos 2))
+
+-- xy with a mask, and one lone row at its point
+unfoldable pub maskedProduct : ℕ → List ℕ
+maskedProduct mask = masked mask (claimOf 2 (pos 0) ((1 ∷ 1 ∷ []) ∷ []) (pos 1 ∷ []))
+
+unfoldable pub productProof : List ℕ
+productProof = proofOf 2 (pos 1) 1 ((1 ∷ 1 ∷ []) ∷ (1 ∷ 1 ∷ []) ∷ []) (pos 1 ∷ pos 0 ∷ pos 0 ∷ [])
+
+-- x³ with a mask, and one lone row at its point
+unfoldable pub maskedCube : ℕ → List ℕ
+maskedCube mask = masked mask (oneTerm 3 (pos 1))
+
+unfoldable pub cubeProof : List ℕ
+cubeProof = oneRow 3 3 (pos 1) (pos 0) (pos 0)
 
 -- ---- G byte by byte, so that bytes in a wrong order would show
 
