@@ -41,11 +41,11 @@ unfolding
     floorMod share table bytesAt every everyPair samePoint risesTo midpointOf evenSum hasMidpoint
     exponentsWithin keepsSign gathered coefficient slotsAt lowered worst target floorOf termPoint coefficientOf
     termOf termsOf scaleOf vOf wOf wordsAt tripleOf weightsOf rowOf rowsOf tripleFor withTriple withWeights
-    withRows accepted refused refuseIf refuseAt blameless andThen kept first beyond C.countsRight C.maskRight C.claimHeaderRight
-    C.termBreaks C.termsAnswer C.claimAnswer P.proofHeaderRight P.headerAnswer P.qOrR P.anyBeyond P.rowBreaks
-    P.rowsAnswer joined word words claimOf proofOf squareWith square squareProof masked maskedSquare count errorAt shiftedWeight
-    aimOf targetOf slotsTo rankOf shiftedWeights shiftRow slotsBefore shiftedRow headAnswer roomAnswer
-    bodyAnswer inputAnswer pointFor unheldAt unheld unheldAnswer negative indefinite judgePair judgeLone
-    judgementOf numberOf judgedAs firstsTo judgedAnswer weightsFor exactProof weighedAnswer targetsOf
-    checkAnswer outputOf motzkin motzkinProof
+    withRows accepted refused refuseIf refuseAt blameless andThen kept first beyond C.countsRight C.maskRight
+    C.claimHeaderRight C.termBreaks C.termsAnswer C.claimAnswer P.proofHeaderRight P.headerAnswer P.qOrR
+    P.anyBeyond P.rowBreaks P.rowsAnswer joined word words claimOf proofOf squareWith square squareProof masked
+    maskedSquare count errorAt shiftedWeight aimOf targetOf slotsTo rankOf shiftedWeights shiftRow slotsBefore
+    shiftedRow headAnswer roomAnswer bodyAnswer inputAnswer pointFor unheldAt unheld unheldAnswer negative
+    indefinite judgePair judgeLone judgementOf numberOf judgedAs firstsTo judgedAnswer weightsFor exactProof
+    weighedAnswer targetsOf checkAnswer outputOf motzkin motzkinProof
 worked = refl

@@ -39,7 +39,8 @@ module _ (c s : List ℕ) where
   abbrev τ : Exponents → ℤ
   τ = targetsOf c s
 
-  targets-meant : (α : Exponents) → τ α ≡ target (domainOf c) (scaleOf s) (lowered (variables c) (floorOf c) (termsOf c)) α
+  targets-meant : (α : Exponents)
+      → τ α ≡ target (domainOf c) (scaleOf s) (lowered (variables c) (floorOf c) (termsOf c)) α
   unfolding targetsOf
   targets-meant α = targets-are c s α
 

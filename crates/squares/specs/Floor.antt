@@ -1,4 +1,5 @@
--- The floor theorem's statement, to be read beside document 01 ("Judging", demand 3) and document 02 (note 3). Its proof need not be read.
+-- The floor theorem's statement, to be read beside document 01 ("Judging", demand 3) and note 3 of document 02. Its
+-- proof need not be read.
 use mathlib.Core.List.{List}
 use Prim.Native.Nat.{ℕ}
 use lib.IntN.{ℤ}

@@ -111,7 +111,8 @@ fn target_with(mask: u8, aim: Aim, p: Point, key: u64, c: i64) -> i64
     requires { ⌜ (natAbs c ≤ greatestWeight) × (AimWithin aim) ⌝ }
     ensures { λ r. ⌜ (r ≡ targetWith mask aim (exponents p) key c) × (natAbs r ≤ 2 ^ 51) ⌝ }
 {
-    scaled(aim.scale, worst(keeps_sign(p, mask), lowered_by(c, aim, key)))
+    let lowered = lowered_by(c, aim, key);
+    scaled(aim.scale, worst(keeps_sign(p, mask), lowered))
 }
 
 // The target at a point with its key.

@@ -83,7 +83,8 @@ exponents-low = refl
 
 midpoints-whole : Nothing ≡ first (P.rowBreaks R.Midpoint many shape) 256
 unfolding
-    first kept P.rowBreaks hasMidpoint everyPair evenSum vOf wOf bytesAt table many manyRows manyPoints joined word
+    first kept P.rowBreaks hasMidpoint everyPair evenSum vOf wOf bytesAt table many manyRows manyPoints joined
+    word
 midpoints-whole = refl
 
 none-lone : Nothing ≡ first (P.rowBreaks R.Unused many shape) 256
@@ -100,9 +101,9 @@ rows-right =
 
 claim-right : says (Accepted 0) ≡ C.claimAnswer square
 unfolding
-    says accepted refuseIf refuseAt kept first C.claimAnswer C.termsAnswer C.countsRight C.maskRight C.claimHeaderRight
-    C.termBreaks floorOf termPoint coefficientOf i32At u32At bytesAt table beyond exponentsWithin every risesTo
-    squareWith square claimOf joined word words
+    says accepted refuseIf refuseAt kept first C.claimAnswer C.termsAnswer C.countsRight C.maskRight
+    C.claimHeaderRight C.termBreaks floorOf termPoint coefficientOf i32At u32At bytesAt table beyond
+    exponentsWithin every risesTo squareWith square claimOf joined word words
 claim-right = refl
 
 header-right : says (Accepted 0) ≡ P.headerAnswer 1 many

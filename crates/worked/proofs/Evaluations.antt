@@ -18,6 +18,7 @@ pub worked : Worked
 unfolding
     u32At i32At table bytesAt every risesTo exponentsWithin powerOf monomialOf value floorOf termPoint
     coefficientOf termOf termsOf accepted refused refuseIf refuseAt blameless andThen beyond joined word words
-    claimOf twoTerms squareWith square oneTerm masked maskedCube countsRight maskRight claimHeaderRight termBreaks termsAnswer claimAnswer kept first
-    toldBy termValue tooLarge tooLargeAnswer evaluationAnswer evaluationOf at oneAt least greatest cases
+    claimOf twoTerms squareWith square oneTerm masked maskedCube countsRight maskRight claimHeaderRight
+    termBreaks termsAnswer claimAnswer kept first toldBy termValue tooLarge tooLargeAnswer evaluationAnswer
+    evaluationOf at oneAt least greatest cases
 worked = refl

@@ -136,7 +136,8 @@ Worked = map worked (marked ++ (tabled ++ withMask)) ≡ marked ++ (tabled ++ wi
 -- B's target at point 1
 abbrev pub TargetMasked : Type 0
 TargetMasked =
-    (targetsOf (maskedSquare 0) squareProof (1 ∷ []) ≡ negsuc 1) × (targetsOf (maskedSquare 1) squareProof (1 ∷ []) ≡ pos 2)
+    (targetsOf (maskedSquare 0) squareProof (1 ∷ []) ≡ negsuc 1)
+    × (targetsOf (maskedSquare 1) squareProof (1 ∷ []) ≡ pos 2)
 
 -- H's rows in another order are those of the sheet beside it: its errors are the same, and its shares are not
 abbrev pub Exchanged : Type 0

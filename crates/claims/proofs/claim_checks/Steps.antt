@@ -61,7 +61,8 @@ module _ (m n : ℕ) where
       let k = rw (e, ← (shr-shr m n (i - n)), h, zero-div (2 ^ (i - n))) at t in omega arith
 
   above-none : ((i : ℕ) → n ≤ i → Masked m i → ⊥) → m / 2 ^ n ≡ 0
-  above-none f = no-bits (m / 2 ^ n) (m / 2 ^ n) (omega arith) (λ i h. f (n + i) (omega arith) (rw (shr-shr m n i) at h))
+  above-none f =
+      no-bits (m / 2 ^ n) (m / 2 ^ n) (omega arith) (λ i h. f (n + i) (omega arith) (rw (shr-shr m n i) at h))
 
 -- m is the mask that was read
 module _ (c : List ℕ) (n m : ℕ) (en : n ≡ variables c) (em : m ≡ maskOf c) where
@@ -70,9 +71,10 @@ module _ (c : List ℕ) (n m : ℕ) (en : n ≡ variables c) (em : m ≡ maskOf 
   mask-tested = rw (en, em)
 
   pub mask-says : (not (eqb (m / 2 ^ n) 0) ≡ false) ↔ MaskWithin c
-  mask-says =
-      (λ h. rw (← en, ← em) (none-above m n (eqb-true _ _ (not-false _ h))),
-      λ f. rw (eq-eqb _ 0 (above-none m n (rw (← en, ← em) at f))))
+  mask-says = (
+    λ h. rw (← en, ← em) (none-above m n (eqb-true _ _ (not-false _ h))),
+    λ f. rw (eq-eqb _ 0 (above-none m n (rw (← en, ← em) at f))),
+  )
 
 module _ (c : List ℕ) (r : Bool) (e : r ≡ not (countsRight c)) where
   pub header-counts : r ≡ true → true ≡ not (claimHeaderRight c)

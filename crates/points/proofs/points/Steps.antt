@@ -150,7 +150,8 @@ sign-start mask x n = refl
 
 module _ (mask n rest i : ℕ) (x : List ℕ) (e : SignFrom mask x n rest i) (h : i < n) (k : n ≤ mostVariables)
     (l : Places x) where
-  sign-here : keepsSign mask (take n x) ≡ leb (getD x i 0 % 2) (rest % 2) && keepsSign (rest / 2) (drop (suc i) (take n x))
+  sign-here : keepsSign mask (take n x)
+      ≡ leb (getD x i 0 % 2) (rest % 2) && keepsSign (rest / 2) (drop (suc i) (take n x))
   unfolding SignFrom keepsSign
   sign-here = e ∙ rw (drop-cons (take n x) i 0 (omega (arith, length-take n x)), getD-take n x i 0 h)
 

@@ -231,9 +231,9 @@ module _ (c : List ℕ) (n t : ℕ) (facts : ClaimFacts c n t) (α : Exponents) 
 
 -- ---- target_with: x is the coefficient, y the same with the floor taken from it, z with the worst sign
 
-pub with-made : (mask : ℕ) (a : Aim) (p : Point) (key : ℕ) (k : Bool) (x x′ y y′ z z′ r r′ : ℤ) → r ≡ pos (a .scale) *ℤ z′
-    → z ≡ worst k y′ → y ≡ loweredBy a key x′ → k ≡ keepsSign mask (exponents p) → r′ ≡ r → z′ ≡ z → y′ ≡ y → x′ ≡ x
-    → r′ ≡ targetWith mask a (exponents p) key x
+pub with-made : (mask : ℕ) (a : Aim) (p : Point) (key : ℕ) (k : Bool) (x x′ y y′ z z′ r r′ : ℤ)
+    → r ≡ pos (a .scale) *ℤ z′ → z ≡ worst k y′ → y ≡ loweredBy a key x′ → k ≡ keepsSign mask (exponents p)
+    → r′ ≡ r → z′ ≡ z → y′ ≡ y → x′ ≡ x → r′ ≡ targetWith mask a (exponents p) key x
 unfolding targetWith
 with-made mask a p key k x x′ y y′ z z′ r r′ er ez ey ek br bz by bx = br ∙ er ∙ rw (bz, ez, ek, by, ey, bx)
 
@@ -250,7 +250,8 @@ module _ (c : List ℕ) (n t : ℕ) (en : n ≡ variables c) (et : t ≡ termCou
   carried : Carried n α
   carried = rw en (given .point)
 
-  module _ (m : ℕ) (em : m ≡ maskOf c) (x x′ r r′ : ℤ) (er : r ≡ targetWith m a α key x′) (br : r′ ≡ r) (bx : x′ ≡ x) where
+  module _ (m : ℕ) (em : m ≡ maskOf c) (x x′ r r′ : ℤ) (er : r ≡ targetWith m a α key x′) (br : r′ ≡ r)
+      (bx : x′ ≡ x) where
     made : x ≡ coefficient α (table (termOf c n t) t) → r′ ≡ targetOf c a α
     made ex = br ∙ er ∙ rw (em, bx, given .keyed) (target-here c n t facts-here α carried a x en et ex)
 
