@@ -14,6 +14,7 @@ pub fn product_claim<const N: usize>(mask: u8) -> Claim {
 }
 
 pub fn examples() -> Vec<Example> {
+    let b = |name, mask, text| Example { name, claim: b_claim(mask), proof: square_proof(), text };
     let product = |name, mask, text| Example {
         name,
         claim: product_claim::<2>(mask),
@@ -21,12 +22,8 @@ pub fn examples() -> Vec<Example> {
         text,
     };
     vec![
-        Example {
-            name: "B-masked",
-            claim: b_claim(1),
-            proof: square_proof(),
-            text: "accepted rows 1 scale 1 floor 0\nrow 0 p 1 q 1 r 2\n",
-        },
+        b("B-masked", 1, "accepted rows 1 scale 1 floor 0\nrow 0 p 1 q 1 r 2\n"),
+        b("B-masked-past", 2, "refused 2 at 0\n"),
         product("product-masked", 3, LONE_TEXT),
         product("product-half-masked", 1, "refused 18 at 0\n"),
         cube(),

@@ -1,6 +1,5 @@
 //! The examples in document 01's table of refusals, and those of the numbers that requests added.
 
-use crate::masked::b_claim;
 use crate::worked::{power_claim, square_claim, square_proof};
 use crate::{Case, Claim, Proof, MOST};
 use refusals::{rule, EntryPoint};
@@ -61,7 +60,6 @@ pub fn entries() -> Vec<Entry> {
     let cases = [
         (1, 0, Case { claim: vec![], proof: vec![], ..square() }),
         (2, 0, square_with_claim(Claim::new::<0>(0, &[]))),
-        (2, 0, square_with_claim(b_claim(2))),
         (3, 0, Case { claim: with_ninth_byte(no_terms.bytes()), ..square() }),
         (4, 0, square_with_claim(square_claim(MOST + 1, -2))),
         (5, 1, square_with_claim(square_claim(0, 0))),
