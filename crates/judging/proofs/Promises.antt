@@ -17,7 +17,7 @@ use Rattle.squares.specs.Rows.{slots}
 use Rattle.squares.specs.Decomposition.{AddsUp}
 use Rattle.squares.specs.Targets.{lowered, target}
 use Rattle.squares.specs.Floor.{Floors}
-use Rattle.squares.proofs.Floor.{floor, admits-all}
+use Rattle.squares.proofs.Floor.{floor, floors-unmasked}
 use Rattle.sheets.specs.Layout.{variables, rowCount}
 use Rattle.sheets.specs.ClaimSheet.{domainOf, floorOf, termsOf}
 use Rattle.sheets.proofs.claim_sheet.Laws.{terms-sized}
@@ -186,7 +186,7 @@ module _ (c s out : List ℕ) where
     rest = rw e written-rest;
     leaves = λ n. e ∙ refused-kept (λ h. n (meant .1 h));
     floors = λ a. floor-kept c s (length out) (meant .0 a);
-    everywhere = λ a z x. floor-kept c s (length out) (meant .0 a) x (admits-all (domainOf c) x z);
+    everywhere = λ a z. floors-unmasked (domainOf c) _ _ z .0 (floor-kept c s (length out) (meant .0 a));
     keeps = λ f l d.
         let h = accepted-passes _ _ (exact-accepted c s f d (length out) l) in
         (meant .1 h, e ∙ written h ∙ rw (exact-bytes c s f d b));

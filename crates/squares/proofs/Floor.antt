@@ -4,8 +4,7 @@ use mathlib.Core.Path.{_≡_, sym, _∙_, ap}
 use mathlib.Core.Bool.{true}
 use mathlib.Core.List.{List}
 use mathlib.Core.Logic.{_↔_}
-use Prim.Native.Nat.{ℕ, _^_, _<_}
-use native.Mathlib.Nat.{zero-div}
+use Prim.Native.Nat.{ℕ, _<_}
 use native.Mathlib.Decide.{ℕ-discrete}
 use native.Mathlib.Omega.{arith}
 use lib.IntN.{ℤ, pos, negℤ, _+ℤ_, _*ℤ_}
@@ -17,7 +16,7 @@ use Rattle.points.specs.Lists.{All}
 use Rattle.points.proofs.points.Laws.{midpoint-sized}
 use Rattle.points.proofs.Lists.{all-map}
 use Rattle.monomials.specs.Powers.{monomialOf}
-use Rattle.monomials.proofs.powers.Laws.{monomial-sign, monomial-mean, monomial-constant}
+use Rattle.monomials.proofs.powers.Laws.{monomial-sign, allowed-all, monomial-mean, monomial-constant}
 use Rattle.squares.specs.Sums.{Sum, coefficient, value, valueAt}
 use Rattle.squares.specs.Rows.{Row, slotsAt, slotsOf, slots}
 use Rattle.squares.specs.Domains.{Domain, Admits}
@@ -111,7 +110,7 @@ floor D S b f rows d x a =
 -- ---- without a mask
 
 pub admits-all : (D : Domain) (x : List ℤ) → D .mask ≡ 0 → Admits D x
-admits-all D x z = record { allowed = λ i h. let k = rw (z, zero-div (2 ^ i)) at h in absurd (omega arith) }
+admits-all D x z = record { allowed = allowed-all (D .mask) x z }
 
 pub floors-unmasked : (D : Domain) (b : ℤ) (f : Sum) → D .mask ≡ 0 → Floors D b f ↔ ((x : List ℤ) → b ≤ℤ valueAt x f)
 floors-unmasked D b f z = (λ h x. h x (admits-all D x z), λ h x a. h x)

@@ -2,14 +2,17 @@
 use mathlib.Core.Path.{_≡_}
 use mathlib.Core.Bool.{_&&_}
 use mathlib.Core.List.{List}
+use mathlib.Core.Logic.{_↔_}
 use Prim.Native.Nat.{ℕ, _%_}
 use lib.Dec.{eqb}
 use lib.IntN.{ℤ, pos, _*ℤ_}
 use lib.ListN.{getD}
+use lib.Signed.{_≤ℤ_}
 use Rattle.points.specs.Points.{Exponents, every}
-use Rattle.squares.specs.Sums.{coefficient}
+use Rattle.squares.specs.Sums.{coefficient, valueAt}
 use Rattle.squares.specs.Domains.{Admits}
 use Rattle.squares.specs.Targets.{lowered, worst}
+use Rattle.squares.specs.Floor.{Floors}
 use Rattle.sheets.specs.Layout.{variables, maskOf}
 use Rattle.sheets.specs.ClaimSheet.{domainOf, termsOf}
 use Rattle.claims.specs.ClaimChecks.{countsRight, claimHeaderRight}
@@ -23,7 +26,8 @@ pub record Unmasked (c : List ℕ) : Type 0 where
   pub targets : (a : Aim) (α : Exponents) → targetOf c a α
       ≡ pos (a .scale) *ℤ worst (every (λ e. eqb (e % 2) 0) α)
       (coefficient α (lowered (variables c) (a .floor) (termsOf c)))
-  -- "all whole offsets, of either sign and however large"
+  -- Demand 3: "at all whole offsets, of either sign and however large", the floor and the values
+  pub floors : (b : ℤ) → Floors (domainOf c) b (termsOf c) ↔ ((x : List ℤ) → b ≤ℤ valueAt x (termsOf c))
   pub admits : (x : List ℤ) → Admits (domainOf c) x
 
 abbrev pub AsBefore : Type 0

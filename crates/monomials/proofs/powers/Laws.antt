@@ -3,8 +3,8 @@
 use mathlib.Core.Path.{_≡_, refl, sym, _∙_, ap}
 use mathlib.Core.Bool.{true, Bool, false, cond}
 use mathlib.Core.List.{List, [], _∷_}
-use Prim.Native.Nat.{ℕ, zero, suc, _+_, _-_, _/_, _%_, _≤_, _<_}
-use native.Mathlib.Nat.{zero-add, suc-add}
+use Prim.Native.Nat.{ℕ, zero, suc, _+_, _-_, _/_, _%_, _^_, _≤_, _<_}
+use native.Mathlib.Nat.{zero-add, suc-add, zero-div}
 use native.Mathlib.Decide.{ℕ-discrete}
 use native.Mathlib.Omega.{arith}
 use lib.IntN.{ℤ, pos, negsuc, _*ℤ_, natAbs}
@@ -80,6 +80,10 @@ monomial-sign mask (x ∷ xs) (e ∷ α) a t =
     let q = keeps-more mask e α t in
     *ℤ-nonneg (power-sign x e (mask % 2) (q .0) (omega arith) (λ h. a 0 (omega arith)))
     (monomial-sign (mask / 2) xs α (λ i h. a (suc i) (rw (masked-more mask i) at h)) (q .1))
+
+-- without a mask all numbers are allowed
+pub allowed-all : (mask : ℕ) (x : List ℤ) → mask ≡ 0 → Allowed mask x
+allowed-all mask x z i h = let none : mask / 2 ^ i ≡ 0 = rw z (zero-div (2 ^ i)) in absurd (omega arith)
 
 pub monomial-mean : (x : List ℤ) (v w : Exponents) → hasMidpoint v w ≡ true
     → monomialOf x (midpointOf v w) *ℤ monomialOf x (midpointOf v w) ≡ monomialOf x v *ℤ monomialOf x w
