@@ -14,6 +14,6 @@ abbrev pub Floors : Domain → ℤ → Sum → Type 0
 Floors D b f = (x : List ℤ) → Admits D x → b ≤ℤ valueAt x f
 
 -- Let f be a polynomial in n variables, and let rows that hold add up, at every point, to S times f − b with its
--- terms at their worst sign. Then "the floor holds at whole points with masked variables at least 0".
+-- terms at their worst sign. Then b is at most f "at whole points with masked variables at least 0".
 abbrev pub Floor : Type 0
 Floor = (D : Domain) (S : ℕ) (b : ℤ) (f : Sum) (rows : List Row) → Decomposition D S b f rows → Floors D b f
