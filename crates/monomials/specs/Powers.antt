@@ -1,5 +1,6 @@
 -- Powers, monomials at whole numbers, and exact numbers up to the greatest value.
-use mathlib.Core.Bool.{cond}
+use mathlib.Core.Bool.{true, cond}
+use mathlib.Core.Logic.{_↔_}
 use mathlib.Core.List.{List, [], _∷_}
 use mathlib.Core.Path.{_≡_}
 use Prim.Native.Nat.{ℕ, zero, suc, _-_, _%_, _≤_, _<_}
@@ -8,7 +9,7 @@ use lib.IntN.{ℤ, pos, natAbs, _*ℤ_}
 use lib.ListN.{getD}
 use lib.Signed.{_≤ℤ_}
 use Rattle.bounds.specs.Bounds.{greatestValue}
-use Rattle.points.specs.Points.{Exponents, Masked}
+use Rattle.points.specs.Points.{Exponents, Masked, keepsSign}
 use Rattle.monomials.specs.declared.powers.Bounded.{Bounded}
 use Rattle.monomials.specs.declared.powers.Bounded.the-variants.{Value, TooLarge}
 
@@ -30,6 +31,12 @@ variable x i = getD x i (pos 1)
 -- "masked variables at least 0"
 abbrev pub Allowed : ℕ → List ℤ → Type 0
 Allowed mask x = (i : ℕ) → Masked mask i → pos 0 ≤ℤ variable x i
+
+-- that is, no monomial whose odd exponents all belong to masked variables is negative
+abbrev pub AllowedExactly : Type 0
+AllowedExactly =
+    (mask : ℕ) (x : List ℤ)
+    → Allowed mask x ↔ ((α : Exponents) → keepsSign mask α ≡ true → pos 0 ≤ℤ monomialOf x α)
 
 -- what each answer says of the exact number z: a value is z, "at most 2^56" in absolute value; too large is "over 2^56"
 abbrev pub Represents : Bounded → ℤ → Type 0

@@ -3,22 +3,20 @@ use mathlib.Core.Path.{_≡_, sym, _∙_, ap}
 use mathlib.Core.Bool.{Bool, true, false, not}
 use mathlib.Core.Logic.{_↔_}
 use mathlib.Core.List.{List}
-use Prim.Native.Nat.{ℕ, zero, suc, _+_, _-_, _/_, _%_, _^_, _<_, _≤_}
-use native.Mathlib.Nat.{pos-of-ne-zero, zero-div}
-use native.Mathlib.Decide.{ℕ-discrete}
+use Prim.Native.Nat.{ℕ, _+_, _-_, _/_, _^_, _<_, _≤_}
+use native.Mathlib.Nat.{pos-of-ne-zero}
 use native.Mathlib.Omega.{arith}
 use lib.Dec.{ltb, eqb}
 use lib.IntN.{ℤ, natAbs}
 use lib.ListN.{length, getD}
-use lib.Pow.{shr-shr}
 use borrow.Author.Tests.{not-true, eq-eqb, eqb-true, ne-eqb, lt-ltb, le-ltb, le-leb, lt-leb, not-false}
 use Rattle.bounds.specs.Bounds.{beyond, mostVariables, mostTerms}
 use Rattle.bounds.proofs.bounds.Laws.{over}
 use Rattle.answers.specs.Answers.{says}
 use Rattle.answers.specs.declared.answers.Verdict.{Verdict}
-use Rattle.points.specs.Points.{exponents, pointOf, Masked, risesTo, exponentsWithin}
+use Rattle.points.specs.Points.{exponents, pointOf, risesTo, exponentsWithin}
 use Rattle.points.specs.declared.points.Point.{Point}
-use Rattle.points.proofs.points.Laws.{exponents-of, masked-more}
+use Rattle.points.proofs.points.Laws.{exponents-of, rest-means}
 use Rattle.sheets.specs.Layout.{variables, termCount, maskOf, place, ClaimRoom}
 use Rattle.sheets.specs.ClaimSheet.{floorOf, termPoint, coefficientOf}
 use Rattle.sheets.proofs.layout.Laws.{claim-asked}
@@ -42,28 +40,6 @@ module _ (c : List ℕ) (n : ℕ) (en : n ≡ variables c) where
     unfolding countsRight
     counts-terms q t et = rw (← en, ← et, le-leb 1 n p, le-leb n mostVariables q) (over mostTerms t)
 
--- a number without bits is 0
-no-bits : (m k : ℕ) → m ≤ k → ((i : ℕ) → Masked m i → ⊥) → m ≡ 0
-no-bits m zero l f = omega arith
-no-bits m (suc k) l f =
-    let half = no-bits (m / 2) k (omega arith) (λ i h. f (suc i) (rw (masked-more m i) at h)) in
-    go (ℕ-discrete (m % 2) 1) half
-  where
-    go : Dec (m % 2 ≡ 1) → m / 2 ≡ 0 → m ≡ 0
-    go (yes h) e = absurd (f 0 (omega arith))
-    go (no h) e = omega arith
-
--- and above n bits nothing is left exactly where there is no bit
-module _ (m n : ℕ) where
-  none-above : m / 2 ^ n ≡ 0 → (i : ℕ) → n ≤ i → Masked m i → ⊥
-  none-above h i l t =
-      let e : i ≡ n + (i - n) = omega arith in
-      let k = rw (e, ← (shr-shr m n (i - n)), h, zero-div (2 ^ (i - n))) at t in omega arith
-
-  above-none : ((i : ℕ) → n ≤ i → Masked m i → ⊥) → m / 2 ^ n ≡ 0
-  above-none f =
-      no-bits (m / 2 ^ n) (m / 2 ^ n) (omega arith) (λ i h. f (n + i) (omega arith) (rw (shr-shr m n i) at h))
-
 -- m is the mask that was read
 module _ (c : List ℕ) (n m : ℕ) (en : n ≡ variables c) (em : m ≡ maskOf c) where
   pub mask-tested : not (eqb (m / 2 ^ n) 0) ≡ not (maskRight c)
@@ -72,7 +48,7 @@ module _ (c : List ℕ) (n m : ℕ) (en : n ≡ variables c) (em : m ≡ maskOf 
 
   pub mask-says : (not (eqb (m / 2 ^ n) 0) ≡ false) ↔ MaskWithin c
   mask-says = (
-    λ h. rw (← en, ← em) (none-above m n (eqb-true _ _ (not-false _ h))),
+    λ h. rw (← en, ← em) (rest-means m n .0 (eqb-true _ _ (not-false _ h))),
     λ f. rw (eq-eqb _ 0 (above-none m n (rw (← en, ← em) at f))),
   )
 

@@ -7,16 +7,16 @@ use Prim.Native.Nat.{ℕ, zero, suc, _+_, _-_, _/_, _%_, _^_, _≤_, _<_}
 use native.Mathlib.Nat.{zero-add, suc-add, zero-div}
 use native.Mathlib.Decide.{ℕ-discrete}
 use native.Mathlib.Omega.{arith}
-use lib.IntN.{ℤ, pos, negsuc, _*ℤ_, natAbs}
-use lib.ListN.{replicate}
+use lib.IntN.{ℤ, pos, negsuc, _*ℤ_, natAbs, one, *ℤ-one}
+use lib.ListN.{getD, replicate}
 use lib.Signed.{_≤ℤ_}
 use lib.Dec.{leb}
 use borrow.Author.Tests.{leb-true, leb-false, le-leb, lt-leb}
 use Rattle.integers.proofs.Integers.{one-*ℤ, *ℤ-assoc, *ℤ-swap, *ℤ-nonneg, pos-nonneg, square-nonneg}
 use Rattle.bounds.specs.Bounds.{greatestValue}
 use Rattle.points.specs.Points.{Exponents, hasMidpoint, midpointOf, keepsSign}
-use Rattle.points.proofs.points.Laws.{keeps-more, masked-more, midpoint-none, midpoint-more, whole-more, whole-sized}
-use Rattle.monomials.specs.Powers.{powerOf, monomialOf, Allowed, Represents, within}
+use Rattle.points.proofs.points.Laws.{keeps-more, masked-more, keeps-means, midpoint-none, midpoint-more, whole-more, whole-sized}
+use Rattle.monomials.specs.Powers.{powerOf, monomialOf, variable, Allowed, AllowedExactly, Represents, within}
 use Rattle.monomials.specs.declared.powers.Bounded.the-variants.{Value, TooLarge}
 
 -- ---- powers
@@ -84,6 +84,31 @@ monomial-sign mask (x ∷ xs) (e ∷ α) a t =
 -- without a mask all numbers are allowed
 pub allowed-all : (mask : ℕ) (x : List ℤ) → mask ≡ 0 → Allowed mask x
 allowed-all mask x z i h = let none : mask / 2 ^ i ≡ 0 = rw z (zero-div (2 ^ i)) in absurd (omega arith)
+
+-- and only there, since variable i is a monomial too
+unit : ℕ → Exponents
+unit zero = 1 ∷ []
+unit (suc i) = 0 ∷ unit i
+
+unit-odd : (i j : ℕ) → getD (unit i) j 0 % 2 ≡ 1 → j ≡ i
+unfolding unit
+unit-odd zero zero h = refl
+unit-odd zero (suc j) h = absurd (omega arith)
+unit-odd (suc i) zero h = absurd (omega arith)
+unit-odd (suc i) (suc j) h = ap suc (unit-odd i j h)
+
+unit-value : (x : List ℤ) (i : ℕ) → monomialOf x (unit i) ≡ variable x i
+unfolding monomialOf powerOf unit one
+unit-value [] zero = refl
+unit-value [] (suc i) = refl
+unit-value (x ∷ xs) zero = *ℤ-one (x *ℤ pos 1) ∙ *ℤ-one x
+unit-value (x ∷ xs) (suc i) = one-*ℤ (monomialOf xs (unit i)) ∙ unit-value xs i
+
+pub allowed-exactly : AllowedExactly
+allowed-exactly mask x = (
+  λ a α. monomial-sign mask x α a,
+  λ f i m. rw (unit-value x i) at (f (unit i) (keeps-means mask (unit i) .1 (λ j l h. rw (unit-odd i j h) m))),
+)
 
 pub monomial-mean : (x : List ℤ) (v w : Exponents) → hasMidpoint v w ≡ true
     → monomialOf x (midpointOf v w) *ℤ monomialOf x (midpointOf v w) ≡ monomialOf x v *ℤ monomialOf x w

@@ -1,10 +1,10 @@
 -- Laws of points: the same point, the order, midpoints, points by value, bytes as exponents, and one variable more.
 use mathlib.Core.Path.{_≡_, refl, sym, _∙_, ap, ap₂}
-use mathlib.Core.Logic.{_⊎_, inl, inr}
+use mathlib.Core.Logic.{_⊎_, inl, inr, _↔_}
 use mathlib.Core.Bool.{Bool, true, false, cond, _&&_, and-eq-true-iff, false≢true}
 use mathlib.Core.List.{List, [], _∷_, _++_}
 use Prim.Native.Nat.{ℕ, zero, suc, _+_, _-_, _/_, _%_, _^_, _<_, _≤_, min}
-use native.Mathlib.Nat.{add-assoc}
+use native.Mathlib.Nat.{add-assoc, zero-div}
 use native.Mathlib.Decide.{ℕ-discrete}
 use native.Mathlib.Omega.{arith}
 use lib.Dec.{eqb, ltb, leb}
@@ -225,13 +225,13 @@ keeps-even (e ∷ α) = ap₂ _&&_ (go (ℕ-discrete (e % 2) 0)) (keeps-even α)
     go (no d) = rw (lt-leb (e % 2) 0 (omega arith), ne-eqb (e % 2) 0 d)
 
 -- the test holds exactly where the words do
-pub odds-masked : (mask : ℕ) (α : Exponents) → keepsSign mask α ≡ true → OddsMasked mask α
+odds-masked : (mask : ℕ) (α : Exponents) → keepsSign mask α ≡ true → OddsMasked mask α
 odds-masked mask [] t i l h = absurd (omega arith)
 odds-masked mask (e ∷ α) t zero l h = let q = keeps-more mask e α t in omega (arith, q .0)
 odds-masked mask (e ∷ α) t (suc i) l h =
     rw (← (masked-more mask i)) (odds-masked (mask / 2) α (keeps-more mask e α t .1) i (omega arith) h)
 
-pub masked-odds : (mask : ℕ) (α : Exponents) → OddsMasked mask α → keepsSign mask α ≡ true
+masked-odds : (mask : ℕ) (α : Exponents) → OddsMasked mask α → keepsSign mask α ≡ true
 unfolding keepsSign
 masked-odds mask [] f = refl
 masked-odds mask (e ∷ α) f =
@@ -242,3 +242,32 @@ masked-odds mask (e ∷ α) f =
     go : Dec (e % 2 ≡ 1) → e % 2 ≤ mask % 2
     go (yes h) = let k = f 0 (omega arith) h in omega arith
     go (no h) = omega arith
+
+pub keeps-means : (mask : ℕ) (α : Exponents) → (keepsSign mask α ≡ true) ↔ OddsMasked mask α
+keeps-means mask α = (odds-masked mask α, masked-odds mask α)
+
+-- a number without bits is 0
+no-bits : (m k : ℕ) → m ≤ k → ((i : ℕ) → Masked m i → ⊥) → m ≡ 0
+no-bits m zero l f = omega arith
+no-bits m (suc k) l f =
+    let half = no-bits (m / 2) k (omega arith) (λ i h. f (suc i) (rw (masked-more m i) at h)) in
+    go (ℕ-discrete (m % 2) 1) half
+  where
+    go : Dec (m % 2 ≡ 1) → m / 2 ≡ 0 → m ≡ 0
+    go (yes h) e = absurd (f 0 (omega arith))
+    go (no h) e = omega arith
+
+-- above n bits nothing is left exactly where there is no bit
+module _ (m n : ℕ) where
+  none-above : m / 2 ^ n ≡ 0 → (i : ℕ) → n ≤ i → Masked m i → ⊥
+  none-above h i l t =
+      let e : i ≡ n + (i - n) = omega arith in
+      let k = rw (e, ← (shr-shr m n (i - n)), h, zero-div (2 ^ (i - n))) at t in
+      omega arith
+
+  above-none : ((i : ℕ) → n ≤ i → Masked m i → ⊥) → m / 2 ^ n ≡ 0
+  above-none f =
+      no-bits (m / 2 ^ n) (m / 2 ^ n) (omega arith) (λ i h. f (n + i) (omega arith) (rw (shr-shr m n i) at h))
+
+  pub rest-means : (m / 2 ^ n ≡ 0) ↔ ((i : ℕ) → n ≤ i → Masked m i → ⊥)
+  rest-means = (none-above, above-none)

@@ -19,7 +19,7 @@ use Rattle.points.specs.declared.points.Point.{Point}
 use Rattle.points.specs.declared.points.Test.{Test}
 use Rattle.points.specs.declared.points.Test.the-variants.{Equal, EvenSum, Within}
 use Rattle.points.proofs.Lists.{table-length, table-get}
-use Rattle.points.proofs.points.Laws.{Places, exponents-counted, odds-masked, masked-odds, midpoint-length}
+use Rattle.points.proofs.points.Laws.{Places, exponents-counted, keeps-means, midpoint-length}
 
 -- ---- points by value
 
@@ -162,7 +162,7 @@ module _ (mask n rest i : ℕ) (x : List ℕ) (e : SignFrom mask x n rest i) (h 
 -- r is what the loop answered, in both forms
 module _ (mask : ℕ) (α : Exponents) (r : Bool) (e : r ≡ keepsSign mask α) where
   pub sign-says : (r ≡ true) ↔ OddsMasked mask α
-  sign-says = (λ t. odds-masked mask α (sym e ∙ t), λ f. e ∙ masked-odds mask α f)
+  sign-says = rw e (keeps-means mask α)
 
 module _ (mask n rest i : ℕ) (p : Point) (e : SignFrom mask (p .exps) n rest i) (en : n ≡ length (exponents p)) where
   pub sign-stop : i < n → n ≤ mostVariables → Places (p .exps) → rest % 2 < getD (p .exps) i 0 % 2
