@@ -49,7 +49,7 @@ module _ (c : List ℕ) (n m : ℕ) (en : n ≡ variables c) (em : m ≡ maskOf 
   pub mask-says : (not (eqb (m / 2 ^ n) 0) ≡ false) ↔ MaskWithin c
   mask-says = (
     λ h. rw (← en, ← em) (rest-means m n .0 (eqb-true _ _ (not-false _ h))),
-    λ f. rw (eq-eqb _ 0 (above-none m n (rw (← en, ← em) at f))),
+    λ f. rw (eq-eqb _ 0 (rest-means m n .1 (rw (← en, ← em) at f))),
   )
 
 module _ (c : List ℕ) (r : Bool) (e : r ≡ not (countsRight c)) where
