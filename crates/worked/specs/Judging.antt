@@ -108,13 +108,17 @@ unfoldable pub withMask : List Case
 withMask =
     -- "Sheet B is kept with mask 0; with mask 1 its target at point 1 is 2"; a second variable it does not have
     accepts (maskedSquare 0) squareProof (Pair (pos 1) (pos 1) (negsuc 1) ∷ []) 1 squareProof
-    ∷ accepts (maskedSquare 1) squareProof (Pair (pos 1) (pos 1) (pos 2) ∷ []) 1 (oneRow 0 2 (pos 1) (pos 1) (pos 2))
+    ∷ accepts (maskedSquare 1) squareProof (Pair (pos 1) (pos 1) (pos 2) ∷ []) 1
+    (oneRow 0 2 (pos 1) (pos 1) (pos 2))
     ∷ refuses (maskedSquare 2) squareProof (Pair (pos 1) (pos 1) (negsuc 1) ∷ []) (refused 2 0)
     -- "A point whose odd exponents all belong to masked variables": all, not some
-    ∷ refuses (maskedProduct 0) productProof (Lone (negsuc 0) ∷ []) (refused 18 0)
-    ∷ refuses (maskedProduct 1) productProof (Lone (negsuc 0) ∷ []) (refused 18 0)
-    ∷ refuses (maskedProduct 2) productProof (Lone (negsuc 0) ∷ []) (refused 18 0)
-    ∷ accepts (maskedProduct 3) productProof (Lone (pos 1) ∷ []) 1 productProof
+    ∷ refuses (maskedProduct 2 0) (productProof 2) (Lone (negsuc 0) ∷ []) (refused 18 0)
+    ∷ refuses (maskedProduct 2 1) (productProof 2) (Lone (negsuc 0) ∷ []) (refused 18 0)
+    ∷ refuses (maskedProduct 2 2) (productProof 2) (Lone (negsuc 0) ∷ []) (refused 18 0)
+    ∷ accepts (maskedProduct 2 3) (productProof 2) (Lone (pos 1) ∷ []) 1 (productProof 2)
+    ∷ refuses (maskedProduct 8 127) (productProof 8) (Lone (negsuc 0) ∷ []) (refused 18 0)
+    ∷ refuses (maskedProduct 8 254) (productProof 8) (Lone (negsuc 0) ∷ []) (refused 18 0)
+    ∷ accepts (maskedProduct 8 255) (productProof 8) (Lone (pos 1) ∷ []) 1 (productProof 8)
     ∷ accepts (maskedCube 1) cubeProof (Lone (pos 1) ∷ []) 1 cubeProof
     ∷ []
 

@@ -2,7 +2,7 @@
 use mathlib.Core.List.{List, [], _∷_, _++_, map}
 use Prim.Native.Nat.{ℕ}
 use lib.IntN.{ℤ, pos, negsuc}
-use lib.ListN.{length, take, drop}
+use lib.ListN.{length, take, drop, replicate}
 use mir.Syntax.{w32}
 use mir.Val.{ofZ}
 use Rattle.integers.specs.Words.{bytesOf}
@@ -86,12 +86,12 @@ masked mask c = take 2 c ++ (mask ∷ drop 3 c)
 unfoldable pub maskedSquare : ℕ → List ℕ
 maskedSquare mask = masked mask (squareWith (pos 0) (pos 2))
 
--- xy with a mask, and one lone row at its point
-unfoldable pub maskedProduct : ℕ → List ℕ
-maskedProduct mask = masked mask (claimOf 2 (pos 0) ((1 ∷ 1 ∷ []) ∷ []) (pos 1 ∷ []))
+-- the product of n variables with a mask, and one lone row at its point
+unfoldable pub maskedProduct : ℕ → ℕ → List ℕ
+maskedProduct n mask = masked mask (claimOf n (pos 0) (replicate n 1 ∷ []) (pos 1 ∷ []))
 
-unfoldable pub productProof : List ℕ
-productProof = proofOf 2 (pos 1) 1 ((1 ∷ 1 ∷ []) ∷ (1 ∷ 1 ∷ []) ∷ []) (pos 1 ∷ pos 0 ∷ pos 0 ∷ [])
+unfoldable pub productProof : ℕ → List ℕ
+productProof n = proofOf n (pos 1) 1 (replicate n 1 ∷ replicate n 1 ∷ []) (pos 1 ∷ pos 0 ∷ pos 0 ∷ [])
 
 -- x³ with a mask, and one lone row at its point
 unfoldable pub maskedCube : ℕ → List ℕ
@@ -104,7 +104,7 @@ cubeProof = oneRow 3 3 (pos 1) (pos 0) (pos 0)
 
 unfoldable pub motzkinBytes : List ℕ
 motzkinBytes =
-    -- n, t, two zeros, b; four points; the coefficients 1, −3, 1, 1
+    -- n, t, mask 0, a zero, b; four points; the coefficients 1, −3, 1, 1
     2 ∷ 4 ∷ 0 ∷ 0 ∷ 0 ∷ 0 ∷ 0 ∷ 0
     ∷ 0 ∷ 0 ∷ 2 ∷ 2 ∷ 2 ∷ 4 ∷ 4 ∷ 2
     ∷ 1 ∷ 0 ∷ 0 ∷ 0 ∷ 253 ∷ 255 ∷ 255 ∷ 255 ∷ 1 ∷ 0 ∷ 0 ∷ 0 ∷ 1 ∷ 0 ∷ 0 ∷ 0 ∷ []
