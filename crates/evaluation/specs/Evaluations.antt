@@ -15,7 +15,7 @@ use Rattle.points.specs.Lists.{table}
 use Rattle.monomials.specs.Powers.{monomialOf}
 use Rattle.squares.specs.Sums.{valueAt}
 use Rattle.squares.specs.Domains.{Admits}
-use Rattle.sheets.specs.Layout.{variables, termCount}
+use Rattle.sheets.specs.Layout.{variables, termCount, maskOf}
 use Rattle.sheets.specs.ClaimSheet.{domainOf, floorOf, termPoint, coefficientOf, termOf, termsOf}
 use Rattle.claims.specs.ClaimChecks.{claimAnswer}
 use Rattle.judging.specs.Check.{checkAnswer}
@@ -86,4 +86,7 @@ pub record EvaluationPromises (c : List ℕ) (x : List ℤ) (Gives : ℤ → Typ
   -- and at least the floor", where the claim is accepted with some proof and output; by note 3 "evaluation takes any
   -- point and promises the floor only there", where the masked variables are at least 0
   pub floored : (s out : List ℕ) → Passes (checkAnswer c s (length out)) → Admits (domainOf c) x
+      → (z : ℤ) → Gives z → floorOf c ≤ℤ z
+  -- and without a mask wherever it is evaluated
+  pub everywhere : (s out : List ℕ) → Passes (checkAnswer c s (length out)) → maskOf c ≡ 0
       → (z : ℤ) → Gives z → floorOf c ≤ℤ z
