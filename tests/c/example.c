@@ -7,7 +7,7 @@
 #include <stdio.h>
 
 static const uint8_t claim[BURMELOX_CLAIM_LENGTH(1, 3)] = {
-    1, 3, 0, 0, 0, 0, 0, 0,                             /* one variable, three terms, mask 0, floor 0 */
+    1, 3, 0, 0, 0, 0, 0, 0,                             /* n 1, t 3, mask 0, floor 0 */
     0, 1, 2,                                            /* points */
     1, 0, 0, 0, 254, 255, 255, 255, 1, 0, 0, 0,         /* coefficients 1, -2, 1 */
 };

@@ -7,19 +7,17 @@ use Prim.Native.Nat.{ℕ, _<_, _≤_}
 use lib.Dec.{eqb}
 use lib.IntN.{ℤ, natAbs}
 use lib.ListN.{length}
-use lib.Signed.{_≤ℤ_}
 use borrow.Author.Tests.{eq-eqb, eqb-true, not-false}
 use Rattle.bounds.specs.Bounds.{greatestValue}
 use Rattle.bounds.proofs.bounds.Laws.{within-bound, bound-within}
 use Rattle.answers.specs.Answers.{accepted, refuseIf, Passes}
 use Rattle.answers.proofs.answers.Laws.{then-on, if-on, at-on, accepted-passes}
 use Rattle.answers.proofs.searches.Laws.{none-wrong, all-right}
-use Rattle.squares.specs.Domains.{Admits}
+use Rattle.squares.specs.Sums.{valueAt}
 use Rattle.squares.proofs.Floor.{admits-all}
 use Rattle.sheets.specs.Layout.{variables, termCount}
-use Rattle.sheets.specs.ClaimSheet.{domainOf, floorOf}
+use Rattle.sheets.specs.ClaimSheet.{domainOf, termsOf}
 use Rattle.claims.specs.ClaimChecks.{claimAnswer}
-use Rattle.judging.specs.Check.{checkAnswer}
 use Rattle.judging.proofs.Promises.{floor-kept}
 use Rattle.evaluation.specs.Evaluations.{value, termValue, tooLarge, tooLargeAnswer, evaluationAnswer, evaluationOf, Evaluable, EvaluationPromises}
 use Rattle.evaluation.proofs.evaluations.Laws.{told-passed, value-told, each-passed}
@@ -61,12 +59,11 @@ pub evaluation-promises : (c : List ℕ) (x : List ℤ) (Gives : ℤ → Type 0)
 unfolding evaluationOf
 evaluation-promises c x Gives meant = record {
   given = λ e. meant _ .1 (told-passed _ _ (passes c x e));
-  exact = λ z q. let t = value-told _ _ z (meant z .0 q) in (evaluable c x (t .0), t .1);
-  floored = floored;
-  everywhere = λ s out h m. floored s out h (admits-all (domainOf c) x m);
+  exact = λ z q. (evaluable c x (told z q .0), told z q .1);
+  -- the joints to the check
+  floored = λ s out h a z q. rw (told z q .1) (floor-kept c s (length out) h x a);
+  everywhere = λ s out h m z q. rw (told z q .1) (floor-kept c s (length out) h x (admits-all (domainOf c) x m));
 }
   where
-    -- the joint to the check
-    floored : (s out : List ℕ) → Passes (checkAnswer c s (length out)) → Admits (domainOf c) x
-        → (z : ℤ) → Gives z → floorOf c ≤ℤ z
-    floored s out h a z q = rw (value-told _ _ z (meant z .0 q) .1) (floor-kept c s (length out) h x a)
+    told : (z : ℤ) → Gives z → Passes (evaluationAnswer c x) × (z ≡ valueAt x (termsOf c))
+    told z q = value-told _ _ z (meant z .0 q)

@@ -19,7 +19,7 @@ use Rattle.claims.specs.ClaimChecks.{countsRight, claimHeaderRight}
 use Rattle.targets.specs.Targets.{targetOf}
 use Rattle.targets.specs.declared.targets.Aim.{Aim}
 
-pub record Unmasked (c : List ℕ) : Type 0 where
+pub record AsBefore (c : List ℕ) : Type 0 where
   -- 2: "Bytes 2 and 3: zero"
   pub header : claimHeaderRight c ≡ countsRight c && eqb (getD c 3 0) 0
   -- "S times the coefficient of g if every exponent is even, else minus S times its absolute value"
@@ -30,5 +30,5 @@ pub record Unmasked (c : List ℕ) : Type 0 where
   pub floors : (b : ℤ) → Floors (domainOf c) b (termsOf c) ↔ ((x : List ℤ) → b ≤ℤ valueAt x (termsOf c))
   pub admits : (x : List ℤ) → Admits (domainOf c) x
 
-abbrev pub AsBefore : Type 0
-AsBefore = (c : List ℕ) → maskOf c ≡ 0 → Unmasked c
+abbrev pub Unmasked : Type 0
+Unmasked = (c : List ℕ) → maskOf c ≡ 0 → AsBefore c
