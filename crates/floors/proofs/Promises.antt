@@ -19,6 +19,7 @@ use Rattle.answers.specs.declared.searches.Found.the-variants.{At, Nothing}
 use Rattle.answers.proofs.answers.Laws.{passes-or-fails, refused-blames, refused-number, short-accepted, short-refused}
 use Rattle.answers.proofs.searches.Laws.{first-inside, first-before, none-wrong}
 use Rattle.squares.specs.Floor.{Floors}
+use Rattle.squares.proofs.Floor.{floors-unmasked}
 use Rattle.sheets.specs.Layout.{rowCount}
 use Rattle.sheets.specs.ClaimSheet.{domainOf, withFloor, termsOf}
 use Rattle.sheets.proofs.claim_sheet.Laws.{floored-floor, floored-domain, floored-terms}
@@ -217,6 +218,7 @@ found-promises c s lo hi out bs b tried k e o eo = record {
   written = eo;
   counts = found-counts c s lo hi (length out) b tried k e;
   floors = found-floors c s lo hi (length out) b tried k e;
+  everywhere = λ z. floors-unmasked (domainOf c) b _ z .0 (found-floors c s lo hi (length out) b tried k e);
   checked =
       check-promises (withFloor c b) s out _ k (λ h. h, λ h. h)
       (λ _. walked c s lo hi (length out) b tried k e .rows-are) bs o eo;

@@ -11,7 +11,9 @@ use lib.Signed.{_≤ℤ_, _<ℤ_}
 use Rattle.bounds.specs.Bounds.{greatestWeight, greatestSpan}
 use Rattle.answers.specs.Answers as Answers
 use Rattle.answers.specs.Answers.{blameless, Passes}
+use Rattle.squares.specs.Sums.{valueAt}
 use Rattle.squares.specs.Floor.{Floors}
+use Rattle.sheets.specs.Layout.{maskOf}
 use Rattle.sheets.specs.ClaimSheet.{domainOf, withFloor, termsOf}
 use Rattle.checks.specs.Input.{WellFormed}
 use Rattle.judging.specs.Check.{checkAnswer, outputOf}
@@ -40,6 +42,8 @@ pub record FloorPromises (c s : List ℕ) (lo hi : ℤ) (out : List ℕ) (b : �
   pub counts : pos tried ≡ hi -ℤ b +ℤ pos 1
   -- Demand 3: "the polynomial is at least the floor", by note 3 "at whole points with masked variables at least 0"
   pub floors : Floors (domainOf c) b (termsOf c)
+  -- and without a mask "at all whole offsets, of either sign and however large"
+  pub everywhere : maskOf c ≡ 0 → (x : List ℤ) → b ≤ℤ valueAt x (termsOf c)
   -- and all else that its check promises
   pub checked : CheckPromises (withFloor c b) s out (Passes (checkAnswer (withFloor c b) s (length out))) k o
 

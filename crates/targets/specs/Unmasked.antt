@@ -21,7 +21,7 @@ use Rattle.targets.specs.declared.targets.Aim.{Aim}
 
 pub record AsBefore (c : List ℕ) : Type 0 where
   -- 2: "Bytes 2 and 3: zero"
-  pub header : claimHeaderRight c ≡ countsRight c && eqb (getD c 3 0) 0
+  pub header : claimHeaderRight c ≡ countsRight c && eqb (getD c 2 0) 0 && eqb (getD c 3 0) 0
   -- "S times the coefficient of g if every exponent is even, else minus S times its absolute value"
   pub targets : (a : Aim) (α : Exponents) → targetOf c a α
       ≡ pos (a .scale) *ℤ worst (every (λ e. eqb (e % 2) 0) α)

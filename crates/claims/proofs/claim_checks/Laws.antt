@@ -1,7 +1,7 @@
 -- Laws of the checks 1 to 7: what it says of a claim that it passes them, that it may have another floor, and how short
 -- its answers are.
 use mathlib.Core.Path.{_≡_, refl, sym, _∙_, fun-ext}
-use mathlib.Core.Bool.{Bool, true, false, _&&_, true≢false, and-true, and-eq-true-iff}
+use mathlib.Core.Bool.{Bool, true, false, _&&_, true≢false, and-eq-true-iff}
 use mathlib.Core.List.{List}
 use Prim.Native.Nat.{ℕ, suc, _-_, _^_, _<_, _≤_}
 use native.Mathlib.Nat.{zero-div}
@@ -89,10 +89,11 @@ claim-facts c h =
       rising = λ i l. rising-fact c _ _ i (none-wrong _ _ (p₇ .0) (suc i) l);
     }
 
--- a mask of 0 is right
-pub header-unmasked : (c : List ℕ) → maskOf c ≡ 0 → claimHeaderRight c ≡ countsRight c && eqb (getD c 3 0) 0
+-- without a mask: "Bytes 2 and 3: zero"
+pub header-unmasked : (c : List ℕ) → maskOf c ≡ 0
+    → claimHeaderRight c ≡ countsRight c && eqb (getD c 2 0) 0 && eqb (getD c 3 0) 0
 unfolding claimHeaderRight maskRight
-header-unmasked c z = rw (z, zero-div (2 ^ variables c), and-true (countsRight c))
+header-unmasked c z = rw (z, zero-div (2 ^ variables c))
 
 -- ---- with another floor within its bounds the claim passes as well
 
