@@ -1,4 +1,4 @@
--- Powers, monomials at whole numbers, and exact numbers up to the greatest value.
+-- Powers, monomials at whole numbers, which numbers a mask allows, and exact numbers up to the greatest value.
 use mathlib.Core.Bool.{true, cond}
 use mathlib.Core.Logic.{_↔_}
 use mathlib.Core.List.{List, [], _∷_}

@@ -1,5 +1,6 @@
 -- The floor theorem's proof. Its statement is specs/Floor.antt.
--- First for any worth φ of points, no less than 0 at those that keep their sign; then for monomials at whole numbers.
+-- First for any worth φ of points, no less than 0 at those that keep their sign; then for monomials at whole numbers;
+-- last what it says without a mask.
 use mathlib.Core.Path.{_≡_, sym, _∙_, ap}
 use mathlib.Core.Bool.{true}
 use mathlib.Core.List.{List}

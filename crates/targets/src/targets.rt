@@ -22,7 +22,7 @@ ghost use Rattle.sheets.specs.ClaimSheet.{termPoint};
 ghost use Rattle.claims.specs.ClaimChecks.{ClaimFacts};
 ghost use Rattle.targets.specs.Targets.{aimOf, AimWithin, Targeted, targetOf, hasKey, coefficientWith, loweredBy, targetWith};
 
-// What a target depends on besides the claim's terms: the floor, and the scale.
+// What a target depends on besides the claim's terms and mask: the floor, and the scale.
 pub struct Aim {
     pub floor: i64,
     pub scale: u64,

@@ -1,5 +1,5 @@
--- Laws of the checks 1 to 7: what it says of a claim that it passes them, that it may have another floor, and how short
--- its answers are.
+-- Laws of the checks 1 to 7: what it says of a claim that it passes them, what 2 asks without a mask, that it may have
+-- another floor, and how short its answers are.
 use mathlib.Core.Path.{_≡_, refl, sym, _∙_, fun-ext}
 use mathlib.Core.Bool.{Bool, true, false, _&&_, true≢false, and-eq-true-iff}
 use mathlib.Core.List.{List}

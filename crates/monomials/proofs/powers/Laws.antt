@@ -1,5 +1,5 @@
--- Laws of monomials over ℤ: never negative at a point that keeps its sign, at a midpoint the mean of those at its ends;
--- and what an answer up to the greatest value says.
+-- Laws of monomials over ℤ: never negative at a point that keeps its sign, and which numbers make it so; at a midpoint
+-- the mean of those at its ends; and what an answer up to the greatest value says.
 use mathlib.Core.Path.{_≡_, refl, sym, _∙_, ap}
 use mathlib.Core.Bool.{true, Bool, false, cond}
 use mathlib.Core.List.{List, [], _∷_}
@@ -14,8 +14,8 @@ use lib.Dec.{leb}
 use borrow.Author.Tests.{leb-true, leb-false, le-leb, lt-leb}
 use Rattle.integers.proofs.Integers.{one-*ℤ, *ℤ-assoc, *ℤ-swap, *ℤ-nonneg, pos-nonneg, square-nonneg}
 use Rattle.bounds.specs.Bounds.{greatestValue}
-use Rattle.points.specs.Points.{Exponents, hasMidpoint, midpointOf, keepsSign}
-use Rattle.points.proofs.points.Laws.{keeps-more, masked-more, keeps-means, midpoint-none, midpoint-more, whole-more, whole-sized}
+use Rattle.points.specs.Points.{Exponents, hasMidpoint, midpointOf, OddsMasked, keepsSign}
+use Rattle.points.proofs.points.Laws.{masked-more, odds-more, keeps-means, midpoint-none, midpoint-more, whole-more, whole-sized}
 use Rattle.monomials.specs.Powers.{powerOf, monomialOf, variable, Allowed, AllowedExactly, Represents, within}
 use Rattle.monomials.specs.declared.powers.Bounded.the-variants.{Value, TooLarge}
 
@@ -42,13 +42,13 @@ unfolding powerOf
 power-nonneg x zero h = pos-nonneg 1
 power-nonneg x (suc e) h = *ℤ-nonneg h (power-nonneg x e h)
 
--- an odd power only where the bit is 1, and then of a number that is not negative
-power-sign : (x : ℤ) (e bit : ℕ) → e % 2 ≤ bit → bit < 2 → (bit ≡ 1 → pos 0 ≤ℤ x) → pos 0 ≤ℤ powerOf x e
-power-sign x e bit l h f = go (ℕ-discrete bit 1)
+-- an odd power only of a number that is not negative
+power-sign : (x : ℤ) (e : ℕ) → (e % 2 ≡ 1 → pos 0 ≤ℤ x) → pos 0 ≤ℤ powerOf x e
+power-sign x e f = go (ℕ-discrete (e % 2) 1)
   where
-    go : Dec (bit ≡ 1) → pos 0 ≤ℤ powerOf x e
-    go (yes k) = power-nonneg x e (f k)
-    go (no d) = power-even x e (omega arith)
+    go : Dec (e % 2 ≡ 1) → pos 0 ≤ℤ powerOf x e
+    go (yes h) = power-nonneg x e (f h)
+    go (no h) = power-even x e (omega arith)
 
 -- the powers of 0, 1 and −1 with positive exponents: two more change nothing, so they go by parity
 power-two-more : (x : ℤ) (e : ℕ) → natAbs x ≤ 1 → powerOf x (suc (suc (suc e))) ≡ powerOf x (suc e)
@@ -71,19 +71,17 @@ power-parity x (suc (suc (suc e))) h l =
 -- ---- monomials
 
 -- never negative where every odd exponent belongs to a variable that is not
+odds-sign : (mask : ℕ) (x : List ℤ) (α : Exponents) → Allowed mask x → OddsMasked mask α → pos 0 ≤ℤ monomialOf x α
+unfolding monomialOf
+odds-sign mask x [] a o = pos-nonneg 1
+odds-sign mask [] (e ∷ α) a o = pos-nonneg 1
+odds-sign mask (x ∷ xs) (e ∷ α) a o =
+    *ℤ-nonneg (power-sign x e (λ h. a 0 (o 0 (omega arith) h)))
+    (odds-sign (mask / 2) xs α (λ i h. a (suc i) (rw (masked-more mask i) at h)) (odds-more mask e α o .1))
+
 pub monomial-sign : (mask : ℕ) (x : List ℤ) (α : Exponents) → Allowed mask x → keepsSign mask α ≡ true
     → pos 0 ≤ℤ monomialOf x α
-unfolding monomialOf
-monomial-sign mask x [] a t = pos-nonneg 1
-monomial-sign mask [] (e ∷ α) a t = pos-nonneg 1
-monomial-sign mask (x ∷ xs) (e ∷ α) a t =
-    let q = keeps-more mask e α t in
-    *ℤ-nonneg (power-sign x e (mask % 2) (q .0) (omega arith) (λ h. a 0 (omega arith)))
-    (monomial-sign (mask / 2) xs α (λ i h. a (suc i) (rw (masked-more mask i) at h)) (q .1))
-
--- without a mask all numbers are allowed
-pub allowed-all : (mask : ℕ) (x : List ℤ) → mask ≡ 0 → Allowed mask x
-allowed-all mask x z i h = let none : mask / 2 ^ i ≡ 0 = rw z (zero-div (2 ^ i)) in absurd (omega arith)
+monomial-sign mask x α a t = odds-sign mask x α a (keeps-means mask α .0 t)
 
 -- and only there, since variable i is a monomial too
 unit : ℕ → Exponents
@@ -109,6 +107,10 @@ allowed-exactly mask x = (
   λ a α. monomial-sign mask x α a,
   λ f i m. rw (unit-value x i) at (f (unit i) (keeps-means mask (unit i) .1 (λ j l h. rw (unit-odd i j h) m))),
 )
+
+-- without a mask all numbers are allowed
+pub allowed-all : (mask : ℕ) (x : List ℤ) → mask ≡ 0 → Allowed mask x
+allowed-all mask x z i h = let none : mask / 2 ^ i ≡ 0 = rw z (zero-div (2 ^ i)) in absurd (omega arith)
 
 pub monomial-mean : (x : List ℤ) (v w : Exponents) → hasMidpoint v w ≡ true
     → monomialOf x (midpointOf v w) *ℤ monomialOf x (midpointOf v w) ≡ monomialOf x v *ℤ monomialOf x w

@@ -1,4 +1,5 @@
--- Laws of points: the same point, the order, midpoints, points by value, bytes as exponents, and one variable more.
+-- Laws of points: the same point, the order, midpoints, points by value, bytes as exponents, one variable more, and
+-- masks.
 use mathlib.Core.Path.{_≡_, refl, sym, _∙_, ap, ap₂}
 use mathlib.Core.Logic.{_⊎_, inl, inr, _↔_}
 use mathlib.Core.Bool.{Bool, true, false, cond, _&&_, and-eq-true-iff, false≢true}
@@ -147,13 +148,6 @@ zeros-within limit (suc n) = rw (le-leb 0 limit (omega arith), zeros-within limi
 
 -- ---- one variable more
 
-pub keeps-more : (mask e : ℕ) (α : Exponents) → keepsSign mask (e ∷ α) ≡ true
-    → (e % 2 ≤ mask % 2) × (keepsSign (mask / 2) α ≡ true)
-unfolding keepsSign
-keeps-more mask e α h =
-    let q = and-eq-true-iff (leb (e % 2) (mask % 2)) (keepsSign (mask / 2) α) .0 h in
-    (leb-true (e % 2) (mask % 2) (q .0), q .1)
-
 pub midpoint-none : (w : Exponents) → midpointOf [] w ≡ []
 unfolding midpointOf
 midpoint-none w = refl
@@ -224,27 +218,29 @@ keeps-even (e ∷ α) = ap₂ _&&_ (go (ℕ-discrete (e % 2) 0)) (keeps-even α)
     go (yes z) = rw z
     go (no d) = rw (lt-leb (e % 2) 0 (omega arith), ne-eqb (e % 2) 0 d)
 
+-- one variable more, in words
+module _ (mask e : ℕ) (α : Exponents) where
+  pub odds-more : OddsMasked mask (e ∷ α) → (e % 2 ≤ mask % 2) × OddsMasked (mask / 2) α
+  odds-more f = (go (ℕ-discrete (e % 2) 1), λ i l h. rw (masked-more mask i) (f (suc i) (omega arith) h))
+    where
+      go : Dec (e % 2 ≡ 1) → e % 2 ≤ mask % 2
+      go (yes h) = let k = f 0 (omega arith) h in omega arith
+      go (no h) = omega arith
+
+  odds-cons : e % 2 ≤ mask % 2 → OddsMasked (mask / 2) α → OddsMasked mask (e ∷ α)
+  odds-cons b f zero l h = omega arith
+  odds-cons b f (suc i) l h = rw (← (masked-more mask i)) (f i (omega arith) h)
+
 -- the test holds exactly where the words do
-odds-masked : (mask : ℕ) (α : Exponents) → keepsSign mask α ≡ true → OddsMasked mask α
-odds-masked mask [] t i l h = absurd (omega arith)
-odds-masked mask (e ∷ α) t zero l h = let q = keeps-more mask e α t in omega (arith, q .0)
-odds-masked mask (e ∷ α) t (suc i) l h =
-    rw (← (masked-more mask i)) (odds-masked (mask / 2) α (keeps-more mask e α t .1) i (omega arith) h)
-
-masked-odds : (mask : ℕ) (α : Exponents) → OddsMasked mask α → keepsSign mask α ≡ true
-unfolding keepsSign
-masked-odds mask [] f = refl
-masked-odds mask (e ∷ α) f =
-    let first : e % 2 ≤ mask % 2 = go (ℕ-discrete (e % 2) 1) in
-    rw (le-leb (e % 2) (mask % 2) first)
-    (masked-odds (mask / 2) α (λ i l h. rw (masked-more mask i) (f (suc i) (omega arith) h)))
-  where
-    go : Dec (e % 2 ≡ 1) → e % 2 ≤ mask % 2
-    go (yes h) = let k = f 0 (omega arith) h in omega arith
-    go (no h) = omega arith
-
 pub keeps-means : (mask : ℕ) (α : Exponents) → (keepsSign mask α ≡ true) ↔ OddsMasked mask α
-keeps-means mask α = (odds-masked mask α, masked-odds mask α)
+unfolding keepsSign
+keeps-means mask [] = (λ t i l h. absurd (omega arith), λ f. refl)
+keeps-means mask (e ∷ α) =
+    let both = and-eq-true-iff (leb (e % 2) (mask % 2)) (keepsSign (mask / 2) α) in
+    let rest = keeps-means (mask / 2) α in (
+      λ t. odds-cons mask e α (leb-true (e % 2) (mask % 2) (both .0 t .0)) (rest .0 (both .0 t .1)),
+      λ f. let q = odds-more mask e α f in both .1 (le-leb (e % 2) (mask % 2) (q .0), rest .1 (q .1)),
+    )
 
 -- a number without bits is 0
 no-bits : (m k : ℕ) → m ≤ k → ((i : ℕ) → Masked m i → ⊥) → m ≡ 0

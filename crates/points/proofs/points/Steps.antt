@@ -1,25 +1,27 @@
--- The steps of the functions over points: the loops that test places, compare two points, and fill eight places.
+-- The steps of the functions over points: the loops that test places, go along a mask, compare two points, and fill
+-- eight places.
 use mathlib.Core.Path.{_≡_, refl, sym, _∙_, ap}
 use mathlib.Core.Logic.{_↔_}
-use mathlib.Core.Bool.{Bool, true, false, cond, _&&_, and-false}
+use mathlib.Core.Bool.{Bool, true, false, cond, and-false}
 use mathlib.Core.List.{List, [], _∷_, _++_, append-assoc}
-use Prim.Native.Nat.{ℕ, zero, suc, _+_, _-_, _/_, _<_, _≤_, min, _%_}
+use Prim.Native.Nat.{ℕ, zero, suc, _+_, _-_, _/_, _%_, _^_, _<_, _≤_, min}
 use native.Mathlib.Nat.{le-of-lt}
 use native.Mathlib.Numerals.{add-one}
 use native.Mathlib.Omega.{arith}
 use lib.Dec.{leb, eqb, ltb}
-use lib.ListN.{length, getD, set, take, drop, replicate, length-append, length-take, drop-of-length-le}
+use lib.ListN.{length, getD, set, drop, replicate, length-append, length-take}
+use lib.Pow.{shr-shr}
 use lib.Seq.{drop-cons, drop-nil, getD-take, set-at, ext-getD}
-use borrow.Author.Tests.{lt-ltb, le-ltb, le-leb, lt-leb, eq-eqb, eqb-true}
+use borrow.Author.Tests.{lt-ltb, le-ltb, eq-eqb, eqb-true}
 use borrow.Author.Count.{below-more}
 use Rattle.bounds.specs.Bounds.{mostVariables}
 use Rattle.points.specs.Lists.{table}
-use Rattle.points.specs.Points.{evenSum, Exponents, exponents, pointOf, every, everyPair, risesTo, midpointOf, passes, OddsMasked, keepsSign, exponentsWithin, samePoint, hasMidpoint}
+use Rattle.points.specs.Points.{evenSum, Exponents, exponents, pointOf, every, everyPair, risesTo, midpointOf, passes, Masked, OddsMasked, keepsSign, exponentsWithin, samePoint, hasMidpoint}
 use Rattle.points.specs.declared.points.Point.{Point}
 use Rattle.points.specs.declared.points.Test.{Test}
 use Rattle.points.specs.declared.points.Test.the-variants.{Equal, EvenSum, Within}
 use Rattle.points.proofs.Lists.{table-length, table-get}
-use Rattle.points.proofs.points.Laws.{Places, exponents-counted, keeps-means, midpoint-length}
+use Rattle.points.proofs.points.Laws.{Places, keeps-means, midpoint-length}
 
 -- ---- points by value
 
@@ -140,41 +142,40 @@ module _ (r : Bool) (v : Exponents) where
 
 -- ---- masks
 
--- the exponents from place i on decide, with what is left of the mask there
-unfoldable pub SignFrom : ℕ → List ℕ → ℕ → ℕ → ℕ → Type 0
-SignFrom mask x n rest i = keepsSign mask (take n x) ≡ keepsSign rest (drop i (take n x))
+-- below place i every odd exponent belongs to a masked variable; `rest` is what is left of the mask there
+unfoldable pub SignTo : ℕ → List ℕ → ℕ → ℕ → Type 0
+SignTo mask x rest i = (rest ≡ mask / 2 ^ i) × ((k : ℕ) → k < i → getD x k 0 % 2 ≡ 1 → Masked mask k)
 
-pub sign-start : (mask : ℕ) (x : List ℕ) (n : ℕ) → SignFrom mask x n mask 0
-unfolding SignFrom
-sign-start mask x n = refl
+pub sign-start : (mask : ℕ) (x : List ℕ) → SignTo mask x mask 0
+unfolding SignTo
+sign-start mask x = (omega arith, λ k h. absurd (omega arith))
 
-module _ (mask n rest i : ℕ) (x : List ℕ) (e : SignFrom mask x n rest i) (h : i < n) (k : n ≤ mostVariables)
-    (l : Places x) where
-  sign-here : keepsSign mask (take n x)
-      ≡ leb (getD x i 0 % 2) (rest % 2) && keepsSign (rest / 2) (drop (suc i) (take n x))
-  unfolding SignFrom keepsSign
-  sign-here = e ∙ rw (drop-cons (take n x) i 0 (omega (arith, length-take n x)), getD-take n x i 0 h)
+pub sign-next : (mask rest i : ℕ) (x : List ℕ) → SignTo mask x rest i → getD x i 0 % 2 ≤ rest % 2
+    → SignTo mask x (rest / 2) (i + 1)
+unfolding SignTo
+sign-next mask rest i x e t = (rw (e .0) (shr-shr mask i 1), below-more _ _ (e .1) (λ h. omega (arith, e .0)))
 
-  pub sign-next : getD x i 0 % 2 ≤ rest % 2 → SignFrom mask x n (rest / 2) (i + 1)
-  unfolding SignFrom
-  sign-next t = rw add-one (sign-here ∙ rw (le-leb _ _ t))
-
--- r is what the loop answered, in both forms
-module _ (mask : ℕ) (α : Exponents) (r : Bool) (e : r ≡ keepsSign mask α) where
-  pub sign-says : (r ≡ true) ↔ OddsMasked mask α
-  sign-says = rw e (keeps-means mask α)
-
-module _ (mask n rest i : ℕ) (p : Point) (e : SignFrom mask (p .exps) n rest i) (en : n ≡ length (exponents p)) where
-  pub sign-stop : i < n → n ≤ mostVariables → Places (p .exps) → rest % 2 < getD (p .exps) i 0 % 2
-      → false ≡ keepsSign mask (exponents p)
-  sign-stop h k l t =
-      rw (← (exponents-counted p n en)) (sym (sign-here mask n rest i (p .exps) e h k l ∙ rw (lt-leb _ _ t)))
+module _ (mask n rest i : ℕ) (p : Point) (e : SignTo mask (p .exps) rest i) (en : n ≡ length (exponents p))
+    (eight : Places (p .exps)) where
+  pub sign-stop : i < n → rest % 2 < getD (p .exps) i 0 % 2 → false ≡ keepsSign mask (exponents p)
+  unfolding SignTo
+  sign-stop h t = go (keepsSign mask (exponents p)) (keeps-means mask (exponents p) .0)
+    where
+      go : (b : Bool) → (b ≡ true → OddsMasked mask (exponents p)) → false ≡ b
+      go true f =
+          let k = f refl i (omega arith) (rw (exponent-is p eight i (omega arith)) (omega arith)) in
+          absurd (omega (arith, e .0))
+      go false f = refl
 
   pub sign-end : n ≤ i → true ≡ keepsSign mask (exponents p)
-  unfolding SignFrom keepsSign
+  unfolding SignTo
   sign-end h =
-      rw (← (exponents-counted p n en))
-      (sym (e ∙ rw (drop-of-length-le (take n (p .exps)) {i = i} (omega (arith, length-take n (p .exps))))))
+      sym (keeps-means mask (exponents p) .1
+      (λ k l o. e .1 k (omega arith) (rw (exponent-is p eight k l) at o)))
+
+-- r is what the loop answered, in words
+pub sign-says : (mask : ℕ) (α : Exponents) (r : Bool) → r ≡ keepsSign mask α → (r ≡ true) ↔ OddsMasked mask α
+sign-says mask α r e = rw e (keeps-means mask α)
 
 -- ---- the order
 

@@ -1,12 +1,12 @@
 use Prim.Native.Nat.{_-_, _≤_}
 use borrow.Author.Needs.{needs}
 use Rattle.points.proofs.points.Laws.{Places}
-use Rattle.points.proofs.points.Steps.{SignFrom, sign-start, sign-next, sign-stop, sign-end, sign-says}
+use Rattle.points.proofs.points.Steps.{SignTo, sign-start, sign-next, sign-stop, sign-end, sign-says}
 use Rattle.points.proofs.points.keeps_sign.Statement.{statement}
 use Rattle.points.proofs.points.keeps_sign.Tie as tie
 
 abbrev Inv-loop : tie.InvT-loop
-Inv-loop mask n x rest₀ i₀ rest i = (i ≤ n) × Places x × SignFrom mask x n rest i
+Inv-loop mask n x rest₀ i₀ rest i = (i ≤ n) × Places x × SignTo mask x rest i
 
 abbrev μ-loop : tie.MeasureT-loop
 μ-loop mask n x rest₀ i₀ rest i = n - i
