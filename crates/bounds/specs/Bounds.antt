@@ -36,6 +36,14 @@ greatestValue = 2 ^ 56
 abbrev pub greatestSpan : ℕ
 greatestSpan = 4095
 
+-- "limit L (two bytes, 1 to 1,023)"
+abbrev pub greatestLimit : ℕ
+greatestLimit = 1023
+
+-- "multipliers m of four bytes, 0 to 65,536"
+abbrev pub greatestMultiplier : ℕ
+greatestMultiplier = 65536
+
 -- a number beyond ± a limit
 unfoldable pub beyond : ℕ → ℤ → Bool
 beyond limit x = ltb limit (natAbs x)

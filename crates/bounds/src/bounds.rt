@@ -24,6 +24,11 @@ pub const GREATEST_VALUE: u64 = 72057594037927936;
 // of a search, from its lowest to its highest floor
 pub const GREATEST_SPAN: u64 = 4095;
 
+// of a variable's limit, and of its multiplier
+pub const GREATEST_LIMIT: u16 = 1023;
+
+pub const GREATEST_MULTIPLIER: u32 = 65536;
+
 // Whether a number is beyond ± a limit.
 pub fn is_beyond(x: i64, limit: u64) -> bool
     ensures { λ r. ⌜ r ≡ beyond limit x ⌝ }

@@ -1,4 +1,4 @@
--- Words: 32-bit numbers in a list of bytes. "Multi-byte fields are little-endian; signed ones are two's complement."
+-- Words: numbers of 16 and 32 bits in a list of bytes. "Multi-byte fields are little-endian; signed ones are two's complement."
 use mathlib.Core.List.{List, [], _∷_}
 use Prim.Native.Nat.{ℕ, _+_, _*_, _/_, _%_}
 use lib.IntN.{ℤ}
@@ -7,7 +7,11 @@ use lib.Seq.{sets}
 use mir.Syntax.{w32}
 use mir.Val.{toZ, ofZ}
 
--- the number of the four bytes from a place on, the lowest first
+-- the number of the two bytes from a place on, the lowest first
+abbrev pub u16At : List ℕ → ℕ → ℕ
+u16At s at = getD s at 0 + getD s (at + 1) 0 * 256
+
+-- and of the four bytes
 unfoldable pub u32At : List ℕ → ℕ → ℕ
 u32At s at = getD s at 0 + getD s (at + 1) 0 * 256 + getD s (at + 2) 0 * 65536 + getD s (at + 3) 0 * 16777216
 

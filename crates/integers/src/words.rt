@@ -1,10 +1,10 @@
-// 32-bit words in a slice of bytes, the lowest byte first; signed ones in two's complement.
+// Words of 16 and 32 bits in a slice of bytes, the lowest byte first; signed ones in two's complement.
 ghost use mathlib.Core.Path.{_≡_};
 ghost use Prim.Native.Nat.{_+_, _^_, _<_, _≤_};
 ghost use lib.ListN.{length};
 ghost use mir.Syntax.{w32};
 ghost use mir.Val.{SFits, toZ, ofZ};
-ghost use Rattle.integers.specs.Words.{u32At, i32At, withBits, withI32};
+ghost use Rattle.integers.specs.Words.{u16At, u32At, i32At, withBits, withI32};
 
 // A byte as a wider number.
 pub fn wide(b: u8) -> u64
@@ -13,7 +13,15 @@ pub fn wide(b: u8) -> u64
     b as u64
 }
 
-// The unsigned word at a place.
+// The unsigned word of 16 bits at a place.
+pub fn read_u16(s: &[u8], at: usize) -> u64
+    requires { ⌜ at + 2 ≤ length (now s) ⌝ }
+    ensures { λ r. ⌜ (r ≡ u16At (now (s .entry)) at) × (r < 2 ^ 16) ⌝ }
+{
+    wide(s[at]) + wide(s[at + 1]) * 256
+}
+
+// The unsigned word of 32 bits at a place.
 pub fn read_u32(s: &[u8], at: usize) -> u64
     requires { ⌜ at + 4 ≤ length (now s) ⌝ }
     ensures { λ r. ⌜ (r ≡ u32At (now (s .entry)) at) × (r < 2 ^ 32) ⌝ }

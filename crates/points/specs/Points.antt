@@ -4,7 +4,7 @@ use mathlib.Core.List.{List, [], _∷_, _++_}
 use mathlib.Core.Path.{_≡_}
 use Prim.Native.Nat.{ℕ, _+_, _-_, _/_, _%_, _^_, _<_}
 use lib.Dec.{eqb, ltb, leb}
-use lib.ListN.{length, getD, take, replicate}
+use lib.ListN.{length, getD, set, take, replicate}
 use Rattle.bounds.specs.Bounds.{mostVariables}
 use Rattle.points.specs.Lists.{table}
 use Rattle.points.specs.declared.points.Point.{Point}
@@ -74,6 +74,10 @@ OddsMasked mask α = (i : ℕ) → i < length α → getD α i 0 % 2 ≡ 1 → M
 unfoldable pub keepsSign : ℕ → Exponents → Bool
 keepsSign mask [] = true
 keepsSign mask (e ∷ α) = leb (e % 2) (mask % 2) && keepsSign (mask / 2) α
+
+-- a "pure power": exponent e at variable i of n, and 0 at the others
+unfoldable pub pureAt : ℕ → ℕ → ℕ → Exponents
+pureAt n i e = set (replicate n 0) i e
 
 -- no exponent is over the limit
 unfoldable pub exponentsWithin : ℕ → Exponents → Bool

@@ -3,10 +3,10 @@ use bounds::bounds::MOST_VARIABLES;
 ghost use mathlib.Core.Path.{_≡_};
 ghost use mathlib.Core.Bool.{true};
 ghost use mathlib.Core.Logic.{_↔_};
-ghost use Prim.Native.Nat.{_+_, _/_, _≤_, min};
+ghost use Prim.Native.Nat.{_+_, _/_, _<_, _≤_, min};
 ghost use lib.ListN.{length};
 ghost use Rattle.bounds.specs.Bounds.{mostVariables};
-ghost use Rattle.points.specs.Points.{exponents, pointOf, bytesAt, everyPair, passes, samePoint, risesTo, hasMidpoint, midpointOf, OddsMasked, keepsSign, exponentsWithin};
+ghost use Rattle.points.specs.Points.{exponents, pointOf, bytesAt, everyPair, passes, samePoint, risesTo, hasMidpoint, midpointOf, OddsMasked, keepsSign, pureAt, exponentsWithin};
 
 // The exponents of n variables, in the first n places. Where n is over the number of places, all of them count.
 pub struct Point {
@@ -41,6 +41,16 @@ pub fn point_at(s: &[u8], at: usize, n: usize) -> Point
         exps[i] = s[at + i];
         i += 1;
     }
+    Point { exps, n }
+}
+
+// The point of a pure power: exponent e at variable i of n, and 0 at the others.
+pub fn pure_power(n: usize, i: usize, e: u8) -> Point
+    requires { ⌜ (i < n) × (n ≤ mostVariables) ⌝ }
+    ensures { λ r. ⌜ r ≡ pointOf (pureAt n i e) ⌝ }
+{
+    let mut exps = [0u8; MOST_VARIABLES];
+    exps[i] = e;
     Point { exps, n }
 }
 

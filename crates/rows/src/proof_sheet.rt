@@ -1,12 +1,12 @@
 // The proof sheet's fields: its shape, its scale and its rows by value.
 use integers::words::read_i32;
+use integers::words::read_u16;
 use integers::words::read_u32;
 use keys::keys::key_from;
 use points::points::Point;
 use points::points::point_at;
 use points::points::same;
 use sheets::layout::Shape;
-use sheets::layout::count;
 use sheets::layout::place_of;
 use sheets::layout::variables;
 use squares::rows::Weights;
@@ -38,7 +38,7 @@ pub fn row_count(proof: &[u8]) -> usize
     requires { ⌜ 8 ≤ length (now proof) ⌝ }
     ensures { λ r. ⌜ (r ≡ rowCount (now (proof .entry))) × (r ≤ 65535) ⌝ }
 {
-    count(proof[2]) + count(proof[3]) * 256
+    read_u16(proof, 2) as usize
 }
 
 // n and k.

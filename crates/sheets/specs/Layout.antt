@@ -2,6 +2,7 @@
 use mathlib.Core.List.{List}
 use Prim.Native.Nat.{ℕ, _+_, _*_, _≤_}
 use lib.ListN.{length, getD}
+use Rattle.integers.specs.Words.{u16At}
 use Rattle.bounds.specs.Bounds.{mostVariables, mostTerms, mostRows}
 use Rattle.sheets.specs.declared.layout.Shape.{Shape}
 
@@ -9,7 +10,7 @@ use Rattle.sheets.specs.declared.layout.Shape.{Shape}
 abbrev pub place : ℕ → ℕ → ℕ → ℕ
 place from i size = from + i * size
 
--- "Byte 0: n", in both sheets
+-- byte 0: n, in every sheet
 abbrev pub variables : List ℕ → ℕ
 variables s = getD s 0 0
 
@@ -38,7 +39,7 @@ claimLength n t = place 8 t (n + 4)
 
 -- "Bytes 2 and 3: k, rows"
 abbrev pub rowCount : List ℕ → ℕ
-rowCount s = getD s 2 0 + getD s 3 0 * 256
+rowCount s = u16At s 2
 
 -- n and k, by which its parts are found
 abbrev pub shapeOf : List ℕ → Shape
@@ -56,6 +57,22 @@ tripleAt shape i = place (place 8 (shape .k) (2 * shape .n)) i 12
 -- "The length is 8 + k × (2n + 12)"
 abbrev pub proofLength : Shape → ℕ
 proofLength shape = place 8 (shape .k) (2 * shape .n + 12)
+
+-- ---- the limits: "n in one byte", "n entries of power (one byte ..) and limit L (two bytes ..), then n multipliers m of
+-- four bytes"
+
+abbrev pub powerAt : ℕ → ℕ
+powerAt i = place 1 i 3
+
+abbrev pub boundAt : ℕ → ℕ
+boundAt i = powerAt i + 1
+
+abbrev pub multiplierAt : ℕ → ℕ → ℕ
+multiplierAt n i = place (place 1 n 3) i 4
+
+-- "1 + 7n bytes in all"
+abbrev pub limitsLength : ℕ → ℕ
+limitsLength n = place 1 n 7
 
 -- ---- bytes that have room for a sheet, as the functions that read or write its parts ask
 

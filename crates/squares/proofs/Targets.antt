@@ -1,17 +1,19 @@
 -- Laws of targets: the worst sign, and the coefficients of a polynomial lowered by its floor.
-use mathlib.Core.Path.{_≡_, refl}
+use mathlib.Core.Path.{_≡_, refl, _∙_, ap}
 use mathlib.Core.Bool.{Bool, true, false}
 use Prim.Native.Nat.{ℕ, _%_}
+use native.Mathlib.Omega.{arith}
 use lib.Dec.{eqb}
-use lib.IntN.{ℤ, pos, negℤ, natAbs, _-ℤ_, _*ℤ_, *ℤ-zero, +ℤ-idl, +ℤ-comm}
+use lib.IntN.{ℤ, pos, negℤ, natAbs, _+ℤ_, _-ℤ_, _*ℤ_, +ℤ-idl, +ℤ-idr, +ℤ-comm}
 use lib.ListN.{replicate}
 use lib.Signed.{_≤ℤ_, _<ℤ_, ≤ℤ-refl}
 use Rattle.integers.proofs.Integers.{ring, ints, by-eq, sizes, negℤ-*ℤ, abs-mul, abs-nonneg, neg-abs-≤ℤ}
 use Rattle.points.specs.Points.{Exponents, every, samePoint, keepsSign}
 use Rattle.points.proofs.points.Laws.{keeps-even}
 use Rattle.squares.specs.Sums.{Sum, coefficient}
-use Rattle.squares.specs.Domains.{Domain}
+use Rattle.squares.specs.Domains.{Domain, Unlimited, limitSum}
 use Rattle.squares.specs.Targets.{lowered, worst, target}
+use Rattle.squares.proofs.limits.Laws.{limits-unlimited}
 
 -- ---- the worst sign
 
@@ -46,18 +48,24 @@ worst-positive k c h l = rw (h, abs-nonneg l) (+ℤ-idl (negℤ c))
 -- ---- targets
 
 module _ (D : Domain) (S : ℕ) (g : Sum) (α : Exponents) where
-  pub target-is : target D S g α ≡ pos S *ℤ worst (keepsSign (D .mask) α) (coefficient α g)
+  pub target-is : target D S g α
+      ≡ pos S *ℤ worst (keepsSign (D .mask) α) (coefficient α g) +ℤ coefficient α (limitSum D)
   unfolding target
   target-is = refl
 
-  pub target-zero : coefficient α g ≡ pos 0 → target D S g α ≡ pos 0
+  pub target-zero : coefficient α g ≡ pos 0 → coefficient α (limitSum D) ≡ pos 0 → target D S g α ≡ pos 0
   unfolding target
-  target-zero z = rw (z, worst-zero (keepsSign (D .mask) α)) (*ℤ-zero (pos S))
+  target-zero z k = rw (z, k, worst-zero (keepsSign (D .mask) α)) (ap pos (omega arith))
 
-  -- without a mask: "if every exponent is even"
-  pub target-unmasked : D .mask ≡ 0 → target D S g α ≡ pos S *ℤ worst (every (λ e. eqb (e % 2) 0) α) (coefficient α g)
-  unfolding target
-  target-unmasked z = rw (z, keeps-even α)
+  -- where no variable is limited
+  pub target-unlimited : Unlimited (D .limits)
+      → target D S g α ≡ pos S *ℤ worst (keepsSign (D .mask) α) (coefficient α g)
+  target-unlimited u = target-is ∙ rw (limits-unlimited D α u) (+ℤ-idr _)
+
+  -- and without a mask: "if every exponent is even"
+  pub target-unmasked : Unlimited (D .limits) → D .mask ≡ 0
+      → target D S g α ≡ pos S *ℤ worst (every (λ e. eqb (e % 2) 0) α) (coefficient α g)
+  target-unmasked u z = target-unlimited u ∙ rw (z, keeps-even α)
 
 -- ---- the floor taken from the constant
 

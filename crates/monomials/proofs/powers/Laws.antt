@@ -14,8 +14,8 @@ use lib.Dec.{leb}
 use borrow.Author.Tests.{leb-true, leb-false, le-leb, lt-leb}
 use Rattle.integers.proofs.Integers.{one-*ℤ, *ℤ-assoc, *ℤ-swap, *ℤ-nonneg, pos-nonneg, square-nonneg}
 use Rattle.bounds.specs.Bounds.{greatestValue}
-use Rattle.points.specs.Points.{Exponents, hasMidpoint, midpointOf, OddsMasked, keepsSign}
-use Rattle.points.proofs.points.Laws.{masked-more, odds-more, keeps-means, midpoint-none, midpoint-more, whole-more, whole-sized}
+use Rattle.points.specs.Points.{Exponents, hasMidpoint, midpointOf, OddsMasked, keepsSign, pureAt}
+use Rattle.points.proofs.points.Laws.{pure-elsewhere, masked-more, odds-more, keeps-means, midpoint-none, midpoint-more, whole-more, whole-sized}
 use Rattle.monomials.specs.Powers.{powerOf, monomialOf, variable, Allowed, AllowedExactly, Represents, within}
 use Rattle.monomials.specs.declared.powers.Bounded.the-variants.{Value, TooLarge}
 
@@ -50,6 +50,11 @@ power-sign x e f = go (ℕ-discrete (e % 2) 1)
     go (yes h) = power-nonneg x e (f h)
     go (no h) = power-even x e (omega arith)
 
+power-one : (e : ℕ) → powerOf (pos 1) e ≡ pos 1
+unfolding powerOf
+power-one zero = refl
+power-one (suc e) = one-*ℤ (powerOf (pos 1) e) ∙ power-one e
+
 -- the powers of 0, 1 and −1 with positive exponents: two more change nothing, so they go by parity
 power-two-more : (x : ℤ) (e : ℕ) → natAbs x ≤ 1 → powerOf x (suc (suc (suc e))) ≡ powerOf x (suc e)
 unfolding powerOf
@@ -70,6 +75,22 @@ power-parity x (suc (suc (suc e))) h l =
 
 -- ---- monomials
 
+-- the constant's monomial is one
+pub monomial-constant : (x : List ℤ) (n : ℕ) → monomialOf x (replicate n 0) ≡ pos 1
+unfolding monomialOf powerOf
+monomial-constant x zero = refl
+monomial-constant [] (suc n) = refl
+monomial-constant (x ∷ xs) (suc n) = one-*ℤ (monomialOf xs (replicate n 0)) ∙ monomial-constant xs n
+
+-- that of a pure power is the power
+pub pure-value : (x : List ℤ) (n i e : ℕ) → i < n → monomialOf x (pureAt n i e) ≡ powerOf (variable x i) e
+unfolding monomialOf pureAt one powerOf
+pure-value x zero i e l = absurd (omega arith)
+pure-value [] (suc n) zero e l = sym (power-one e)
+pure-value [] (suc n) (suc i) e l = sym (power-one e)
+pure-value (x ∷ xs) (suc n) zero e l = rw (monomial-constant xs n) (*ℤ-one (powerOf x e))
+pure-value (x ∷ xs) (suc n) (suc i) e l = one-*ℤ (monomialOf xs (pureAt n i e)) ∙ pure-value xs n i e (omega arith)
+
 -- never negative where every odd exponent belongs to a variable that is not
 odds-sign : (mask : ℕ) (x : List ℤ) (α : Exponents) → Allowed mask x → OddsMasked mask α → pos 0 ≤ℤ monomialOf x α
 unfolding monomialOf
@@ -85,22 +106,19 @@ monomial-sign mask x α a t = odds-sign mask x α a (keeps-means mask α .0 t)
 
 -- and only there, since variable i is a monomial too
 unit : ℕ → Exponents
-unit zero = 1 ∷ []
-unit (suc i) = 0 ∷ unit i
+unit i = pureAt (suc i) i 1
 
 unit-odd : (i j : ℕ) → getD (unit i) j 0 % 2 ≡ 1 → j ≡ i
 unfolding unit
-unit-odd zero zero h = refl
-unit-odd zero (suc j) h = absurd (omega arith)
-unit-odd (suc i) zero h = absurd (omega arith)
-unit-odd (suc i) (suc j) h = ap suc (unit-odd i j h)
+unit-odd i j h = go (ℕ-discrete j i)
+  where
+    go : Dec (j ≡ i) → j ≡ i
+    go (yes e) = e
+    go (no d) = let z = pure-elsewhere (suc i) i 1 j d in absurd (omega arith)
 
 unit-value : (x : List ℤ) (i : ℕ) → monomialOf x (unit i) ≡ variable x i
-unfolding monomialOf powerOf unit one
-unit-value [] zero = refl
-unit-value [] (suc i) = refl
-unit-value (x ∷ xs) zero = *ℤ-one (x *ℤ pos 1) ∙ *ℤ-one x
-unit-value (x ∷ xs) (suc i) = one-*ℤ (monomialOf xs (unit i)) ∙ unit-value xs i
+unfolding unit powerOf one
+unit-value x i = pure-value x (suc i) i 1 (omega arith) ∙ *ℤ-one (variable x i)
 
 pub allowed-exactly : AllowedExactly
 allowed-exactly mask x = (
@@ -122,13 +140,6 @@ monomial-mean [] (a ∷ v) (b ∷ w) t = rw midpoint-more
 monomial-mean (x ∷ xs) (a ∷ v) (b ∷ w) t =
     let q = whole-more a b v w t in
     rw (midpoint-more, *ℤ-swap, power-half x a b (q .0), monomial-mean xs v w (q .1), *ℤ-swap)
-
--- the constant's monomial is one
-pub monomial-constant : (x : List ℤ) (n : ℕ) → monomialOf x (replicate n 0) ≡ pos 1
-unfolding monomialOf powerOf
-monomial-constant x zero = refl
-monomial-constant [] (suc n) = refl
-monomial-constant (x ∷ xs) (suc n) = one-*ℤ (monomialOf xs (replicate n 0)) ∙ monomial-constant xs n
 
 -- ---- what an answer says
 

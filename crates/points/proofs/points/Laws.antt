@@ -9,13 +9,13 @@ use native.Mathlib.Nat.{add-assoc, zero-div}
 use native.Mathlib.Decide.{ℕ-discrete}
 use native.Mathlib.Omega.{arith}
 use lib.Dec.{eqb, ltb, leb}
-use lib.ListN.{length, getD, take, replicate, length-replicate, replicate-append-replicate}
+use lib.ListN.{length, getD, set, take, replicate, length-replicate, length-set, replicate-append-replicate}
 use lib.Pow.{shr-shr}
-use lib.Seq.{take-append-seam}
+use lib.Seq.{take-append-seam, set-append-left, getD-set-other}
 use borrow.Author.Tests.{lt-ltb, le-ltb, ltb-true, ltb-false, le-leb, lt-leb, leb-true, eq-eqb, ne-eqb, eqb-true}
 use Rattle.bounds.specs.Bounds.{mostVariables}
 use Rattle.points.specs.Lists.{table}
-use Rattle.points.specs.Points.{Exponents, exponents, pointOf, bytesAt, every, everyPair, samePoint, risesTo, evenSum, hasMidpoint, midpointOf, Masked, OddsMasked, keepsSign, exponentsWithin}
+use Rattle.points.specs.Points.{Exponents, exponents, pointOf, bytesAt, every, everyPair, samePoint, risesTo, evenSum, hasMidpoint, midpointOf, Masked, OddsMasked, keepsSign, pureAt, exponentsWithin}
 use Rattle.points.specs.declared.points.Point.{Point}
 use Rattle.points.proofs.Lists.{table-length, table-get, table-split, table-same}
 
@@ -145,6 +145,48 @@ pub zeros-within : (limit n : ℕ) → exponentsWithin limit (replicate n 0) ≡
 unfolding exponentsWithin every
 zeros-within limit zero = refl
 zeros-within limit (suc n) = rw (le-leb 0 limit (omega arith), zeros-within limit n)
+
+-- ---- pure powers
+
+module _ (n i e : ℕ) where
+  pub pure-length : length (pureAt n i e) ≡ n
+  unfolding pureAt
+  pure-length = length-set (replicate n 0) i e ∙ length-replicate {A = ℕ} n 0
+
+  pub pure-point : i < n → n ≤ mostVariables
+      → record { exps = set (replicate mostVariables 0) i e; n = n } ≡ pointOf (pureAt n i e)
+  unfolding pointOf pureAt
+  pure-point l h =
+      let k : n + (mostVariables - n) ≡ mostVariables = omega arith in
+      let more : List ℕ = replicate (mostVariables - n) 0 in
+      let parts : replicate {A = ℕ} mostVariables 0 ≡ replicate n 0 ++ more =
+      rw (replicate-append-replicate {A = ℕ} n (mostVariables - n) 0, k) in
+      let inside : i < length (replicate {A = ℕ} n 0) = rw (length-replicate {A = ℕ} n 0) l in
+      rw (length-set {A = ℕ} (replicate n 0) i e, length-replicate {A = ℕ} n 0)
+      (ap (λ (x : List ℕ). record { exps = x; n = n })
+      (ap (λ (x : List ℕ). set x i e) parts ∙ set-append-left (replicate n 0) more i e inside))
+
+  pub pure-elsewhere : (j : ℕ) → (j ≡ i → ⊥) → getD (pureAt n i e) j 0 ≡ 0
+  unfolding pureAt
+  pure-elsewhere j d = getD-set-other (replicate n 0) i j e 0 d ∙ zeros-get n j
+    where
+      zeros-get : (n j : ℕ) → getD {A = ℕ} (replicate n 0) j 0 ≡ 0
+      zeros-get zero j = refl
+      zeros-get (suc n) zero = refl
+      zeros-get (suc n) (suc j) = zeros-get n j
+
+-- with exponent 0 it is the constant
+pub pure-none : (n i : ℕ) → pureAt n i 0 ≡ replicate n 0
+unfolding pureAt
+pure-none zero i = refl
+pure-none (suc n) zero = refl
+pure-none (suc n) (suc i) = ap (_∷_ 0) (pure-none n i)
+
+pub pure-within : (limit n i e : ℕ) → e ≤ limit → exponentsWithin limit (pureAt n i e) ≡ true
+unfolding exponentsWithin every pureAt
+pure-within limit zero i e h = refl
+pure-within limit (suc n) zero e h = rw (le-leb e limit h) (zeros-within limit n)
+pure-within limit (suc n) (suc i) e h = rw (le-leb 0 limit (omega arith)) (pure-within limit n i e h)
 
 -- ---- one variable more
 
