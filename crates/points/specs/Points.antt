@@ -18,9 +18,13 @@ Exponents = List ℕ
 unfoldable pub exponents : Point → Exponents
 exponents p = take (p .n) (p .exps)
 
--- the point by value with given exponents, zeros after them
+-- numbers in the eight places that there are for variables, zeros after them
+unfoldable pub padded : List ℕ → List ℕ
+padded x = x ++ replicate (mostVariables - length x) 0
+
+-- the point by value with given exponents
 unfoldable pub pointOf : Exponents → Point
-pointOf α = record { exps = α ++ replicate (mostVariables - length α) 0; n = length α }
+pointOf α = record { exps = padded α; n = length α }
 
 -- "points, each of n exponent bytes": the n bytes from a place on
 unfoldable pub bytesAt : List ℕ → ℕ → ℕ → Exponents

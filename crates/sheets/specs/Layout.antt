@@ -85,3 +85,7 @@ pub record ProofRoom (s : List ℕ) (shape : Shape) : Type 0 where
   pub few : shape .n ≤ mostVariables
   pub rows : shape .k ≤ mostRows
   pub long : proofLength shape ≤ length s
+
+pub record LimitsRoom (l : List ℕ) (n : ℕ) : Type 0 where
+  pub few : n ≤ mostVariables
+  pub long : limitsLength n ≤ length l

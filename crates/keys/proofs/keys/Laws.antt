@@ -9,7 +9,7 @@ use lib.ListN.{length, getD, replicate}
 use lib.Pow.{pow-add, pow-mono}
 use borrow.Author.Tests.{eq-eqb, ne-eqb}
 use Rattle.bounds.specs.Bounds.{mostVariables}
-use Rattle.points.specs.Points.{Exponents, samePoint, hasMidpoint, midpointOf, exponentsWithin}
+use Rattle.points.specs.Points.{Exponents, samePoint, hasMidpoint, midpointOf, pureAt, exponentsWithin}
 use Rattle.points.proofs.points.Laws.{same-eq, same-refl, within-more, midpoint-none, midpoint-more, whole-more, whole-sized}
 use Rattle.keys.specs.Keys.{keyOf}
 
@@ -51,6 +51,13 @@ pub key-zeros : (n : ℕ) → keyOf (replicate n 0) ≡ 0
 unfolding keyOf
 key-zeros zero = refl
 key-zeros (suc n) = omega (arith, key-zeros n)
+
+-- a pure power's key
+pub key-pure : (n i e : ℕ) → i < n → keyOf (pureAt n i e) ≡ e * 2 ^ (8 * i)
+unfolding keyOf pureAt
+key-pure zero i e l = absurd (omega arith)
+key-pure (suc n) zero e l = omega (arith, key-zeros n)
+key-pure (suc n) (suc i) e l = rw (byte-more i) (omega (arith, key-pure n i e (omega arith)))
 
 -- a midpoint's key is half the sum of its ends' keys
 pub key-midpoint : (v w : Exponents) → hasMidpoint v w ≡ true → keyOf v + keyOf w ≡ keyOf (midpointOf v w) * 2

@@ -9,13 +9,13 @@ use native.Mathlib.Nat.{add-assoc, zero-div}
 use native.Mathlib.Decide.{ℕ-discrete}
 use native.Mathlib.Omega.{arith}
 use lib.Dec.{eqb, ltb, leb}
-use lib.ListN.{length, getD, set, take, replicate, length-replicate, length-set, replicate-append-replicate}
+use lib.ListN.{length, getD, set, take, replicate, length-replicate, length-set, replicate-append-replicate, List·getD-append}
 use lib.Pow.{shr-shr}
-use lib.Seq.{take-append-seam, set-append-left, getD-set-other}
+use lib.Seq.{take-append-seam, getD-append-add, set-append-left, getD-set-other}
 use borrow.Author.Tests.{lt-ltb, le-ltb, ltb-true, ltb-false, le-leb, lt-leb, leb-true, eq-eqb, ne-eqb, eqb-true}
 use Rattle.bounds.specs.Bounds.{mostVariables}
 use Rattle.points.specs.Lists.{table}
-use Rattle.points.specs.Points.{Exponents, exponents, pointOf, bytesAt, every, everyPair, samePoint, risesTo, evenSum, hasMidpoint, midpointOf, Masked, OddsMasked, keepsSign, pureAt, exponentsWithin}
+use Rattle.points.specs.Points.{Exponents, exponents, padded, pointOf, bytesAt, every, everyPair, samePoint, risesTo, evenSum, hasMidpoint, midpointOf, Masked, OddsMasked, keepsSign, pureAt, exponentsWithin}
 use Rattle.points.specs.declared.points.Point.{Point}
 use Rattle.points.proofs.Lists.{table-length, table-get, table-split, table-same}
 
@@ -129,13 +129,31 @@ unfolding bytesAt table
 bytes-eight s at = refl
 
 pub exponents-of : (α : Exponents) → exponents (pointOf α) ≡ α
-unfolding exponents pointOf
+unfolding exponents pointOf padded
 exponents-of α = take-append-seam α (replicate (mostVariables - length α) 0)
+
+zeros-get : (n j : ℕ) → getD {A = ℕ} (replicate n 0) j 0 ≡ 0
+zeros-get zero j = refl
+zeros-get (suc n) zero = refl
+zeros-get (suc n) (suc j) = zeros-get n j
+
+-- numbers by an index, in the eight places: what is read back, and zeros after them
+module _ (f : ℕ → ℕ) (n i : ℕ) where
+  pub padded-get : i < n → getD (padded (table f n)) i 0 ≡ f i
+  unfolding padded
+  padded-get l = List·getD-append (table f n) _ 0 i (rw table-length l) ∙ table-get f 0 n i l
+
+  pub padded-past : n ≤ i → getD (padded (table f n)) i 0 ≡ 0
+  unfolding padded
+  padded-past l =
+      let e : i ≡ length (table f n) + (i - n) = rw table-length (omega arith) in
+      ap (λ (j : ℕ). getD (padded (table f n)) j 0) e
+      ∙ getD-append-add (table f n) _ (i - n) 0 ∙ zeros-get (mostVariables - length (table f n)) (i - n)
 
 -- the constant's point
 pub zeros-point : (n : ℕ) → n ≤ mostVariables
     → record { exps = replicate mostVariables 0; n = n } ≡ pointOf (replicate n 0)
-unfolding pointOf
+unfolding pointOf padded
 zeros-point n h =
     let e : n + (mostVariables - n) ≡ mostVariables = omega arith in
     rw (length-replicate {A = ℕ} n 0, replicate-append-replicate {A = ℕ} n (mostVariables - n) 0, e)
@@ -155,7 +173,7 @@ module _ (n i e : ℕ) where
 
   pub pure-point : i < n → n ≤ mostVariables
       → record { exps = set (replicate mostVariables 0) i e; n = n } ≡ pointOf (pureAt n i e)
-  unfolding pointOf pureAt
+  unfolding pointOf padded pureAt
   pure-point l h =
       let k : n + (mostVariables - n) ≡ mostVariables = omega arith in
       let more : List ℕ = replicate (mostVariables - n) 0 in
@@ -169,11 +187,6 @@ module _ (n i e : ℕ) where
   pub pure-elsewhere : (j : ℕ) → (j ≡ i → ⊥) → getD (pureAt n i e) j 0 ≡ 0
   unfolding pureAt
   pure-elsewhere j d = getD-set-other (replicate n 0) i j e 0 d ∙ zeros-get n j
-    where
-      zeros-get : (n j : ℕ) → getD {A = ℕ} (replicate n 0) j 0 ≡ 0
-      zeros-get zero j = refl
-      zeros-get (suc n) zero = refl
-      zeros-get (suc n) (suc j) = zeros-get n j
 
 -- with exponent 0 it is the constant
 pub pure-none : (n i : ℕ) → pureAt n i 0 ≡ replicate n 0

@@ -16,7 +16,7 @@ use borrow.Author.Tests.{lt-ltb, le-ltb, eq-eqb, eqb-true}
 use borrow.Author.Count.{below-more}
 use Rattle.bounds.specs.Bounds.{mostVariables}
 use Rattle.points.specs.Lists.{table}
-use Rattle.points.specs.Points.{evenSum, Exponents, exponents, pointOf, every, everyPair, risesTo, midpointOf, passes, Masked, OddsMasked, keepsSign, exponentsWithin, samePoint, hasMidpoint}
+use Rattle.points.specs.Points.{evenSum, Exponents, exponents, padded, pointOf, every, everyPair, risesTo, midpointOf, passes, Masked, OddsMasked, keepsSign, exponentsWithin, samePoint, hasMidpoint}
 use Rattle.points.specs.declared.points.Point.{Point}
 use Rattle.points.specs.declared.points.Test.{Test}
 use Rattle.points.specs.declared.points.Test.the-variants.{Equal, EvenSum, Within}
@@ -257,10 +257,6 @@ module _ (a b : Point) (n k m left : ℕ) (ea : Places (a .exps)) (eb : Places (
 
 -- ---- stores into the eight places
 
--- eight places: a list, and zeros after it
-unfoldable pub padded : List ℕ → List ℕ
-padded L = L ++ replicate (mostVariables - length L) 0
-
 padded-set : (L : List ℕ) (v : ℕ) → length L < mostVariables → set (padded L) (length L) v ≡ padded (L ++ (v ∷ []))
 unfolding padded
 padded-set L v h =
@@ -284,7 +280,7 @@ module _ (f : ℕ → ℕ) where
 
   pub filled-end : (n i : ℕ) (e : List ℕ) → e ≡ padded (table f i) → n ≤ i → i ≤ n
       → record { exps = e; n = n } ≡ pointOf (table f n)
-  unfolding pointOf padded
+  unfolding pointOf
   filled-end n i e h l m = let q : i ≡ n = omega arith in rw (h, q, table-length f n)
 
 -- ---- midpoints

@@ -12,8 +12,9 @@ use Rattle.points.specs.Lists.{table}
 use Rattle.points.proofs.Lists.{all-table, table-same}
 use Rattle.points.proofs.points.Laws.{bytes-length, bytes-same}
 use Rattle.squares.specs.Decomposition.{Sized}
+use Rattle.squares.specs.declared.limits.Limit.{Limit}
 use Rattle.sheets.specs.Layout.{variables, termCount, pointAt, coefficientAt}
-use Rattle.sheets.specs.ClaimSheet.{domainOf, floorOf, withFloor, termPoint, coefficientOf, termOf, termsOf}
+use Rattle.sheets.specs.ClaimSheet.{domainWith, floorOf, withFloor, termPoint, coefficientOf, termOf, termsOf}
 
 -- a floor has 32 bits
 pub floor-fits : (c : List ℕ) → Bytes c → SFits w32 (floorOf c)
@@ -58,8 +59,8 @@ module _ (c : List ℕ) (b : ℤ) where
   unfolding withFloor
   floored-before = written-before c 4 b
 
-  pub floored-domain : domainOf (withFloor c b) ≡ domainOf c
-  floored-domain = rw (floored-before 0 (omega arith), floored-before 2 (omega arith))
+  pub floored-domain : (limits : ℕ → Limit) → domainWith (withFloor c b) limits ≡ domainWith c limits
+  floored-domain limits = rw (floored-before 0 (omega arith), floored-before 2 (omega arith))
 
   pub floored-point : (n i : ℕ) → termPoint (withFloor c b) n i ≡ termPoint c n i
   unfolding withFloor termPoint

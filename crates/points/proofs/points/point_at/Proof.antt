@@ -3,8 +3,8 @@ use Prim.Native.Nat.{_+_, _-_, _≤_}
 use lib.ListN.{getD}
 use borrow.Author.Needs.{needs}
 use Rattle.points.specs.Lists.{table}
-use Rattle.points.specs.Points.{bytesAt}
-use Rattle.points.proofs.points.Steps.{filled-next, filled-end, filled-start, padded}
+use Rattle.points.specs.Points.{padded, bytesAt}
+use Rattle.points.proofs.points.Steps.{filled-next, filled-end, filled-start}
 use Rattle.points.proofs.points.point_at.Statement.{statement}
 use Rattle.points.proofs.points.point_at.Tie as tie
 

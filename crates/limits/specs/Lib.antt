@@ -1,0 +1,3 @@
+pub mod LimitsSheet
+pub mod LimitChecks
+pub mod Additions
