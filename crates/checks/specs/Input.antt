@@ -1,10 +1,13 @@
--- The checks 1 to 15, in the order of their numbers, and well-formed sheets.
+-- The checks 1 to 15 with 24 and 25 among them, in their order, and well-formed sheets.
 use mathlib.Core.List.{List}
+use mathlib.Core.Path.{_≡_}
 use Prim.Native.Nat.{ℕ}
 use lib.Dec.{ltb}
 use lib.ListN.{length}
 use Rattle.answers.specs.Answers.{Answer, accepted, refuseIf, andThen, Passes}
 use Rattle.sheets.specs.Layout.{variables, shapeOf}
+use Rattle.limits.specs.LimitsSheet.{noLimits}
+use Rattle.limits.specs.LimitChecks.{limitsAnswer}
 use Rattle.claims.specs.ClaimChecks.{claimAnswer}
 use Rattle.checks.specs.ProofChecks.{headerAnswer, rowsAnswer}
 
@@ -20,13 +23,23 @@ roomAnswer asked room = refuseIf (ltb room asked) 11 (accepted 0)
 unfoldable pub bodyAnswer : List ℕ → ℕ → Answer
 bodyAnswer s room = andThen (roomAnswer (length s) room) (rowsAnswer s (shapeOf s))
 
--- 1 to 15
-unfoldable pub inputAnswer : List ℕ → List ℕ → ℕ → Answer
-inputAnswer c s room = andThen (headAnswer c s) (bodyAnswer s room)
+-- "24 after 10", "25 next", then 11 to 15; n is the claim's
+unfoldable pub restAnswer : ℕ → List ℕ → List ℕ → ℕ → Answer
+restAnswer n s l room = andThen (limitsAnswer n l) (bodyAnswer s room)
 
--- "Sheets are well-formed when they pass 1 to 10 and 12 to 15"
-unfoldable pub formedAnswer : List ℕ → List ℕ → Answer
-formedAnswer c s = andThen (headAnswer c s) (rowsAnswer s (shapeOf s))
+-- all of them
+unfoldable pub inputAnswer : List ℕ → List ℕ → List ℕ → ℕ → Answer
+inputAnswer c s l room = andThen (headAnswer c s) (restAnswer (variables c) s l room)
 
-abbrev pub WellFormed : List ℕ → List ℕ → Type 0
-WellFormed c s = Passes (formedAnswer c s)
+-- "Sheets are well-formed when they pass 1 to 10 and 12 to 15", and 24 and 25
+unfoldable pub formedAnswer : List ℕ → List ℕ → List ℕ → Answer
+formedAnswer c s l = andThen (headAnswer c s) (andThen (limitsAnswer (variables c) l) (rowsAnswer s (shapeOf s)))
+
+abbrev pub WellFormed : List ℕ → List ℕ → List ℕ → Type 0
+WellFormed c s l = Passes (formedAnswer c s l)
+
+-- no variable limited: the checks are then 1 to 15 alone, in the order of their numbers
+abbrev pub InputUnlimited : Type 0
+InputUnlimited =
+    (c s : List ℕ) (room : ℕ)
+    → inputAnswer c s (noLimits (variables c)) room ≡ andThen (headAnswer c s) (bodyAnswer s room)

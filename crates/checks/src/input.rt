@@ -1,15 +1,18 @@
-// The checks 1 to 15, in the order of their numbers, in two parts: up to 10, and what follows.
+// The checks 1 to 15 with 24 and 25 among them, in their order and in two parts: up to 10, and what follows.
 use crate::proof_checks::check_header;
 use crate::proof_checks::check_rows;
 use answers::answers::Sheet;
 use answers::answers::Verdict;
 use claims::claim_checks::check_claim;
+use limits::limit_checks::check_limits;
 use rows::proof_sheet::shape_of;
 use sheets::layout::variables;
 ghost use mathlib.Core.Path.{_≡_};
+ghost use Prim.Native.Nat.{_≤_};
+ghost use Rattle.bounds.specs.Bounds.{mostVariables};
 ghost use Rattle.answers.specs.Answers.{says};
 ghost use Rattle.sheets.specs.Layout.{shapeOf, ProofRoom};
-ghost use Rattle.checks.specs.Input.{headAnswer, roomAnswer, bodyAnswer, inputAnswer};
+ghost use Rattle.checks.specs.Input.{headAnswer, roomAnswer, bodyAnswer, restAnswer, inputAnswer};
 
 // The checks 1 to 10: the claim, and the proof's header.
 pub fn check_head(claim: &[u8], proof: &[u8]) -> Verdict
@@ -33,7 +36,7 @@ pub fn check_room(asked: usize, room: usize) -> Verdict
 }
 
 // The checks 11 to 15; the room is the output's length.
-pub fn check_body(proof: &[u8], room: usize) -> Verdict
+fn check_body(proof: &[u8], room: usize) -> Verdict
     requires { ⌜ ProofRoom (now proof) (shapeOf (now proof)) ⌝ }
     ensures { λ r. ⌜ says r ≡ bodyAnswer (now (proof .entry)) room ⌝ }
 {
@@ -44,13 +47,26 @@ pub fn check_body(proof: &[u8], room: usize) -> Verdict
     check_rows(proof, shape_of(proof))
 }
 
-// The checks 1 to 15.
-pub fn check_input(claim: &[u8], proof: &[u8], room: usize) -> Verdict
-    ensures { λ r. ⌜ says r ≡ inputAnswer (now (claim .entry)) (now (proof .entry)) room ⌝ }
+// The checks 24 and 25, then 11 to 15; n is the claim's.
+fn check_rest(proof: &[u8], limits: &[u8], n: usize, room: usize) -> Verdict
+    requires { ⌜ (ProofRoom (now proof) (shapeOf (now proof))) × (n ≤ mostVariables) ⌝ }
+    ensures { λ r. ⌜ says r ≡ restAnswer n (now (proof .entry)) (now (limits .entry)) room ⌝ }
+{
+    let limited = check_limits(limits, n);
+    let Verdict::Accepted(_) = limited else {
+        return limited;
+    };
+    check_body(proof, room)
+}
+
+// All of them: 1 to 10, 24, 25, 11 to 15.
+pub fn check_input(claim: &[u8], proof: &[u8], limits: &[u8], room: usize) -> Verdict
+    ensures { λ r. ⌜ says r
+        ≡ inputAnswer (now (claim .entry)) (now (proof .entry)) (now (limits .entry)) room ⌝ }
 {
     let head = check_head(claim, proof);
     let Verdict::Accepted(_) = head else {
         return head;
     };
-    check_body(proof, room)
+    check_rest(proof, limits, variables(claim), room)
 }

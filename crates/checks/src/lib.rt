@@ -1,3 +1,3 @@
-// Checks of the proof sheet, and of both sheets in the order of their numbers: refusals 1 to 15.
+// Checks of the proof sheet, and of all three sheets in their order: refusals 1 to 15, 24 and 25.
 pub mod input;
 pub mod proof_checks;

@@ -1,7 +1,7 @@
 -- The limits sheet: the limit of each variable, as the bytes give it, and the domain of a claim within limits.
-use mathlib.Core.List.{List}
-use Prim.Native.Nat.{ℕ}
-use lib.ListN.{getD}
+use mathlib.Core.List.{List, _∷_}
+use Prim.Native.Nat.{ℕ, _*_}
+use lib.ListN.{getD, replicate}
 use Rattle.integers.specs.Words.{u16At, u32At}
 use Rattle.points.specs.Lists.{table}
 use Rattle.points.specs.Points.{padded}
@@ -34,6 +34,10 @@ limitIn limits i = record {
   bound = getD (limits .bounds) i 0;
   multiplier = getD (limits .multipliers) i 0;
 }
+
+-- the sheet that limits no variable: n, and zeros
+unfoldable pub noLimits : ℕ → List ℕ
+noLimits n = n ∷ replicate (7 * n) 0
 
 -- a claim's variables, those of them that are never negative, and their limits
 abbrev pub domainOf : List ℕ → List ℕ → Domain

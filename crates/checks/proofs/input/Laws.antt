@@ -1,4 +1,4 @@
--- Laws of the checks 1 to 15: what it says of two sheets that they are passed.
+-- Laws of the checks 1 to 15, 24 and 25: what it says of three sheets that they are passed.
 use mathlib.Core.Path.{_≡_, refl}
 use mathlib.Core.List.{List}
 use Prim.Native.Nat.{ℕ, _<_, _≤_}
@@ -10,14 +10,17 @@ use Rattle.integers.proofs.words.Laws.{Bytes}
 use Rattle.bounds.specs.Bounds.{greatestWeight}
 use Rattle.answers.specs.Answers.{says, Passes, Short}
 use Rattle.answers.specs.declared.answers.Verdict.the-variants.{Accepted}
-use Rattle.answers.proofs.answers.Laws.{passed-if, accepted-says, passes-if, passes-then, then-passes, passed, short-accepted, short-if, short-then}
-use Rattle.sheets.specs.Layout.{variables, termCount, shapeOf}
+use Rattle.answers.proofs.answers.Laws.{passed-if, accepted-says, passes-if, passes-then, then-passes, then-on, passed, short-accepted, short-if, short-then}
+use Rattle.sheets.specs.Layout.{variables, termCount, shapeOf, LimitsRoom}
 use Rattle.sheets.specs.ClaimSheet.{withFloor}
 use Rattle.sheets.proofs.claim_sheet.Laws.{floored-before}
+use Rattle.limits.specs.LimitsSheet.{limitsOf}
+use Rattle.limits.specs.LimitChecks.{limitsAnswer, RightLimits}
+use Rattle.limits.proofs.limit_checks.Laws.{limits-room, limits-right, limits-short, none-passes}
 use Rattle.claims.specs.ClaimChecks.{claimAnswer, ClaimFacts}
 use Rattle.claims.proofs.claim_checks.Laws.{claim-facts, claim-floored, claim-short}
 use Rattle.checks.specs.ProofChecks.{rowsAnswer, HeaderFacts, ProofFacts}
-use Rattle.checks.specs.Input.{headAnswer, roomAnswer, bodyAnswer, inputAnswer, formedAnswer, WellFormed}
+use Rattle.checks.specs.Input.{headAnswer, roomAnswer, bodyAnswer, restAnswer, inputAnswer, formedAnswer, WellFormed, InputUnlimited}
 use Rattle.checks.proofs.proof_checks.Laws.{header-facts, proof-facts, header-short, rows-short}
 
 -- ---- 1 to 10
@@ -28,7 +31,7 @@ module _ (c s : List ℕ) (h : Passes (headAnswer c s)) where
   unfolding headAnswer
   head-claimed = passes-then _ _ h .0
 
-  head-claim-facts : ClaimFacts c (variables c) (termCount c)
+  pub head-claim-facts : ClaimFacts c (variables c) (termCount c)
   head-claim-facts = claim-facts c head-claimed
 
   pub head-facts : (variables s ≡ variables c) × HeaderFacts s (shapeOf s)
@@ -49,14 +52,18 @@ module _ (asked room : ℕ) where
 
 -- ---- well-formed sheets
 
-module _ (c s : List ℕ) (f : WellFormed c s) where
+module _ (c s l : List ℕ) (f : WellFormed c s l) where
   formed-head : Passes (headAnswer c s)
   unfolding formedAnswer
   formed-head = passes-then _ _ f .0
 
+  formed-limits : Passes (limitsAnswer (variables c) l)
+  unfolding formedAnswer
+  formed-limits = passes-then _ _ (passes-then _ _ f .1) .0
+
   formed-rows : Passes (rowsAnswer s (shapeOf s))
   unfolding formedAnswer
-  formed-rows = passes-then _ _ f .1
+  formed-rows = passes-then _ _ (passes-then _ _ f .1) .1
 
   pub claim-formed : ClaimFacts c (variables c) (termCount c)
   claim-formed = head-claim-facts c s formed-head
@@ -67,36 +74,58 @@ module _ (c s : List ℕ) (f : WellFormed c s) where
   pub proof-formed : ProofFacts s (shapeOf s)
   proof-formed = proof-facts s (head-facts c s formed-head .1) formed-rows
 
--- 1 to 15 are passed exactly where the sheets are well-formed and the output is long enough
-module _ (c s : List ℕ) (room : ℕ) where
-  pub input-passes : WellFormed c s → length s ≤ room → Passes (inputAnswer c s room)
-  unfolding inputAnswer bodyAnswer
-  input-passes f l =
-      then-passes _ _ (formed-head c s f)
-      (then-passes _ _ (passed (Accepted 0) _ (room-enough (length s) room l) 0 refl) (formed-rows c s f))
+  pub room-formed : LimitsRoom l (variables c)
+  room-formed = limits-room (variables c) l (claim-formed .room .few) formed-limits
 
-  module _ (h : Passes (inputAnswer c s room)) where
-    pub input-formed : WellFormed c s
-    unfolding inputAnswer bodyAnswer formedAnswer
-    input-formed = let a = passes-then _ _ h in then-passes _ _ (a .0) (passes-then _ _ (a .1) .1)
+  pub limits-formed : RightLimits (limitsOf l (variables c))
+  limits-formed = limits-right (variables c) l formed-limits
+
+-- they are passed exactly where the sheets are well-formed and the output is long enough
+module _ (c s l : List ℕ) (room : ℕ) where
+  pub input-passes : WellFormed c s l → length s ≤ room → Passes (inputAnswer c s l room)
+  unfolding inputAnswer restAnswer bodyAnswer
+  input-passes f k =
+      then-passes _ _ (formed-head c s l f)
+      (then-passes _ _ (formed-limits c s l f)
+      (then-passes _ _ (passed (Accepted 0) _ (room-enough (length s) room k) 0 refl) (formed-rows c s l f)))
+
+  module _ (h : Passes (inputAnswer c s l room)) where
+    parts : Passes (limitsAnswer (variables c) l) × Passes (roomAnswer (length s) room)
+        × Passes (rowsAnswer s (shapeOf s))
+    unfolding inputAnswer restAnswer bodyAnswer
+    parts =
+        let a = passes-then _ _ (passes-then _ _ h .1) in
+        let b = passes-then _ _ (a .1) in
+        (a .0, b .0, b .1)
+
+    pub input-formed : WellFormed c s l
+    unfolding inputAnswer formedAnswer
+    input-formed = then-passes _ _ (passes-then _ _ h .0) (then-passes _ _ (parts .0) (parts .2))
 
     pub input-enough : length s ≤ room
-    unfolding inputAnswer bodyAnswer
-    input-enough = enough (length s) room (passes-then _ _ (passes-then _ _ h .1) .0)
+    input-enough = enough (length s) room (parts .1)
 
     -- and with another floor in the claim they are passed as well
-    pub input-floored : (b : ℤ) → natAbs b ≤ greatestWeight → Passes (inputAnswer (withFloor c b) s room)
+    pub input-floored : (b : ℤ) → natAbs b ≤ greatestWeight → Passes (inputAnswer (withFloor c b) s l room)
     unfolding inputAnswer headAnswer
     input-floored b w =
         let a = passes-then _ _ h in
         let d = passes-then _ _ (a .0) in
-        then-passes _ _
-        (then-passes _ _ (claim-floored c b w (d .0)) (rw (floored-before c b 0 (omega arith)) (d .1))) (a .1)
+        rw (floored-before c b 0 (omega arith))
+        (then-passes _ _ (then-passes _ _ (claim-floored c b w (d .0)) (d .1)) (a .1))
 
 -- every answer is short
-pub input-short : {limit : ℕ} (c s : List ℕ) (room : ℕ) → 15 < limit → Bytes c → Bytes s
-    → Short limit (inputAnswer c s room)
-unfolding inputAnswer headAnswer bodyAnswer roomAnswer
-input-short c s room h bc bs =
+pub input-short : {limit : ℕ} (c s l : List ℕ) (room : ℕ) → 25 < limit → Bytes c → Bytes s
+    → Short limit (inputAnswer c s l room)
+unfolding inputAnswer headAnswer restAnswer bodyAnswer roomAnswer
+input-short c s l room h bc bs =
     short-then _ _ (short-then _ _ (claim-short c (omega arith) bc) (header-short (variables c) s (omega arith)))
-    (short-then _ _ (short-if 11 _ (omega arith) (short-accepted 0 (omega arith) (omega arith)) _) (rows-short s h bs))
+    (short-then _ _ (limits-short (variables c) l h (omega (arith, bc 0)))
+    (short-then _ _ (short-if 11 _ (omega arith) (short-accepted 0 (omega arith) (omega arith)) _)
+    (rows-short s (omega arith) bs)))
+
+-- ---- without limits
+
+pub input-unlimited : InputUnlimited
+unfolding inputAnswer restAnswer
+input-unlimited c s room = rw (then-on _ _ (none-passes (variables c)))

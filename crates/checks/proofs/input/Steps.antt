@@ -1,10 +1,12 @@
--- The steps of the checks 1 to 15, one part after another.
+-- The steps of the checks 1 to 15, 24 and 25, one part after another.
 use mathlib.Core.Path.{_≡_, refl}
 use mathlib.Core.List.{List}
-use Prim.Native.Nat.{ℕ, _<_}
+use Prim.Native.Nat.{ℕ, _<_, _≤_}
+use native.Mathlib.Omega.{arith}
 use lib.ListN.{length}
 use borrow.Author.Tests.{lt-ltb}
-use Rattle.answers.specs.Answers.{says}
+use Rattle.bounds.specs.Bounds.{mostVariables}
+use Rattle.answers.specs.Answers.{says, Passes}
 use Rattle.answers.specs.declared.answers.Sheet.{Sheet}
 use Rattle.answers.specs.declared.answers.Sheet.the-variants.{Output}
 use Rattle.answers.specs.declared.answers.Verdict.{Verdict}
@@ -12,10 +14,11 @@ use Rattle.answers.specs.declared.answers.Verdict.the-variants.{Accepted, Refus
 use Rattle.answers.proofs.answers.Laws.{refused-if, refused-says, then-refused, then-passed, passed}
 use Rattle.sheets.specs.Layout.{variables, shapeOf, ProofRoom}
 use Rattle.sheets.specs.declared.layout.Shape.{Shape}
+use Rattle.limits.specs.LimitChecks.{limitsAnswer}
 use Rattle.claims.specs.ClaimChecks.{claimAnswer}
 use Rattle.checks.specs.ProofChecks.{headerAnswer, rowsAnswer}
-use Rattle.checks.specs.Input.{headAnswer, roomAnswer, bodyAnswer, inputAnswer}
-use Rattle.checks.proofs.input.Laws.{head-facts}
+use Rattle.checks.specs.Input.{headAnswer, roomAnswer, bodyAnswer, restAnswer, inputAnswer}
+use Rattle.checks.proofs.input.Laws.{head-claim-facts, head-facts}
 
 -- ---- check_head: v is the verdict on the claim
 
@@ -51,17 +54,39 @@ module _ (s : List ℕ) (room : ℕ) (v : Verdict) (e : says v ≡ roomAnswer (l
 pub room-here : (s : List ℕ) (sh : Shape) → sh ≡ shapeOf s → ProofRoom s (shapeOf s) → ProofRoom s sh
 room-here s sh e r = rw e r
 
--- ---- check_input: v is the verdict on 1 to 10
+-- ---- check_rest: v is the verdict on the limits
 
-module _ (c s : List ℕ) (room : ℕ) (v : Verdict) (e : says v ≡ headAnswer c s) where
-  pub input-head : (x : Sheet) → v ≡ Refused x → says v ≡ inputAnswer c s room
+module _ (n : ℕ) (s l : List ℕ) (room : ℕ) (v : Verdict) (e : says v ≡ limitsAnswer n l) where
+  pub rest-limits : (x : Sheet) → v ≡ Refused x → says v ≡ restAnswer n s l room
+  unfolding restAnswer
+  rest-limits x h = then-refused v _ e x h _
+
+  pub rest-body : (j : ℕ) (r : Verdict) → v ≡ Accepted j → says r ≡ bodyAnswer s room → says r ≡ restAnswer n s l room
+  unfolding restAnswer
+  rest-body j r h er = then-passed v _ e j h r _ er
+
+-- ---- check_input: n is the number of variables that was read, v the verdict on 1 to 10
+
+module _ (c s : List ℕ) (v : Verdict) (e : says v ≡ headAnswer c s) where
+  pub input-head : (l : List ℕ) (room : ℕ) (x : Sheet) → v ≡ Refused x → says v ≡ inputAnswer c s l room
   unfolding inputAnswer
-  input-head x h = then-refused v _ e x h _
+  input-head l room x h = then-refused v _ e x h _
 
   module _ (j : ℕ) (h : v ≡ Accepted j) where
-    pub input-room : ProofRoom s (shapeOf s)
-    input-room = head-facts c s (passed v _ e j h) .1 .room
+    head : Passes (headAnswer c s)
+    head = passed v _ e j h
 
-    pub input-body : (r : Verdict) → says r ≡ bodyAnswer s room → says r ≡ inputAnswer c s room
-    unfolding inputAnswer
-    input-body r er = then-passed v _ e j h r _ er
+    pub input-room : ProofRoom s (shapeOf s)
+    input-room = head-facts c s head .1 .room
+
+    pub input-long : 8 ≤ length c
+    input-long = omega (arith, head-claim-facts c s head .sized)
+
+    module _ (n : ℕ) (en : n ≡ variables c) where
+      pub input-few : n ≤ mostVariables
+      input-few = rw en (head-claim-facts c s head .room .few)
+
+      pub input-rest : (l : List ℕ) (room : ℕ) (r : Verdict) → says r ≡ restAnswer n s l room
+          → says r ≡ inputAnswer c s l room
+      unfolding inputAnswer
+      input-rest l room r er = then-passed v _ e j h r _ (rw en at er)

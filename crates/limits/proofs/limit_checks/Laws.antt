@@ -1,6 +1,6 @@
 -- Laws of the checks 24 and 25: the test of a limit and its words, what it says of a sheet that it passes them, and how
 -- short their answers are.
-use mathlib.Core.Path.{_≡_, refl}
+use mathlib.Core.Path.{_≡_, refl, sym, _∙_}
 use mathlib.Core.Bool.{true, false, and-eq-true-iff}
 use mathlib.Core.List.{List}
 use mathlib.Core.Logic.{_⊎_, inl, inr, _↔_}
@@ -11,13 +11,13 @@ use lib.ListN.{length}
 use borrow.Author.Tests.{eq-eqb, ne-eqb, eqb-true, le-leb, leb-true, not-false}
 use Rattle.bounds.specs.Bounds.{mostVariables}
 use Rattle.answers.specs.Answers.{Passes, Short}
-use Rattle.answers.proofs.answers.Laws.{passes-if, passes-at, short-accepted, short-if, short-at}
-use Rattle.answers.proofs.searches.Laws.{none-wrong}
+use Rattle.answers.proofs.answers.Laws.{passes-if, passes-at, if-on, at-on, accepted-passes, short-accepted, short-if, short-at}
+use Rattle.answers.proofs.searches.Laws.{none-wrong, all-right}
 use Rattle.squares.specs.declared.limits.Limit.{Limit}
-use Rattle.sheets.specs.Layout.{variables, limitsLength}
-use Rattle.limits.specs.LimitsSheet.{limitOf, limitsOf, limitIn}
+use Rattle.sheets.specs.Layout.{variables, limitsLength, LimitsRoom}
+use Rattle.limits.specs.LimitsSheet.{limitOf, limitsOf, limitIn, noLimits}
 use Rattle.limits.specs.LimitChecks.{limitsShaped, RightLimit, powerRight, limitRight, limitBreaks, limitsAnswer, RightLimits}
-use Rattle.limits.proofs.limits_sheet.Laws.{limit-read, limit-past}
+use Rattle.limits.proofs.limits_sheet.Laws.{limit-read, limit-past, none-length, none-variables, none-limit}
 
 -- ---- the test and its words
 
@@ -91,6 +91,12 @@ pub shaped-means : (n : ℕ) (l : List ℕ) → limitsShaped n l ≡ true → (l
 unfolding limitsShaped
 shaped-means n l t = let q = and-eq-true-iff _ _ .0 t in (eqb-true _ _ (q .0), eqb-true _ _ (q .1))
 
+pub limits-room : (n : ℕ) (l : List ℕ) → n ≤ mostVariables → Passes (limitsAnswer n l) → LimitsRoom l n
+unfolding limitsAnswer
+limits-room n l few h =
+    let sized = shaped-means n l (not-false _ (passes-if _ 24 _ refl h .0)) .0 in
+    record { few = few; long = omega arith }
+
 pub limits-right : (n : ℕ) (l : List ℕ) → Passes (limitsAnswer n l) → RightLimits (limitsOf l n)
 unfolding limitsAnswer limitBreaks
 limits-right n l h = record { right = λ i. go i (decLt i n) }
@@ -103,8 +109,18 @@ limits-right n l h = record { right = λ i. go i (decLt i n) }
     go i (no k) = inl (limit-past l n i (omega arith))
 
 -- every number is document 02's, and an index is below the number of variables
-pub limits-short : {limit : ℕ} (n : ℕ) (l : List ℕ) → 25 < limit → n ≤ mostVariables → Short limit (limitsAnswer n l)
+pub limits-short : {limit : ℕ} (n : ℕ) (l : List ℕ) → 25 < limit → n ≤ 65536 → Short limit (limitsAnswer n l)
 unfolding limitsAnswer
-limits-short n l h few =
+limits-short n l h k =
     short-if 24 _ (omega arith)
     (short-at 25 _ (omega arith) (short-accepted 0 (omega arith) (omega arith)) _ _ (omega arith)) _
+
+-- ---- the sheet that limits no variable
+
+pub none-passes : (n : ℕ) → Passes (limitsAnswer n (noLimits n))
+unfolding limitsAnswer limitBreaks limitsShaped
+none-passes n =
+    accepted-passes _ 0
+    (if-on _ 24 _ (rw (eq-eqb _ _ (none-length n), eq-eqb _ _ (none-variables n)))
+    ∙ at-on _ 25 _ (sym (all-right _ n
+    (λ i k. rw (limit-means (limitOf (noLimits n) n i) .1 (inl (none-limit n n i)))))))

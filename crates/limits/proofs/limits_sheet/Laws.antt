@@ -1,9 +1,14 @@
--- Laws of the limits sheet: each limit by value is the sheet's, and after the last variable there is none.
-use mathlib.Core.Path.{_≡_}
+-- Laws of the limits sheet: each limit by value is the sheet's, and after the last variable there is none; the sheet
+-- that limits no variable.
+use mathlib.Core.Path.{_≡_, refl}
 use mathlib.Core.List.{List}
-use Prim.Native.Nat.{ℕ, _<_, _≤_}
-use Rattle.points.proofs.points.Laws.{padded-get, padded-past}
-use Rattle.limits.specs.LimitsSheet.{limitOf, limitsOf, limitIn}
+use Prim.Native.Nat.{ℕ, zero, suc, _+_, _*_, _<_, _≤_}
+use native.Mathlib.Omega.{arith}
+use lib.ListN.{length, getD, length-replicate}
+use Rattle.integers.specs.Words.{u32At}
+use Rattle.points.proofs.points.Laws.{zeros-get, padded-get, padded-past}
+use Rattle.sheets.specs.Layout.{variables, boundAt, multiplierAt, limitsLength}
+use Rattle.limits.specs.LimitsSheet.{limitOf, limitsOf, limitIn, noLimits}
 use Rattle.limits.specs.LimitChecks.{IsUnlimited}
 
 module _ (l : List ℕ) (n i : ℕ) where
@@ -17,4 +22,31 @@ module _ (l : List ℕ) (n i : ℕ) where
     power-none = padded-past _ n i k;
     bound-none = padded-past _ n i k;
     multiplier-none = padded-past _ n i k;
+  }
+
+-- ---- the sheet that limits no variable
+
+module _ (n : ℕ) where
+  none-byte : (j : ℕ) → 0 < j → getD (noLimits n) j 0 ≡ 0
+  unfolding noLimits
+  none-byte zero l = absurd (omega arith)
+  none-byte (suc j) l = zeros-get (7 * n) j
+
+  pub none-length : length (noLimits n) ≡ limitsLength n
+  unfolding noLimits
+  none-length = omega (arith, length-replicate {A = ℕ} (7 * n) 0)
+
+  pub none-variables : variables (noLimits n) ≡ n
+  unfolding noLimits
+  none-variables = refl
+
+  pub none-limit : (m i : ℕ) → IsUnlimited (limitOf (noLimits n) m i)
+  unfolding limitOf u32At
+  none-limit m i = record {
+    power-none = none-byte _ (omega arith);
+    bound-none = rw (none-byte (boundAt i) (omega arith), none-byte (boundAt i + 1) (omega arith));
+    multiplier-none =
+      let at = multiplierAt m i in
+      rw (none-byte at (omega arith), none-byte (at + 1) (omega arith))
+      (rw (none-byte (at + 2) (omega arith), none-byte (at + 3) (omega arith)));
   }

@@ -132,7 +132,7 @@ pub exponents-of : (α : Exponents) → exponents (pointOf α) ≡ α
 unfolding exponents pointOf padded
 exponents-of α = take-append-seam α (replicate (mostVariables - length α) 0)
 
-zeros-get : (n j : ℕ) → getD {A = ℕ} (replicate n 0) j 0 ≡ 0
+pub zeros-get : (n j : ℕ) → getD {A = ℕ} (replicate n 0) j 0 ≡ 0
 zeros-get zero j = refl
 zeros-get (suc n) zero = refl
 zeros-get (suc n) (suc j) = zeros-get n j
