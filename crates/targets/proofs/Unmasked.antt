@@ -1,8 +1,9 @@
--- A claim without a mask, from the laws of its header, its targets and its domain.
+-- A claim without a mask and without limits, from the laws of its header, its targets and its domain.
 use mathlib.Core.Path.{_∙_}
 use Rattle.squares.proofs.Targets.{target-unmasked}
 use Rattle.squares.proofs.Floor.{admits-all, floors-unmasked}
-use Rattle.sheets.specs.ClaimSheet.{domainOf, termsOf}
+use Rattle.sheets.specs.ClaimSheet.{domainWith, termsOf}
+use Rattle.limits.specs.LimitsSheet.{limitIn}
 use Rattle.claims.proofs.claim_checks.Laws.{header-unmasked}
 use Rattle.targets.specs.Unmasked.{Unmasked}
 use Rattle.targets.proofs.targets.Laws.{target-of}
@@ -10,7 +11,7 @@ use Rattle.targets.proofs.targets.Laws.{target-of}
 pub unmasked : Unmasked
 unmasked c z = record {
   header = header-unmasked c z;
-  targets = λ a α. target-of c a α ∙ target-unmasked (domainOf c) (a .scale) _ α z;
-  floors = λ b. floors-unmasked (domainOf c) b (termsOf c) z;
-  admits = λ x. admits-all (domainOf c) x z;
+  targets = λ a u α. target-of c a α ∙ target-unmasked (domainWith c (limitIn (a .limits))) (a .scale) _ α u z;
+  floors = λ limits u b. floors-unmasked (domainWith c limits) b (termsOf c) u z;
+  admits = λ limits u x. admits-all (domainWith c limits) x u z;
 }

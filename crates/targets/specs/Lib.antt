@@ -1,3 +1,4 @@
 pub mod Carried
 pub mod Targets
+pub mod Unlimited
 pub mod Unmasked

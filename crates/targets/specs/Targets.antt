@@ -1,10 +1,10 @@
--- Targets of a claim sheet, for any floor and scale.
+-- Targets of a claim sheet, for any floor, scale and limits.
 use mathlib.Core.Bool.{Bool, cond}
 use mathlib.Core.List.{List}
 use mathlib.Core.Path.{_≡_}
 use Prim.Native.Nat.{ℕ, _≤_}
 use lib.Dec.{eqb}
-use lib.IntN.{ℤ, pos, natAbs, _-ℤ_, _*ℤ_}
+use lib.IntN.{ℤ, pos, natAbs, _+ℤ_, _-ℤ_, _*ℤ_}
 use Rattle.bounds.specs.Bounds.{greatestWeight, greatestScale}
 use Rattle.answers.specs.Searches.{first}
 use Rattle.answers.specs.declared.searches.Found.{Found}
@@ -13,24 +13,33 @@ use Rattle.points.specs.Points.{Exponents, keepsSign}
 use Rattle.keys.specs.Keys.{keyOf}
 use Rattle.squares.specs.Targets.{lowered, worst, target}
 use Rattle.sheets.specs.Layout.{variables, termCount}
-use Rattle.sheets.specs.ClaimSheet.{domainOf, floorOf, termPoint, coefficientOf, termsOf}
+use Rattle.sheets.specs.ClaimSheet.{domainWith, floorOf, termPoint, coefficientOf, termsOf}
 use Rattle.rows.specs.ProofSheet.{scaleOf}
+use Rattle.limits.specs.LimitsSheet.{limitsOf, limitIn}
+use Rattle.limits.specs.LimitChecks.{RightLimits}
+use Rattle.limits.specs.Additions.{limitsAdd}
 use Rattle.claims.specs.ClaimChecks.{ClaimFacts}
 use Rattle.targets.specs.Carried.{Carried}
 use Rattle.targets.specs.declared.targets.Aim.{Aim}
 
--- a floor and a scale that the sheets can hold
+-- a floor, a scale and limits that the sheets can hold
 pub record AimWithin (a : Aim) : Type 0 where
   pub floor-within : natAbs (a .floor) ≤ greatestWeight
   pub scale-within : a .scale ≤ greatestScale
+  pub limits-right : RightLimits (a .limits)
 
--- the claim's floor and the proof's scale
-unfoldable pub aimOf : List ℕ → List ℕ → Aim
-aimOf c s = record { floor = floorOf c; scale = scaleOf s }
+-- the claim's floor, the proof's scale and the sheet's limits
+unfoldable pub aimOf : List ℕ → List ℕ → List ℕ → Aim
+aimOf c s l = record { floor = floorOf c; scale = scaleOf s; limits = limitsOf l (variables c) }
+
+-- with another floor
+unfoldable pub atFloor : Aim → ℤ → Aim
+atFloor a b = record { floor = b; scale = a .scale; limits = a .limits }
 
 -- "Let g be f with b taken from its constant coefficient": the target at a point
 unfoldable pub targetOf : List ℕ → Aim → Exponents → ℤ
-targetOf c a α = target (domainOf c) (a .scale) (lowered (variables c) (a .floor) (termsOf c)) α
+targetOf c a α =
+    target (domainWith c (limitIn (a .limits))) (a .scale) (lowered (variables c) (a .floor) (termsOf c)) α
 
 -- a point that sheets can hold, with its key, beside a claim that passes 1 to 7 and an aim within its bounds
 pub record Targeted (c : List ℕ) (a : Aim) (α : Exponents) (key : ℕ) : Type 0 where
@@ -57,6 +66,7 @@ coefficientWith c n t key = coefficientFound c n t (first (hasKey c n key) t)
 unfoldable pub loweredBy : Aim → ℕ → ℤ → ℤ
 loweredBy a key x = cond (eqb key 0) (x -ℤ a .floor) x
 
--- the target at a point, by the mask, its key and its coefficient
-unfoldable pub targetWith : ℕ → Aim → Exponents → ℕ → ℤ → ℤ
-targetWith mask a α key x = pos (a .scale) *ℤ worst (keepsSign mask α) (loweredBy a key x)
+-- the target at a point of n exponents, by the mask, its key and its coefficient
+unfoldable pub targetWith : ℕ → ℕ → Aim → Exponents → ℕ → ℤ → ℤ
+targetWith n mask a α key x =
+    pos (a .scale) *ℤ worst (keepsSign mask α) (loweredBy a key x) +ℤ limitsAdd (a .limits) key n

@@ -1,4 +1,5 @@
--- A claim without a mask is judged as document 01 says, and admits all whole offsets.
+-- A claim without a mask, none of whose variables is limited, is judged as document 01 says, and admits all whole
+-- offsets.
 use mathlib.Core.Path.{_≡_}
 use mathlib.Core.Bool.{_&&_}
 use mathlib.Core.List.{List}
@@ -10,11 +11,13 @@ use lib.ListN.{getD}
 use lib.Signed.{_≤ℤ_}
 use Rattle.points.specs.Points.{Exponents, every}
 use Rattle.squares.specs.Sums.{coefficient, valueAt}
-use Rattle.squares.specs.Domains.{Admits}
+use Rattle.squares.specs.Domains.{Unlimited, Admits}
 use Rattle.squares.specs.Targets.{lowered, worst}
 use Rattle.squares.specs.Floor.{Floors}
+use Rattle.squares.specs.declared.limits.Limit.{Limit}
 use Rattle.sheets.specs.Layout.{variables, maskOf}
-use Rattle.sheets.specs.ClaimSheet.{domainOf, termsOf}
+use Rattle.sheets.specs.ClaimSheet.{domainWith, termsOf}
+use Rattle.limits.specs.LimitsSheet.{limitIn}
 use Rattle.claims.specs.ClaimChecks.{countsRight, claimHeaderRight}
 use Rattle.targets.specs.Targets.{targetOf}
 use Rattle.targets.specs.declared.targets.Aim.{Aim}
@@ -23,12 +26,13 @@ pub record AsBefore (c : List ℕ) : Type 0 where
   -- 2: "Bytes 2 and 3: zero"
   pub header : claimHeaderRight c ≡ countsRight c && eqb (getD c 2 0) 0 && eqb (getD c 3 0) 0
   -- "S times the coefficient of g if every exponent is even, else minus S times its absolute value"
-  pub targets : (a : Aim) (α : Exponents) → targetOf c a α
+  pub targets : (a : Aim) → Unlimited (limitIn (a .limits)) → (α : Exponents) → targetOf c a α
       ≡ pos (a .scale) *ℤ worst (every (λ e. eqb (e % 2) 0) α)
       (coefficient α (lowered (variables c) (a .floor) (termsOf c)))
   -- Demand 3: "at all whole offsets, of either sign and however large", the floor and the values
-  pub floors : (b : ℤ) → Floors (domainOf c) b (termsOf c) ↔ ((x : List ℤ) → b ≤ℤ valueAt x (termsOf c))
-  pub admits : (x : List ℤ) → Admits (domainOf c) x
+  pub floors : (limits : ℕ → Limit) → Unlimited limits
+      → (b : ℤ) → Floors (domainWith c limits) b (termsOf c) ↔ ((x : List ℤ) → b ≤ℤ valueAt x (termsOf c))
+  pub admits : (limits : ℕ → Limit) → Unlimited limits → (x : List ℤ) → Admits (domainWith c limits) x
 
 abbrev pub Unmasked : Type 0
 Unmasked = (c : List ℕ) → maskOf c ≡ 0 → AsBefore c

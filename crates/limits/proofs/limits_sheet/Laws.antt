@@ -46,7 +46,7 @@ module _ (n : ℕ) where
     power-none = none-byte _ (omega arith);
     bound-none = rw (none-byte (boundAt i) (omega arith), none-byte (boundAt i + 1) (omega arith));
     multiplier-none =
-      let at = multiplierAt m i in
-      rw (none-byte at (omega arith), none-byte (at + 1) (omega arith))
-      (rw (none-byte (at + 2) (omega arith), none-byte (at + 3) (omega arith)));
+        let at = multiplierAt m i in
+        rw (none-byte at (omega arith), none-byte (at + 1) (omega arith))
+        (rw (none-byte (at + 2) (omega arith), none-byte (at + 3) (omega arith)));
   }

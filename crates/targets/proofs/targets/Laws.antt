@@ -11,36 +11,48 @@ use Rattle.bounds.specs.Bounds.{greatestWeight, greatestScale}
 use Rattle.points.specs.Points.{Exponents}
 use Rattle.squares.specs.Targets.{lowered, target}
 use Rattle.sheets.specs.Layout.{variables}
-use Rattle.sheets.specs.ClaimSheet.{domainOf, floorOf, withFloor, termsOf}
+use Rattle.sheets.specs.ClaimSheet.{domainWith, floorOf, withFloor, termsOf}
 use Rattle.sheets.proofs.claim_sheet.Laws.{floored-floor, floored-before, floored-domain, floored-terms}
 use Rattle.rows.specs.ProofSheet.{scaleOf}
-use Rattle.targets.specs.Targets.{AimWithin, aimOf, targetOf}
+use Rattle.limits.specs.LimitsSheet.{limitsOf, limitIn, domainOf}
+use Rattle.limits.specs.LimitChecks.{RightLimits}
+use Rattle.targets.specs.Targets.{AimWithin, aimOf, atFloor, targetOf}
 use Rattle.targets.specs.declared.targets.Aim.{Aim}
 
 -- ---- the aim of checked sheets
 
 -- the aim of sheets with a floor and a scale in their bounds, and its targets
-pub aim-within : (c s : List ℕ) → natAbs (floorOf c) ≤ greatestWeight → scaleOf s ≤ greatestScale
-    → AimWithin (aimOf c s)
+pub aim-within : (c s l : List ℕ) → natAbs (floorOf c) ≤ greatestWeight → scaleOf s ≤ greatestScale
+    → RightLimits (limitsOf l (variables c)) → AimWithin (aimOf c s l)
 unfolding aimOf
-aim-within c s b S = record { floor-within = b; scale-within = S }
+aim-within c s l b S r = record { floor-within = b; scale-within = S; limits-right = r }
 
-pub targets-are : (c s : List ℕ) (α : Exponents)
-    → targetOf c (aimOf c s) α ≡ target (domainOf c) (scaleOf s) (lowered (variables c) (floorOf c) (termsOf c)) α
+pub targets-are : (c s l : List ℕ) (α : Exponents) → targetOf c (aimOf c s l) α
+    ≡ target (domainOf c l) (scaleOf s) (lowered (variables c) (floorOf c) (termsOf c)) α
 unfolding aimOf targetOf
-targets-are c s α = refl
+targets-are c s l α = refl
+
+pub floor-within-at : (a : Aim) (b : ℤ) → AimWithin a → natAbs b ≤ greatestWeight → AimWithin (atFloor a b)
+unfolding atFloor
+floor-within-at a b h w =
+    record { floor-within = w; scale-within = h .scale-within; limits-right = h .limits-right }
 
 -- ---- targets
 
 pub target-of : (c : List ℕ) (a : Aim) (α : Exponents)
-    → targetOf c a α ≡ target (domainOf c) (a .scale) (lowered (variables c) (a .floor) (termsOf c)) α
+    → targetOf c a α
+    ≡ target (domainWith c (limitIn (a .limits))) (a .scale) (lowered (variables c) (a .floor) (termsOf c)) α
 unfolding targetOf
 target-of c a α = refl
 
 -- with floor b in the claim they are those of the claim as it stands, for that floor
-pub targets-floored : (c s : List ℕ) (b : ℤ) → 8 ≤ length c → natAbs b ≤ greatestWeight
-    → targetOf (withFloor c b) (aimOf (withFloor c b) s) ≡ targetOf c (record { floor = b; scale = scaleOf s })
-unfolding targetOf aimOf
-targets-floored c s b l w =
-    let read = floored-floor c b l (fits-within b greatestWeight w (lit< tt)) in
-    fun-ext (λ α. rw (read, floored-terms c b, floored-domain c b, floored-before c b 0 (omega arith)))
+pub targets-floored : (c : List ℕ) (a : Aim) (b : ℤ) → targetOf (withFloor c b) a ≡ targetOf c a
+unfolding targetOf
+targets-floored c a b =
+    fun-ext (λ α. rw (floored-terms c b, floored-domain c b (limitIn (a .limits)), floored-before c b 0 (omega arith)))
+
+pub aim-floored : (c s l : List ℕ) (b : ℤ) → 8 ≤ length c → natAbs b ≤ greatestWeight
+    → aimOf (withFloor c b) s l ≡ atFloor (aimOf c s l) b
+unfolding aimOf atFloor
+aim-floored c s l b k w =
+    rw (floored-floor c b k (fits-within b greatestWeight w (lit< tt)), floored-before c b 0 (omega arith))

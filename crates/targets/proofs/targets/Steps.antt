@@ -1,10 +1,10 @@
 -- The steps of the functions that find a target: the term with a key is the one at the point. A prime marks a number as
 -- the machine reads it back.
-use mathlib.Core.Path.{_≡_, refl, sym, _∙_, ap}
+use mathlib.Core.Path.{_≡_, refl, sym, _∙_, ap, ap₂}
 use mathlib.Core.Bool.{Bool, true, false, cond}
 use mathlib.Core.List.{List}
 use Prim.Native.Nat.{ℕ, zero, suc, _^_, _<_, _≤_}
-use native.Mathlib.Nat.{mul-le-mul}
+use native.Mathlib.Nat.{mul-le-mul, le-refl}
 use native.Mathlib.Numerals.{add-one}
 use native.Mathlib.Omega.{arith}
 use lib.Dec.{eqb, lit<}
@@ -15,8 +15,8 @@ use borrow.Author.Tests.{eq-eqb, ne-eqb}
 use mir.Syntax.{w64}
 use mir.Val.{SFits, toZ}
 use mir.Facts.{toZ-pos, toZ-ofZ}
-use Rattle.integers.proofs.Integers.{back, abs-sub, abs-neg, abs-mul, fits-within, ltZ-true, ltZ-false}
-use Rattle.bounds.specs.Bounds.{greatestWeight, greatestScale}
+use Rattle.integers.proofs.Integers.{back, abs-add, abs-sub, abs-neg, abs-mul, fits-within, ltZ-true, ltZ-false}
+use Rattle.bounds.specs.Bounds.{mostVariables, greatestWeight, greatestScale}
 use Rattle.answers.specs.Searches.{first}
 use Rattle.answers.specs.declared.searches.Found.{Found}
 use Rattle.answers.specs.declared.searches.Found.the-variants.{At, Nothing}
@@ -32,16 +32,21 @@ use Rattle.squares.specs.Sums.{Sum, coefficient}
 use Rattle.squares.specs.Targets.{lowered, worst}
 use Rattle.squares.proofs.Targets.{worst-kept, worst-negative, worst-positive, target-is, lowered-constant, lowered-other}
 use Rattle.squares.proofs.Sums.{coefficient-nil, coefficient-cons, coefficient-append}
-use Rattle.sheets.specs.Layout.{variables, termCount, maskOf, ClaimRoom}
+use Rattle.sheets.specs.Layout.{variables, termCount, maskOf, ClaimRoom, LimitsRoom}
 use Rattle.sheets.specs.ClaimSheet.{floorOf, termPoint, coefficientOf, termOf, termsOf}
 use Rattle.sheets.proofs.claim_sheet.Laws.{terms-table, term-point, term-coefficient}
 use Rattle.rows.specs.ProofSheet.{scaleOf}
+use Rattle.limits.specs.LimitsSheet.{limitsOf}
+use Rattle.limits.specs.LimitChecks.{RightLimits}
+use Rattle.limits.specs.Additions.{limitsAdd}
+use Rattle.limits.specs.declared.limits_sheet.Limits.{Limits}
+use Rattle.limits.proofs.additions.Laws.{limits-small, additions-are}
 use Rattle.claims.specs.ClaimChecks.{ClaimFacts}
 use Rattle.claims.proofs.claim_checks.Laws.{points-differ}
-use Rattle.targets.specs.Targets.{AimWithin, Targeted, aimOf, targetOf, hasKey, loweredBy, coefficientFound, coefficientWith, targetWith}
+use Rattle.targets.specs.Targets.{AimWithin, Targeted, aimOf, atFloor, targetOf, hasKey, loweredBy, coefficientFound, coefficientWith, targetWith}
 use Rattle.targets.specs.Carried.{Carried}
 use Rattle.targets.specs.declared.targets.Aim.{Aim}
-use Rattle.targets.proofs.Carried.{term-carried, constant-carried, carried-same}
+use Rattle.targets.proofs.Carried.{term-carried, constant-carried, carried-below, carried-same}
 
 -- ---- lowered_by: x is a coefficient
 
@@ -112,12 +117,20 @@ module _ (S : ℕ) (x x′ : ℤ) (hS : S ≤ greatestScale) (h : natAbs x ≤ 2
   pub scaled-small : natAbs (back (toZ w64 S *ℤ x′)) ≤ 2 ^ 51
   scaled-small = rw product-is product-small
 
--- ---- aim_of: b and S are what the sheets say
+-- ---- aim_of and at_floor: b, S and r are what the sheets say
 
-pub aim-is : (c s : List ℕ) (b b′ : ℤ) (S : ℕ) → b ≡ floorOf c → S ≡ scaleOf s → b′ ≡ b
-    → record { floor = b′; scale = S } ≡ aimOf c s
-unfolding aimOf
-aim-is c s b b′ S eb eS e = rw (e, eb, eS)
+module _ (c l : List ℕ) (n : ℕ) (en : n ≡ variables c) where
+  pub limits-asked : LimitsRoom l (variables c) → LimitsRoom l n
+  limits-asked h = rw en h
+
+  pub aim-is : (s : List ℕ) (b b′ : ℤ) (S : ℕ) (r : Limits) → b ≡ floorOf c → S ≡ scaleOf s → r ≡ limitsOf l n → b′ ≡ b
+      → record { floor = b′; scale = S; limits = r } ≡ aimOf c s l
+  unfolding aimOf
+  aim-is s b b′ S r eb eS er e = rw (e, eb, eS, er, en)
+
+pub at-floor-is : (a : Aim) (b b′ : ℤ) → b′ ≡ b → record { floor = b′; scale = a .scale; limits = a .limits } ≡ atFloor a b
+unfolding atFloor
+at-floor-is a b b′ e = rw e
 
 -- ---- has_key
 
@@ -214,11 +227,13 @@ module _ (c : List ℕ) (n t : ℕ) (facts : ClaimFacts c n t) (α : Exponents) 
 
   -- the target, from the coefficient of the polynomial
   target-here : (a : Aim) (x : ℤ) → n ≡ variables c → t ≡ termCount c → x ≡ coefficient α (terms t)
-      → targetWith (maskOf c) a α (keyOf α) x ≡ targetOf c a α
+      → RightLimits (a .limits) → targetWith n (maskOf c) a α (keyOf α) x ≡ targetOf c a α
   unfolding targetWith targetOf loweredBy
-  target-here a x en et ex =
+  target-here a x en et ex right =
       rw (ex, terms-table c n t en et, target-is, ← en)
+      (ap₂ _+ℤ_
       (ap (λ (y : ℤ). pos (a .scale) *ℤ worst (keepsSign (maskOf c) α) y) (go (samePoint α (replicate n 0)) refl))
+      (additions-are n α (carried .sized) (carried-below n α carried) (a .limits) right n (le-refl n)))
     where
       f : Sum
       f = termsOf c
@@ -229,13 +244,31 @@ module _ (c : List ℕ) (n t : ℕ) (facts : ClaimFacts c n t) (α : Exponents) 
       go true e = rw (constant-there, e) (sym (lowered-constant n (a .floor) f α e))
       go false e = rw (constant-there, e) (sym (lowered-other n (a .floor) f α e))
 
--- ---- target_with: x is the coefficient, y the same with the floor taken from it, z with the worst sign
+-- ---- target_with: x is the coefficient, y the same with the floor taken from it, z with the worst sign, r that times the
+-- scale, s what the limits add
 
-pub with-made : (mask : ℕ) (a : Aim) (p : Point) (key : ℕ) (k : Bool) (x x′ y y′ z z′ r r′ : ℤ)
-    → r ≡ pos (a .scale) *ℤ z′ → z ≡ worst k y′ → y ≡ loweredBy a key x′ → k ≡ keepsSign mask (exponents p)
-    → r′ ≡ r → z′ ≡ z → y′ ≡ y → x′ ≡ x → r′ ≡ targetWith mask a (exponents p) key x
-unfolding targetWith
-with-made mask a p key k x x′ y y′ z z′ r r′ er ez ey ek br bz by bx = br ∙ er ∙ rw (bz, ez, ek, by, ey, bx)
+module _ (n key : ℕ) (a : Aim) (r r′ s s′ : ℤ) (es : s ≡ limitsAdd (a .limits) key n) (br : r′ ≡ r) (bs : s′ ≡ s)
+    (small : natAbs r ≤ 2 ^ 51) (few : n ≤ mostVariables) (within : AimWithin a) where
+  sum-small : natAbs (r′ +ℤ s′) ≤ 2 ^ 60
+  sum-small =
+      rw (br, bs, es) (omega (
+        arith,
+        abs-add r (limitsAdd (a .limits) key n),
+        limits-small (a .limits) key (within .limits-right) n,
+      ))
+
+  pub sum-fits : SFits w64 (r′ +ℤ s′)
+  sum-fits = fits-within (r′ +ℤ s′) (2 ^ 60) sum-small (lit< tt)
+
+  pub with-small : natAbs (back (r′ +ℤ s′)) ≤ 2 ^ 60
+  with-small = rw (toZ-ofZ sum-fits) sum-small
+
+  pub with-made : (mask : ℕ) (p : Point) (k : Bool) (x x′ y y′ z z′ : ℤ)
+      → r ≡ pos (a .scale) *ℤ z′ → z ≡ worst k y′ → y ≡ loweredBy a key x′ → k ≡ keepsSign mask (exponents p)
+      → z′ ≡ z → y′ ≡ y → x′ ≡ x → back (r′ +ℤ s′) ≡ targetWith n mask a (exponents p) key x
+  unfolding targetWith
+  with-made mask p k x x′ y y′ z z′ er ez ey ek bz by bx =
+      toZ-ofZ sum-fits ∙ rw (br, bs, es, er, bz, ez, ek, by, ey, bx)
 
 -- ---- target_at and term_target: m is the mask, x the coefficient, r the target
 
@@ -250,10 +283,12 @@ module _ (c : List ℕ) (n t : ℕ) (en : n ≡ variables c) (et : t ≡ termCou
   carried : Carried n α
   carried = rw en (given .point)
 
-  module _ (m : ℕ) (em : m ≡ maskOf c) (x x′ r r′ : ℤ) (er : r ≡ targetWith m a α key x′) (br : r′ ≡ r)
+  module _ (m : ℕ) (em : m ≡ maskOf c) (x x′ r r′ : ℤ) (er : r ≡ targetWith n m a α key x′) (br : r′ ≡ r)
       (bx : x′ ≡ x) where
     made : x ≡ coefficient α (table (termOf c n t) t) → r′ ≡ targetOf c a α
-    made ex = br ∙ er ∙ rw (em, bx, given .keyed) (target-here c n t facts-here α carried a x en et ex)
+    made ex =
+        br ∙ er ∙ rw (em, bx, given .keyed)
+        (target-here c n t facts-here α carried a x en et ex (given .aim .limits-right))
 
     pub target-made : x ≡ coefficientWith c n t key → r′ ≡ targetOf c a α
     target-made ex = made (ex ∙ rw (given .keyed) (coefficient-found c n t facts-here α carried))
