@@ -43,7 +43,7 @@ shiftedRow τ s i = shiftRow τ (slots (rowsOf s)) (slotsBefore s i) (rowOf s (s
 unfoldable pub shiftedRows : (Exponents → ℤ) → List ℕ → List Row
 shiftedRows τ s = table (shiftedRow τ s) (rowCount s)
 
--- two sheets that pass their checks, with a floor and a scale
+-- a claim and a proof that pass their checks, with a floor, a scale and limits
 pub record CheckedSheets (c s : List ℕ) (a : Aim) : Type 0 where
   pub claim : ClaimFacts c (variables c) (termCount c)
   pub proof : ProofFacts s (shapeOf s)

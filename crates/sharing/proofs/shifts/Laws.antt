@@ -24,7 +24,7 @@ use Rattle.rows.specs.ProofSheet.{vOf, wOf, rowOf, rowsOf, Suits}
 use Rattle.rows.proofs.proof_sheet.Laws.{row-placed, row-lone, row-pair, row-v, row-w, v-length, w-length, rows-table}
 use Rattle.checks.specs.ProofChecks.{ProofFacts}
 use Rattle.checks.specs.Input.{WellFormed}
-use Rattle.checks.proofs.input.Laws.{claim-formed, same-formed, proof-formed}
+use Rattle.checks.proofs.input.Laws.{claim-formed, same-formed, proof-formed, limits-formed}
 use Rattle.targets.specs.Targets.{aimOf, Targeted}
 use Rattle.targets.specs.Carried.{Carried}
 use Rattle.targets.specs.declared.targets.Aim.{Aim}
@@ -35,17 +35,17 @@ use Rattle.sharing.specs.Slots.{slotsTo}
 use Rattle.sharing.proofs.Sharing.{count-append, from-nil, from-cons, shifted-adds, shifted-unheld, weight-stays, gathered-shifted}
 use Rattle.sharing.proofs.slots.Laws.{all-slots}
 
--- ---- well-formed sheets, with their own floor and scale
+-- ---- well-formed sheets, with their own floor, scale and limits
 
-pub sheets-checked : (c s : List ℕ) → WellFormed c s → CheckedSheets c s (aimOf c s)
-sheets-checked c s f =
-    let claim = claim-formed c s f in
-    let proof = proof-formed c s f in
+pub sheets-checked : (c s l : List ℕ) → WellFormed c s l → CheckedSheets c s (aimOf c s l)
+sheets-checked c s l f =
+    let claim = claim-formed c s l f in
+    let proof = proof-formed c s l f in
     record {
       claim = claim;
       proof = proof;
-      same = same-formed c s f;
-      aim = aim-within c s (claim .floor-within) (proof .header .scale-within);
+      same = same-formed c s l f;
+      aim = aim-within c s l (claim .floor-within) (proof .header .scale-within) (limits-formed c s l f);
     }
 
 -- ---- what they give the functions: sh is the shape that was read

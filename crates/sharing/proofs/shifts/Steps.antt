@@ -45,15 +45,15 @@ use Rattle.sharing.proofs.shifts.Laws.{proof-checked}
 
 -- ---- moved: z is the target, y the share
 
-module _ (z z′ : ℤ) (h : Holding) (ha : natAbs z ≤ 2 ^ 51) (hs : natAbs (h .sum) ≤ 2 ^ 42) (ea : z′ ≡ z) where
-  error-small : natAbs (z -ℤ h .sum) ≤ 2 ^ 52
+module _ (z z′ : ℤ) (h : Holding) (ha : natAbs z ≤ 2 ^ 60) (hs : natAbs (h .sum) ≤ 2 ^ 42) (ea : z′ ≡ z) where
+  error-small : natAbs (z -ℤ h .sum) ≤ 2 ^ 61
   error-small = omega (arith, abs-sub z (h .sum))
 
   sum-back : back (h .sum) ≡ h .sum
   sum-back = toZ-ofZ (fits-within {w = w64} (h .sum) (2 ^ 42) hs (lit< tt))
 
   pub error-fits : SFits w64 (z′ -ℤ back (h .sum))
-  error-fits = rw (ea, sum-back) (fits-within (z -ℤ h .sum) (2 ^ 52) error-small (lit< tt))
+  error-fits = rw (ea, sum-back) (fits-within (z -ℤ h .sum) (2 ^ 61) error-small (lit< tt))
 
   module _ (x x′ e y y′ : ℤ) (ey : y ≡ share e (h .count) (h .rank)) (hx : natAbs x ≤ greatestWeight)
       (ee : e ≡ back (z′ -ℤ back (h .sum))) (ex : x′ ≡ x) (by : y′ ≡ y) where
@@ -67,7 +67,7 @@ module _ (z z′ : ℤ) (h : Holding) (ha : natAbs z ≤ 2 ^ 51) (hs : natAbs (h
     moved-fits =
         let d : ℤ = share (z -ℤ h .sum) (h .count) (h .rank) in
         let g = share-abs (z -ℤ h .sum) (h .count) (h .rank) in
-        rw (ex, share-is) (fits-within (x +ℤ d) (2 ^ 53) (omega (arith, error-small, g, abs-add x d)) (lit< tt))
+        rw (ex, share-is) (fits-within (x +ℤ d) (2 ^ 62) (omega (arith, error-small, g, abs-add x d)) (lit< tt))
 
     pub moved-is : back (x′ +ℤ y′) ≡ x +ℤ share (z -ℤ h .sum) (h .count) (h .rank)
     moved-is = toZ-ofZ moved-fits ∙ rw (ex, share-is)
