@@ -6,11 +6,16 @@ use Rattle.bounds.specs.Bounds.{greatestWeight}
 use Rattle.answers.specs.Answers.{Answer, andThen}
 use Rattle.points.specs.Points.{Exponents}
 use Rattle.sheets.specs.Layout.{rowCount}
+use Rattle.targets.specs.Targets.{targetOf}
+use Rattle.targets.specs.declared.targets.Aim.{Aim}
 use Rattle.sharing.specs.Shifts.{shiftedRow}
 use Rattle.judgements.specs.Judgements.{firstsTo, judgedAnswer}
 use Rattle.weighing.specs.Unheld.{unheldAnswer}
 
--- 16 to 19; τ gives each point's target
-unfoldable pub weighedAnswer : (Exponents → ℤ) → List ℕ → List ℕ → Answer
-weighedAnswer τ c s =
-    andThen (unheldAnswer τ c s) (judgedAnswer (firstsTo greatestWeight (shiftedRow τ s) (rowCount s)) (rowCount s))
+-- 17 to 19; τ gives each point's target
+unfoldable pub rowsJudged : (Exponents → ℤ) → List ℕ → Answer
+rowsJudged τ s = judgedAnswer (firstsTo greatestWeight (shiftedRow τ s) (rowCount s)) (rowCount s)
+
+-- 16 to 19
+unfoldable pub weighedAnswer : List ℕ → List ℕ → Aim → Answer
+weighedAnswer c s a = andThen (unheldAnswer c s a) (rowsJudged (targetOf c a) s)

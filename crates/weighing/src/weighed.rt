@@ -19,8 +19,8 @@ ghost use Rattle.answers.specs.Answers.{says};
 ghost use Rattle.sheets.specs.Layout.{rowCount};
 ghost use Rattle.targets.specs.Targets.{targetOf};
 ghost use Rattle.sharing.specs.Shifts.{shiftedRow, CheckedSheets};
-ghost use Rattle.judgements.specs.Judgements.{judgementOf, firstsTo, judgedAnswer};
-ghost use Rattle.weighing.specs.Weighed.{weighedAnswer};
+ghost use Rattle.judgements.specs.Judgements.{judgementOf, firstsTo};
+ghost use Rattle.weighing.specs.Weighed.{rowsJudged, weighedAnswer};
 
 // How row i is judged, with its shifted weights.
 pub fn judge_row(claim: &[u8], proof: &[u8], aim: Aim, i: usize) -> Judgement
@@ -53,10 +53,7 @@ fn judge_all(claim: &[u8], proof: &[u8], aim: Aim, k: usize) -> Firsts
 // The checks 17 to 19.
 fn check_judged(claim: &[u8], proof: &[u8], aim: Aim) -> Verdict
     requires { ⌜ CheckedSheets (now claim) (now proof) aim ⌝ }
-    ensures { λ r. ⌜ says r ≡ judgedAnswer
-        (firstsTo greatestWeight (shiftedRow (targetOf (now (claim .entry)) aim) (now (proof .entry)))
-        (rowCount (now (proof .entry))))
-        (rowCount (now (proof .entry))) ⌝ }
+    ensures { λ r. ⌜ says r ≡ rowsJudged (targetOf (now (claim .entry)) aim) (now (proof .entry)) ⌝ }
 {
     let k = row_count(proof);
     chosen(judge_all(claim, proof, aim, k), k)
@@ -65,8 +62,7 @@ fn check_judged(claim: &[u8], proof: &[u8], aim: Aim) -> Verdict
 // The checks 16 to 19, for an aim.
 pub fn weigh(claim: &[u8], proof: &[u8], aim: Aim) -> Verdict
     requires { ⌜ CheckedSheets (now claim) (now proof) aim ⌝ }
-    ensures { λ r. ⌜ says r
-        ≡ weighedAnswer (targetOf (now (claim .entry)) aim) (now (claim .entry)) (now (proof .entry)) ⌝ }
+    ensures { λ r. ⌜ says r ≡ weighedAnswer (now (claim .entry)) (now (proof .entry)) aim ⌝ }
 {
     if let Found::At(i) = first_unheld(claim, proof, aim) {
         return Verdict::Refused(Sheet::Proof(16, i));

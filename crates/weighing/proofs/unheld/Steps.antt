@@ -1,59 +1,79 @@
 -- The steps of check 16.
 use mathlib.Core.Path.{_≡_, refl, sym, _∙_}
-use mathlib.Core.Bool.{Bool, true, false, cond}
+use mathlib.Core.Bool.{Bool, true, false}
 use mathlib.Core.List.{List}
-use Prim.Native.Nat.{ℕ, suc, _+_, _≤_, _<_}
+use mathlib.Core.Logic.{inl, inr, ⊎-elim}
+use Prim.Native.Nat.{ℕ, _+_, _-_, _≤_, _<_}
 use native.Mathlib.Omega.{arith}
-use lib.Dec.{eqb, ltb}
+use lib.Dec.{eqb}
 use lib.IntN.{ℤ, natAbs}
 use lib.ListN.{replicate}
-use borrow.Author.Tests.{eq-eqb, lt-ltb, le-ltb, ltb-true}
-use Rattle.bounds.specs.Bounds.{mostVariables}
+use borrow.Author.Tests.{eq-eqb}
+use Rattle.bounds.specs.Bounds.{mostVariables, greatestExponent}
 use Rattle.answers.specs.Searches.{first}
 use Rattle.answers.specs.declared.searches.Found.the-variants.{At, Nothing}
 use Rattle.answers.proofs.searches.Laws.{first-stop, first-next, first-end}
-use Rattle.points.specs.Points.{Exponents, exponents, pointOf}
+use Rattle.points.specs.Points.{Exponents, exponents, pointOf, pureAt}
 use Rattle.points.specs.declared.points.Point.{Point}
 use Rattle.points.proofs.points.Laws.{exponents-of, zeros-point}
 use Rattle.keys.specs.Keys.{keyOf}
 use Rattle.squares.specs.Rows.{slots}
+use Rattle.squares.specs.declared.limits.Limit.{Limit}
 use Rattle.sheets.specs.Layout.{variables, termCount, shapeOf}
 use Rattle.sheets.specs.ClaimSheet.{termPoint}
 use Rattle.sheets.specs.declared.layout.Shape.{Shape}
 use Rattle.rows.specs.ProofSheet.{rowsOf}
+use Rattle.limits.specs.LimitsSheet.{limitIn}
+use Rattle.limits.specs.LimitChecks.{RightLimit, RightLimits}
+use Rattle.limits.specs.declared.limits_sheet.Limits.{Limits}
 use Rattle.claims.specs.ClaimChecks.{ClaimFacts}
 use Rattle.checks.specs.ProofChecks.{ProofFacts}
 use Rattle.targets.specs.Carried.{Carried, CarriedKey}
 use Rattle.targets.specs.Targets.{targetOf, Targeted}
 use Rattle.targets.specs.declared.targets.Aim.{Aim}
-use Rattle.targets.proofs.Carried.{term-carried, constant-carried}
+use Rattle.targets.proofs.Carried.{term-carried, constant-carried, pure-carried}
 use Rattle.sharing.specs.Sharing.{count}
 use Rattle.sharing.specs.Slots.{slotsTo, HoldsKey, CountsKey, holdsPoint}
 use Rattle.sharing.specs.Shifts.{CheckedSheets}
 use Rattle.sharing.proofs.slots.Laws.{point-held, point-unheld, all-slots}
 use Rattle.sharing.proofs.shifts.Laws.{proof-checked, targeted}
-use Rattle.weighing.specs.Unheld.{pointFor, unheldAt, unheld}
-use Rattle.weighing.proofs.unheld.Laws.{held-met, zero-met}
+use Rattle.weighing.specs.Unheld.{pointCount, pointFor, unheldAt, unheld}
+use Rattle.weighing.proofs.unheld.Laws.{point-term, point-constant, point-pure, point-each, held-met, zero-met}
 
 -- ---- point_for
 
-module _ (c : List ℕ) (n t i : ℕ) where
-  pub point-term : (r : Point) → r ≡ pointOf (termPoint c n i) → i < t → r ≡ pointOf (pointFor c n t i)
-  unfolding pointFor
-  point-term r er l = er ∙ rw (lt-ltb i t l)
+module _ (c : List ℕ) (limits : Limits) (n t i : ℕ) where
+  pub term-is : (r : Point) → r ≡ pointOf (termPoint c n i) → i < t → r ≡ pointOf (pointFor c limits n t i)
+  term-is r er l = er ∙ rw (point-term c limits n t i l)
 
-  pub point-constant : n ≤ mostVariables → t ≤ i
-      → record { exps = replicate mostVariables 0; n = n } ≡ pointOf (pointFor c n t i)
-  unfolding pointFor
-  point-constant h l = rw (le-ltb i t l) (zeros-point n h)
+  pub constant-is : n ≤ mostVariables → i ≡ t
+      → record { exps = replicate mostVariables 0; n = n } ≡ pointOf (pointFor c limits n t i)
+  constant-is h e = rw (point-constant c limits n t i e) (zeros-point n h)
 
-  point-carried : ClaimFacts c n t → Carried n (pointFor c n t i)
-  unfolding pointFor
-  point-carried f = go (ltb i t) refl
+  -- after the constant: r is the limit's pure power
+  module _ (l : t ≤ i) (d : i ≡ t → ⊥) (inside : i < pointCount n t) where
+    pub pure-variable : i - t - 1 < n
+    pure-variable = omega arith
+
+    pub pure-place : n ≤ mostVariables → i - t - 1 < mostVariables
+    pure-place few = omega arith
+
+    pub pure-is : (r : Point) (x : Limit) → r ≡ pointOf (pureAt n (i - t - 1) (x .power))
+        → x ≡ limitIn limits (i - t - 1) → r ≡ pointOf (pointFor c limits n t i)
+    pure-is r x er ex = er ∙ rw (ex, point-pure c limits n t i (i - t - 1) (omega arith))
+
+  -- powers are low
+  low : RightLimits limits → (j : ℕ) → limitIn limits j .power ≤ greatestExponent
+  low right j = go (right .right j)
     where
-      go : (b : Bool) → ltb i t ≡ b → Carried n (cond b (termPoint c n i) (replicate n 0))
-      go true e = term-carried c n t i f (ltb-true i t e)
-      go false e = constant-carried n
+      go : RightLimit (limitIn limits j) → limitIn limits j .power ≤ greatestExponent
+      go (inl u) = omega (arith, u .power-none)
+      go (inr h) = ⊎-elim (λ e. omega arith) (λ e. omega arith) (h .power-right)
+
+  point-carried : ClaimFacts c n t → RightLimits limits → Carried n (pointFor c limits n t i)
+  point-carried f right =
+      point-each c limits n t i (Carried n) (term-carried c n t i f) (constant-carried n)
+      (λ j. pure-carried n j (limitIn limits j .power) (low right j))
 
 -- ---- no_target: x is the target, t the number of terms
 
@@ -65,10 +85,9 @@ module _ (c : List ℕ) (t i : ℕ) (et : t ≡ termCount c) (l : i < t) where
   pub term-counted : i < termCount c
   term-counted = rw et at l
 
-  pub point-of-term : (p : Point) → exponents p ≡ pointFor c (variables c) (termCount c) i
+  pub point-of-term : (limits : Limits) (p : Point) → exponents p ≡ pointFor c limits (variables c) (termCount c) i
       → exponents p ≡ termPoint c (variables c) i
-  unfolding pointFor
-  point-of-term p e = e ∙ rw (lt-ltb i (termCount c) term-counted)
+  point-of-term limits p e = e ∙ point-term c limits (variables c) (termCount c) i term-counted
 
 -- ---- a point with no target, one that is held, and one that is neither
 
@@ -90,16 +109,19 @@ module _ (c s : List ℕ) (a : Aim) (given : CheckedSheets c s a) (n t : ℕ) (s
   same-here : n ≡ sh .n
   same-here = en ∙ rw (es, given .same)
 
-  pub point-inside : (i : ℕ) → i ≤ termCount c → i ≤ t
-  point-inside i l = rw et l
+  pub point-inside : (i : ℕ) → i < pointCount (variables c) (termCount c) → i < pointCount n t
+  point-inside i l = rw (en, et) l
+
+  pub points-counted : (i m : ℕ) → m ≡ pointCount (variables c) (termCount c) → i < m → i < pointCount n t
+  points-counted i m em l = point-inside i (rw em at l)
 
   -- point i of those that are looked at
   module _ (i : ℕ) where
     abbrev α : Exponents
-    α = pointFor c n t i
+    α = pointFor c (a .limits) n t i
 
     carried : Carried n α
-    carried = point-carried c n t i claim-here
+    carried = point-carried c (a .limits) n t i claim-here (given .aim .limits-right)
 
     carried-too : Carried (sh .n) α
     carried-too = record { sized = carried .sized ∙ same-here; within = carried .within }
@@ -117,7 +139,7 @@ module _ (c s : List ℕ) (a : Aim) (given : CheckedSheets c s a) (n t : ℕ) (s
       point-here : Carried (variables c) (exponents p)
       point-here = rw (point-is, ← en) carried
 
-      pub point-looked : exponents p ≡ pointFor c (variables c) (termCount c) i
+      pub point-looked : exponents p ≡ pointFor c (a .limits) (variables c) (termCount c) i
       point-looked = point-is ∙ rw (en, et)
 
       module _ (key : ℕ) (e : key ≡ keyOf (exponents p)) where
@@ -131,7 +153,7 @@ module _ (c s : List ℕ) (a : Aim) (given : CheckedSheets c s a) (n t : ℕ) (s
         looked-carried = key-carried key key-here
 
     abbrev wrong : ℕ → Bool
-    wrong = unheld (targetOf c a) c s
+    wrong = unheld c s a
 
     here : wrong i ≡ unheldAt (targetOf c a) s α
     unfolding unheld
@@ -155,11 +177,11 @@ module _ (c s : List ℕ) (a : Aim) (given : CheckedSheets c s a) (n t : ℕ) (s
         counted : m ≡ count α (slots (rowsOf s))
         counted = em .counts α carried-too (key-here p ep key e) ∙ rw slots-here
 
-        pub unheld-counted : r ≡ false → eqb m 0 ≡ unheld (targetOf c a) c s i
+        pub unheld-counted : r ≡ false → eqb m 0 ≡ unheld c s a i
         unfolding unheldAt
         unheld-counted h = sym (here ∙ rw (target-some h, ← counted))
 
-      pub unheld-zero : r ≡ true → false ≡ unheld (targetOf c a) c s i
+      pub unheld-zero : r ≡ true → false ≡ unheld c s a i
       unheld-zero h = sym (here ∙ zero-met (targetOf c a) s α (target-tested ∙ h))
 
     -- r is what row j answered for the key
@@ -171,15 +193,17 @@ module _ (c s : List ℕ) (a : Aim) (given : CheckedSheets c s a) (n t : ℕ) (s
       held-next h l =
           met (held-met (targetOf c a) s α (rw slots-here at (point-held s sh α j l (sym row-answered ∙ h))))
 
-    pub unheld-stop : (j i′ : ℕ) → i ≤ t → sh .k ≤ j → j ≤ sh .k → eqb (natAbs (targetOf c a α)) 0 ≡ false
-        → first (holdsPoint s sh α) j ≡ Nothing → first wrong i ≡ Nothing → i′ ≡ i
-        → At i′ ≡ first wrong (suc (termCount c))
-    unheld-stop j i′ l m o h rows before ei =
-        let q : j ≡ sh .k = omega arith in
-        let none : count α (slotsTo s sh (sh .k)) ≡ 0 = point-unheld s sh α (rw q at rows) in
-        let unheld-here = here ∙ unmet (targetOf c a) s α h (rw slots-here at none) in
-        let inside : i < suc (termCount c) = omega (arith, et) in
-        rw ei (first-stop wrong (suc (termCount c)) i true inside before (sym unheld-here) refl)
+    -- m is the number of points
+    module _ (m : ℕ) (em : m ≡ pointCount (variables c) (termCount c)) where
+      pub unheld-stop : (j i′ : ℕ) → i < m → sh .k ≤ j → j ≤ sh .k → eqb (natAbs (targetOf c a α)) 0 ≡ false
+          → first (holdsPoint s sh α) j ≡ Nothing → first wrong i ≡ Nothing → i′ ≡ i
+          → At i′ ≡ first wrong (pointCount (variables c) (termCount c))
+      unheld-stop j i′ l k o h rows before ei =
+          let q : j ≡ sh .k = omega arith in
+          let none : count α (slotsTo s sh (sh .k)) ≡ 0 = point-unheld s sh α (rw q at rows) in
+          let unheld-here = here ∙ unmet (targetOf c a) s α h (rw slots-here at none) in
+          rw (ei, ← em) (first-stop wrong m i true l before (sym unheld-here) refl)
 
-    pub terms-end : t < i → i ≤ suc t → first wrong i ≡ Nothing → Nothing ≡ first wrong (suc (termCount c))
-    terms-end l m before = first-end wrong (suc (termCount c)) i (omega (arith, et)) (omega (arith, et)) before
+      pub points-end : m ≤ i → i ≤ m → first wrong i ≡ Nothing
+          → Nothing ≡ first wrong (pointCount (variables c) (termCount c))
+      points-end l k before = rw (← em) (first-end wrong m i l k before)

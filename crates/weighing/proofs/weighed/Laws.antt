@@ -2,7 +2,7 @@
 use mathlib.Core.Path.{_≡_, _∙_}
 use mathlib.Core.Bool.{true, false}
 use mathlib.Core.List.{List}
-use Prim.Native.Nat.{ℕ, suc, _<_}
+use Prim.Native.Nat.{ℕ, _<_}
 use native.Mathlib.Omega.{arith}
 use lib.IntN.{ℤ}
 use Rattle.integers.proofs.words.Laws.{Bytes}
@@ -20,39 +20,42 @@ use Rattle.checks.specs.ProofChecks.{Within}
 use Rattle.checks.proofs.proof_checks.Laws.{rows-counted}
 use Rattle.targets.specs.Targets.{targetOf}
 use Rattle.targets.specs.declared.targets.Aim.{Aim}
+use Rattle.targets.proofs.targets.Laws.{targets-floored}
 use Rattle.sharing.specs.Shifts.{shiftedRow, shiftedRows}
 use Rattle.sharing.proofs.shifts.Laws.{rows-all, rows-each}
 use Rattle.judgements.specs.Judgements.{judgedAs}
 use Rattle.judgements.proofs.judgements.Laws.{each-holds, holds-accepted, judged-passed, judged-accepted, judged-short}
-use Rattle.weighing.specs.Unheld.{unheld}
+use Rattle.weighing.specs.Unheld.{pointCount, unheld}
 use Rattle.weighing.specs.Exact.{weightsFor, AllWithin}
-use Rattle.weighing.specs.Weighed.{weighedAnswer}
+use Rattle.weighing.specs.Weighed.{rowsJudged, weighedAnswer}
 use Rattle.weighing.proofs.unheld.Laws.{none-passes, passes-none, unheld-floored, unheld-passes, unheld-passed, met-adds, adds-met, unheld-short}
 
 -- ---- 16 to 19 are passed exactly where no point is unheld that is looked at, and every row is judged to hold
 
-module _ (τ : Exponents → ℤ) (c s : List ℕ) where
-  pub tests-passed : Passes (weighedAnswer τ c s)
-      → ((i : ℕ) → i < suc (termCount c) → unheld τ c s i ≡ false)
-      × ((i : ℕ) → i < rowCount s → judgedAs 0 greatestWeight (shiftedRow τ s) i ≡ true)
-  unfolding weighedAnswer
-  tests-passed h = let p = passes-then _ _ h in (passes-none τ c s (p .0), each-holds _ _ (rowCount s) (p .1))
-
-  pub tests-pass : ((i : ℕ) → i < suc (termCount c) → unheld τ c s i ≡ false)
-      → ((i : ℕ) → i < rowCount s → judgedAs 0 greatestWeight (shiftedRow τ s) i ≡ true)
-      → weighedAnswer τ c s ≡ accepted (rowCount s)
-  unfolding weighedAnswer
-  tests-pass points rows = then-on _ _ (none-passes τ c s points) ∙ holds-accepted _ _ (rowCount s) rows
-
-  pub weighed-floored : (b : ℤ) → weighedAnswer τ (withFloor c b) s ≡ weighedAnswer τ c s
-  unfolding weighedAnswer
-  weighed-floored b = rw (unheld-floored τ c s b)
-
--- ---- 16 to 19 are passed exactly where the weights are within the limit, every row holds, and they add up
-
 module _ (c s : List ℕ) (a : Aim) where
   abbrev pub τ : Exponents → ℤ
   τ = targetOf c a
+
+  abbrev points : ℕ
+  points = pointCount (variables c) (termCount c)
+
+  pub tests-passed : Passes (weighedAnswer c s a)
+      → ((i : ℕ) → i < points → unheld c s a i ≡ false)
+      × ((i : ℕ) → i < rowCount s → judgedAs 0 greatestWeight (shiftedRow τ s) i ≡ true)
+  unfolding weighedAnswer rowsJudged
+  tests-passed h = let p = passes-then _ _ h in (passes-none c s a (p .0), each-holds _ _ (rowCount s) (p .1))
+
+  pub tests-pass : ((i : ℕ) → i < points → unheld c s a i ≡ false)
+      → ((i : ℕ) → i < rowCount s → judgedAs 0 greatestWeight (shiftedRow τ s) i ≡ true)
+      → weighedAnswer c s a ≡ accepted (rowCount s)
+  unfolding weighedAnswer rowsJudged
+  tests-pass held rows = then-on _ _ (none-passes c s a held) ∙ holds-accepted _ _ (rowCount s) rows
+
+  pub weighed-floored : (b : ℤ) → weighedAnswer (withFloor c b) s a ≡ weighedAnswer c s a
+  unfolding weighedAnswer
+  weighed-floored b = rw (unheld-floored c s a b, targets-floored c a b)
+
+  -- ---- 16 to 19 are passed exactly where the weights are within the limit, every row holds, and they add up
 
   abbrev AllHold : Type 0
   AllHold = All (λ r. Holds (r .weights)) (shiftedRows τ s)
@@ -60,10 +63,10 @@ module _ (c s : List ℕ) (a : Aim) where
   abbrev Adds : Type 0
   Adds = AddsUp (variables c) τ (slots (shiftedRows τ s))
 
-  module _ (h : Passes (weighedAnswer τ c s)) where
+  module _ (h : Passes (weighedAnswer c s a)) where
     judged : (i : ℕ) → i < rowCount s
         → Within greatestWeight (tripleFor (shiftedRow τ s i .weights)) × Holds (shiftedRow τ s i .weights)
-    unfolding weighedAnswer
+    unfolding weighedAnswer rowsJudged
     judged = judged-passed greatestWeight (shiftedRow τ s) (rowCount s) (passes-then _ _ h .1)
 
     pub weighed-within : AllWithin greatestWeight τ s
@@ -77,15 +80,15 @@ module _ (c s : List ℕ) (a : Aim) where
     unfolding weighedAnswer
     weighed-adds α l = met-adds τ s α (unheld-passed c s a (passes-then _ _ h .0) α)
 
-  pub weighed-accepted : AllWithin greatestWeight τ s → AllHold → Adds → weighedAnswer τ c s ≡ accepted (rowCount s)
-  unfolding weighedAnswer weightsFor
+  pub weighed-accepted : AllWithin greatestWeight τ s → AllHold → Adds → weighedAnswer c s a ≡ accepted (rowCount s)
+  unfolding weighedAnswer rowsJudged weightsFor
   weighed-accepted w h d =
       then-on _ _ (unheld-passes c s a (λ α l. adds-met τ s α (d α l)))
       ∙ judged-accepted greatestWeight (shiftedRow τ s) (rowCount s)
       (λ i l. (w .within i l, rows-each τ s (λ r. Holds (r .weights)) h i l))
 
-  pub weighed-short : {limit : ℕ} → 19 < limit → Bytes c → Bytes s → Short limit (weighedAnswer τ c s)
-  unfolding weighedAnswer
+  pub weighed-short : {limit : ℕ} → 19 < limit → Bytes c → Bytes s → Short limit (weighedAnswer c s a)
+  unfolding weighedAnswer rowsJudged
   weighed-short h bc bs =
-      short-then _ _ (unheld-short τ c s (omega arith) bc)
+      short-then _ _ (unheld-short c s a (omega arith) bc)
       (judged-short greatestWeight (shiftedRow τ s) (rowCount s) h (rows-counted s bs))
