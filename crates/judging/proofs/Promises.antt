@@ -17,14 +17,15 @@ use Rattle.squares.specs.Rows.{slots}
 use Rattle.squares.specs.Decomposition.{AddsUp}
 use Rattle.squares.specs.Targets.{lowered, target}
 use Rattle.squares.specs.Floor.{Floors}
-use Rattle.squares.proofs.Floor.{floor, floors-unmasked}
+use Rattle.squares.proofs.Floor.{floor, floors-unlimited, floors-unmasked}
 use Rattle.sheets.specs.Layout.{variables, rowCount}
-use Rattle.sheets.specs.ClaimSheet.{domainOf, floorOf, termsOf}
+use Rattle.sheets.specs.ClaimSheet.{floorOf, termsOf}
 use Rattle.sheets.proofs.claim_sheet.Laws.{terms-sized}
 use Rattle.rows.specs.ProofSheet.{scaleOf, rowsOf}
+use Rattle.limits.specs.LimitsSheet.{domainOf}
 use Rattle.checks.specs.Input.{WellFormed}
 use Rattle.checks.proofs.input.Laws.{input-passes, input-formed, input-enough, input-short}
-use Rattle.targets.specs.Targets.{aimOf, targetOf}
+use Rattle.targets.specs.Targets.{aimOf}
 use Rattle.targets.proofs.targets.Laws.{targets-are}
 use Rattle.sharing.specs.Shifts.{shiftedRows, CheckedSheets}
 use Rattle.sharing.proofs.shifts.Laws.{sheets-checked, rows-stay-placed, rows-stay}
@@ -35,47 +36,47 @@ use Rattle.weighing.proofs.exact.Laws.{exact-length, exact-scale, exact-rows, s
 use Rattle.judging.specs.Check.{targetsOf, checkAnswer, outputOf}
 use Rattle.judging.specs.Promises.{Decomposes, CheckPromises}
 
-module _ (c s : List ℕ) where
+module _ (c s l : List ℕ) where
   abbrev τ : Exponents → ℤ
-  τ = targetsOf c s
+  τ = targetsOf c s l
 
   targets-meant : (α : Exponents)
-      → τ α ≡ target (domainOf c) (scaleOf s) (lowered (variables c) (floorOf c) (termsOf c)) α
+      → τ α ≡ target (domainOf c l) (scaleOf s) (lowered (variables c) (floorOf c) (termsOf c)) α
   unfolding targetsOf
-  targets-meant α = targets-are c s α
+  targets-meant α = targets-are c s l α
 
   -- ---- what an acceptance says
 
-  module _ (room : ℕ) (h : Passes (checkAnswer c s room)) where
-    pub accepted-formed : WellFormed c s
+  module _ (room : ℕ) (h : Passes (checkAnswer c s l room)) where
+    pub accepted-formed : WellFormed c s l
     unfolding checkAnswer
-    accepted-formed = input-formed c s room (passes-then _ _ h .0)
+    accepted-formed = input-formed c s l room (passes-then _ _ h .0)
 
     pub accepted-enough : length s ≤ room
     unfolding checkAnswer
-    accepted-enough = input-enough c s room (passes-then _ _ h .0)
+    accepted-enough = input-enough c s l room (passes-then _ _ h .0)
 
-    weighed : Passes (weighedAnswer (targetOf c (aimOf c s)) c s)
-    unfolding checkAnswer targetsOf
+    weighed : Passes (weighedAnswer c s (aimOf c s l))
+    unfolding checkAnswer
     weighed = passes-then _ _ h .1
 
     pub accepted-within : AllWithin greatestWeight τ s
     unfolding targetsOf
-    accepted-within = weighed-within c s (aimOf c s) weighed
+    accepted-within = weighed-within c s (aimOf c s l) weighed
 
-    accepted-decomposes : Decomposes c s (shiftedRows τ s)
+    accepted-decomposes : Decomposes c s l (shiftedRows τ s)
     unfolding targetsOf
     accepted-decomposes = record {
-      hold = weighed-hold c s (aimOf c s) weighed;
-      adds-up = weighed-adds c s (aimOf c s) weighed;
+      hold = weighed-hold c s (aimOf c s l) weighed;
+      adds-up = weighed-adds c s (aimOf c s l) weighed;
     }
 
     -- demand 3, the floor
-    pub floor-kept : Floors (domainOf c) (floorOf c) (termsOf c)
+    pub floor-kept : Floors (domainOf c l) (floorOf c) (termsOf c)
     floor-kept =
-        let own = sheets-checked c s accepted-formed in
+        let own = sheets-checked c s l accepted-formed in
         let d = accepted-decomposes in
-        floor (domainOf c) (scaleOf s) (floorOf c) (termsOf c) (shiftedRows τ s)
+        floor (domainOf c l) (scaleOf s) (floorOf c) (termsOf c) (shiftedRows τ s)
         (record {
           scale = own .proof .header .scale-positive;
           sized = terms-sized c;
@@ -86,108 +87,109 @@ module _ (c s : List ℕ) where
 
   -- ---- and what is accepted
 
-  accepts : (room : ℕ) → WellFormed c s → length s ≤ room → AllWithin greatestWeight τ s
-      → Decomposes c s (shiftedRows τ s) → checkAnswer c s room ≡ accepted (rowCount s)
+  accepts : (room : ℕ) → WellFormed c s l → length s ≤ room → AllWithin greatestWeight τ s
+      → Decomposes c s l (shiftedRows τ s) → checkAnswer c s l room ≡ accepted (rowCount s)
   unfolding checkAnswer targetsOf
-  accepts room f l w d =
-      then-on _ _ (input-passes c s room f l) ∙ weighed-accepted c s (aimOf c s) w (d .hold) (d .adds-up)
+  accepts room f e w d =
+      then-on _ _ (input-passes c s l room f e) ∙ weighed-accepted c s (aimOf c s l) w (d .hold) (d .adds-up)
 
   -- an acceptance carries k
-  pub accepted-rows : (room : ℕ) → Passes (checkAnswer c s room) → checkAnswer c s room ≡ accepted (rowCount s)
+  pub accepted-rows : (room : ℕ) → Passes (checkAnswer c s l room) → checkAnswer c s l room ≡ accepted (rowCount s)
   accepted-rows room h =
       accepts room (accepted-formed room h) (accepted-enough room h) (accepted-within room h)
       (accepted-decomposes room h)
 
   -- an output as long as the proof is the exact proof
-  pub accepted-exact : (out : List ℕ) → length out ≡ length s → Passes (checkAnswer c s (length out))
-      → outputOf c s out ≡ exactProof τ s
+  pub accepted-exact : (out : List ℕ) → length out ≡ length s → Passes (checkAnswer c s l (length out))
+      → outputOf c s l out ≡ exactProof τ s
   unfolding outputOf
   accepted-exact out e h = rw (h, ← e, drop-length out) (append-nil (exactProof τ s))
 
   -- demand 2, the decision
-  pub decision : (room : ℕ) → WellFormed c s → length s ≤ room
-      → (checkAnswer c s room ≡ accepted (rowCount s))
-      ↔ (AllWithin greatestWeight τ s × Decomposes c s (shiftedRows τ s))
-  decision room f l = (
-    λ e. let h = accepted-passes _ _ e in (accepted-within room h, accepted-decomposes room h),
-    λ p. accepts room f l (p .0) (p .1),
+  pub decision : (room : ℕ) → WellFormed c s l → length s ≤ room
+      → (checkAnswer c s l room ≡ accepted (rowCount s))
+      ↔ (AllWithin greatestWeight τ s × Decomposes c s l (shiftedRows τ s))
+  decision room f e = (
+    λ q. let h = accepted-passes _ _ q in (accepted-within room h, accepted-decomposes room h),
+    λ p. accepts room f e (p .0) (p .1),
   )
 
   -- demand 3, exact proofs
-  module _ (f : WellFormed c s) (d : Decomposes c s (rowsOf s)) where
-    own : CheckedSheets c s (aimOf c s)
-    own = sheets-checked c s f
+  module _ (f : WellFormed c s l) (d : Decomposes c s l (rowsOf s)) where
+    own : CheckedSheets c s (aimOf c s l)
+    own = sheets-checked c s l f
 
     exact : AddsUp (variables s) τ (slots (rowsOf s))
-    exact α l = d .adds-up α (l ∙ own .same)
+    exact α e = d .adds-up α (e ∙ own .same)
 
-    pub exact-accepted : (room : ℕ) → length s ≤ room → checkAnswer c s room ≡ accepted (rowCount s)
-    exact-accepted room l = accepts room f l (same-within τ s (own .proof) exact) (rw (rows-stay τ s exact) d)
+    pub exact-accepted : (room : ℕ) → length s ≤ room → checkAnswer c s l room ≡ accepted (rowCount s)
+    exact-accepted room e = accepts room f e (same-within τ s (own .proof) exact) (rw (rows-stay τ s exact) d)
 
     pub exact-bytes : Bytes s → exactProof τ s ≡ s
     exact-bytes b = same-proof τ s (own .proof) exact b
 
   -- the answer is short
-  pub check-short : {limit : ℕ} (room : ℕ) → 19 < limit → Bytes c → Bytes s → Short limit (checkAnswer c s room)
+  pub check-short : {limit : ℕ} (room : ℕ) → 25 < limit → Bytes c → Bytes s → Short limit (checkAnswer c s l room)
   unfolding checkAnswer targetsOf
   check-short room h bc bs =
-      short-then _ _ (input-short c s room (omega arith) bc bs) (weighed-short c s (aimOf c s) h bc bs)
+      short-then _ _ (input-short c s l room h bc bs) (weighed-short c s (aimOf c s l) (omega arith) bc bs)
 
 -- ---- the promises, for whatever is to say that the check accepts, and with how many rows
 
-module _ (c s out : List ℕ) where
+module _ (c s l out : List ℕ) where
   abbrev Passed : Type 0
-  Passed = Passes (checkAnswer c s (length out))
+  Passed = Passes (checkAnswer c s l (length out))
 
-  pub written : Passed → outputOf c s out ≡ exactProof (targetsOf c s) s ++ drop (length s) out
+  pub written : Passed → outputOf c s l out ≡ exactProof (targetsOf c s l) s ++ drop (length s) out
   unfolding outputOf
   written h = rw h
 
-  kept : blameless (checkAnswer c s (length out)) ≡ false → outputOf c s out ≡ out
+  kept : blameless (checkAnswer c s l (length out)) ≡ false → outputOf c s l out ≡ out
   unfolding outputOf
   kept h = rw h
 
   -- the first bytes, and the later ones
-  written-first : Passed → take (length s) (outputOf c s out) ≡ exactProof (targetsOf c s) s
-  written-first h = rw (written h) (take-at _ (drop (length s) out) _ (exact-length (targetsOf c s) s))
+  written-first : Passed → take (length s) (outputOf c s l out) ≡ exactProof (targetsOf c s l) s
+  written-first h = rw (written h) (take-at _ (drop (length s) out) _ (exact-length (targetsOf c s l) s))
 
-  written-rest : drop (length s) (outputOf c s out) ≡ drop (length s) out
+  written-rest : drop (length s) (outputOf c s l out) ≡ drop (length s) out
   written-rest =
-      passes-or-fails (checkAnswer c s (length out))
+      passes-or-fails (checkAnswer c s l (length out))
       (λ h.
       rw (written h)
-      (drop-at (exactProof (targetsOf c s) s) (drop (length s) out) (length s) (exact-length (targetsOf c s) s)))
+      (drop-at (exactProof (targetsOf c s l) s) (drop (length s) out) (length s) (exact-length (targetsOf c s l) s)))
       (λ h. rw (kept h))
 
   written-reads : Passed
-      → (scaleOf (take (length s) (outputOf c s out)) ≡ scaleOf s)
-      × (rowsOf (take (length s) (outputOf c s out)) ≡ shiftedRows (targetsOf c s) s)
+      → (scaleOf (take (length s) (outputOf c s l out)) ≡ scaleOf s)
+      × (rowsOf (take (length s) (outputOf c s l out)) ≡ shiftedRows (targetsOf c s l) s)
   unfolding targetsOf
   written-reads h =
       rw (written-first h) (
-        exact-scale (targetsOf c s) s,
-        exact-rows c s (aimOf c s) (sheets-checked c s (accepted-formed c s (length out) h))
-            (accepted-within c s (length out) h),
+        exact-scale (targetsOf c s l) s,
+        exact-rows c s (aimOf c s l) (sheets-checked c s l (accepted-formed c s l (length out) h))
+            (accepted-within c s l (length out) h),
       )
 
-  refused-kept : (Passed → ⊥) → outputOf c s out ≡ out
-  refused-kept n = passes-or-fails (checkAnswer c s (length out)) (λ h. absurd (n h)) kept
+  refused-kept : (Passed → ⊥) → outputOf c s l out ≡ out
+  refused-kept n = passes-or-fails (checkAnswer c s l (length out)) (λ h. absurd (n h)) kept
 
   pub check-promises : (Accepted : Type 0) (k : ℕ) → Accepted ↔ Passed → (Passed → k ≡ rowCount s) → Bytes s
-      → (o : List ℕ) → o ≡ outputOf c s out → CheckPromises c s out Accepted k o
+      → (o : List ℕ) → o ≡ outputOf c s l out → CheckPromises c s l out Accepted k o
   check-promises Accepted k meant counted b o e = record {
-    decides = λ f l.
-        let d = decision c s (length out) f l in (
-          λ a. d .0 (accepted-rows c s (length out) (meant .0 a)),
+    decides = λ f e.
+        let d = decision c s l (length out) f e in (
+          λ a. d .0 (accepted-rows c s l (length out) (meant .0 a)),
           λ p. meant .1 (accepted-passes _ _ (d .1 p)),
         );
     counts = λ a. counted (meant .0 a);
     reads = λ a. rw e (written-reads (meant .0 a));
     rest = rw e written-rest;
     leaves = λ n. e ∙ refused-kept (λ h. n (meant .1 h));
-    floors = λ a. floor-kept c s (length out) (meant .0 a);
-    everywhere = λ a z. floors-unmasked (domainOf c) _ _ z .0 (floor-kept c s (length out) (meant .0 a));
-    keeps = λ f l d.
-        let h = accepted-passes _ _ (exact-accepted c s f d (length out) l) in
-        (meant .1 h, e ∙ written h ∙ rw (exact-bytes c s f d b));
+    floors = λ a. floor-kept c s l (length out) (meant .0 a);
+    unlimited = λ a u. floors-unlimited (domainOf c l) _ _ u .0 (floor-kept c s l (length out) (meant .0 a));
+    everywhere = λ a u z. floors-unmasked (domainOf c l) _ _ u z .0 (floor-kept c s l (length out) (meant .0 a));
+    keeps = λ f r d.
+        let h = accepted-passes _ _ (exact-accepted c s l f d (length out) r) in
+        (meant .1 h, e ∙ written h ∙ rw (exact-bytes c s l f d b));
   }

@@ -11,16 +11,16 @@ use Rattle.targets.specs.Targets.{aimOf, targetOf}
 use Rattle.weighing.specs.Exact.{exactProof}
 use Rattle.weighing.specs.Weighed.{weighedAnswer}
 
--- the targets with the claim's floor and the proof's scale
-unfoldable pub targetsOf : List ℕ → List ℕ → Exponents → ℤ
-targetsOf c s = targetOf c (aimOf c s)
+-- the targets with the claim's floor, the proof's scale and the sheet's limits
+unfoldable pub targetsOf : List ℕ → List ℕ → List ℕ → Exponents → ℤ
+targetsOf c s l = targetOf c (aimOf c s l)
 
--- 1 to 19; the room is the output's length
-unfoldable pub checkAnswer : List ℕ → List ℕ → ℕ → Answer
-checkAnswer c s room = andThen (inputAnswer c s room) (weighedAnswer (targetsOf c s) c s)
+-- 1 to 10, 24, 25, 11 to 19; the room is the output's length
+unfoldable pub checkAnswer : List ℕ → List ℕ → List ℕ → ℕ → Answer
+checkAnswer c s l room = andThen (inputAnswer c s l room) (weighedAnswer c s (aimOf c s l))
 
 -- "On acceptance the first bytes of the output are the proof with its shifted weights; later bytes keep their values."
 -- "A refusal writes nothing."
-unfoldable pub outputOf : List ℕ → List ℕ → List ℕ → List ℕ
-outputOf c s out =
-    cond (blameless (checkAnswer c s (length out))) (exactProof (targetsOf c s) s ++ drop (length s) out) out
+unfoldable pub outputOf : List ℕ → List ℕ → List ℕ → List ℕ → List ℕ
+outputOf c s l out =
+    cond (blameless (checkAnswer c s l (length out))) (exactProof (targetsOf c s l) s ++ drop (length s) out) out

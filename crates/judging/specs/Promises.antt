@@ -8,47 +8,55 @@ use lib.ListN.{length, take, drop}
 use lib.Signed.{_≤ℤ_}
 use Rattle.bounds.specs.Bounds.{greatestWeight}
 use Rattle.points.specs.Lists.{All}
+use Rattle.monomials.specs.Powers.{Allowed}
 use Rattle.squares.specs.Sums.{valueAt}
 use Rattle.squares.specs.Rows.{Row, slots, Holds}
+use Rattle.squares.specs.Domains.{Unlimited}
 use Rattle.squares.specs.Decomposition.{AddsUp}
 use Rattle.squares.specs.Floor.{Floors}
 use Rattle.sheets.specs.Layout.{variables, maskOf, rowCount}
-use Rattle.sheets.specs.ClaimSheet.{domainOf, floorOf, termsOf}
+use Rattle.sheets.specs.ClaimSheet.{floorOf, termsOf}
 use Rattle.rows.specs.ProofSheet.{scaleOf, rowsOf}
+use Rattle.limits.specs.LimitsSheet.{domainOf}
 use Rattle.checks.specs.Input.{WellFormed}
 use Rattle.sharing.specs.Shifts.{shiftedRows}
 use Rattle.weighing.specs.Exact.{AllWithin}
 use Rattle.judging.specs.Check.{targetsOf}
 
--- "every row holds and the weights add up to the target at every point", of rows beside a claim and a proof's scale
-pub record Decomposes (c s : List ℕ) (rows : List Row) : Type 0 where
+-- "every row holds and the weights add up to the target at every point", of rows beside a claim, a proof's scale and
+-- limits
+pub record Decomposes (c s l : List ℕ) (rows : List Row) : Type 0 where
   pub hold : All (λ a. Holds (a .weights)) rows
-  pub adds-up : AddsUp (variables c) (targetsOf c s) (slots rows)
+  pub adds-up : AddsUp (variables c) (targetsOf c s l) (slots rows)
 
 -- `Accepted` says that the entry point accepted, and k is the number of rows that it then says, both as its caller sees
 -- them; o is the output afterwards
-pub record CheckPromises (c s out : List ℕ) (Accepted : Type 0) (k : ℕ) (o : List ℕ) : Type 0 where
+pub record CheckPromises (c s l out : List ℕ) (Accepted : Type 0) (k : ℕ) (o : List ℕ) : Type 0 where
   -- Demand 2: "A well-formed claim and proof, with output enough, are accepted exactly when the weights, shifted by the
   -- published sharing rule, stay within ±2^30 and form, row by row, a decomposition"
-  pub decides : WellFormed c s → length s ≤ length out
-      → Accepted ↔ (AllWithin greatestWeight (targetsOf c s) s × Decomposes c s (shiftedRows (targetsOf c s) s))
+  pub decides : WellFormed c s l → length s ≤ length out
+      → Accepted ↔ (AllWithin greatestWeight (targetsOf c s l) s × Decomposes c s l (shiftedRows (targetsOf c s l) s))
   -- "The verdict carries k"
   pub counts : Accepted → k ≡ rowCount s
   -- Demand 2: "what is written is that shifted proof": the output's first bytes read as the proof's scale and as the
   -- shifted rows
   pub reads : Accepted
-      → (scaleOf (take (length s) o) ≡ scaleOf s) × (rowsOf (take (length s) o) ≡ shiftedRows (targetsOf c s) s)
+      → (scaleOf (take (length s) o) ≡ scaleOf s) × (rowsOf (take (length s) o) ≡ shiftedRows (targetsOf c s l) s)
   -- "later bytes keep their values"
   pub rest : drop (length s) o ≡ drop (length s) out
   -- Demand 1: "a refusal must write no byte"
   pub leaves : (Accepted → ⊥) → o ≡ out
-  -- Demand 3: "If a claim and proof are accepted .. then the polynomial is at least the floor", by note 3 "at whole
-  -- points with masked variables at least 0"
-  pub floors : Accepted → Floors (domainOf c) (floorOf c) (termsOf c)
+  -- Demand 3: "If a claim and proof are accepted .. then the polynomial is at least the floor", by note 4 "at every
+  -- whole point that the mask allows, with each limited variable within ±L"
+  pub floors : Accepted → Floors (domainOf c l) (floorOf c) (termsOf c)
+  -- where no variable is limited "at whole points with masked variables at least 0"
+  pub unlimited : Accepted → Unlimited (domainOf c l .limits)
+      → (x : List ℤ) → Allowed (maskOf c) x → floorOf c ≤ℤ valueAt x (termsOf c)
   -- and without a mask "at all whole offsets, of either sign and however large"
-  pub everywhere : Accepted → maskOf c ≡ 0 → (x : List ℤ) → floorOf c ≤ℤ valueAt x (termsOf c)
+  pub everywhere : Accepted → Unlimited (domainOf c l .limits) → maskOf c ≡ 0
+      → (x : List ℤ) → floorOf c ≤ℤ valueAt x (termsOf c)
   -- Demand 3: "whenever a claim and proof are well-formed, the proposed weights already add up to the target at every
   -- point, every row holds with them and the output is long enough, the proof is accepted. The output's first bytes
   -- then equal the proof, byte by byte, and its later bytes keep their values"
-  pub keeps : WellFormed c s → length s ≤ length out → Decomposes c s (rowsOf s)
+  pub keeps : WellFormed c s l → length s ≤ length out → Decomposes c s l (rowsOf s)
       → Accepted × (o ≡ s ++ drop (length s) out)

@@ -1,2 +1,2 @@
-// Judging: the whole check of a claim and its proof, and its promises.
+// Judging: the whole check of a claim and its proof within limits, and its promises.
 pub mod check;

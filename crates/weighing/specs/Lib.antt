@@ -1,3 +1,4 @@
 pub mod Unheld
 pub mod Exact
 pub mod Weighed
+pub mod Unlimited

@@ -23,6 +23,10 @@ module _ (f : Found) (i : ℕ) where
   unfolding kept
   kept-none h = rw h
 
+kept-at : (j : ℕ) (b : Bool) (i : ℕ) → kept (At j) b i ≡ At j
+unfolding kept
+kept-at j b i = refl
+
 pub kept-past : (f : Found) (i : ℕ) → kept f false i ≡ f
 unfolding kept
 kept-past (At j) i = refl
@@ -50,6 +54,18 @@ module _ (wrong : ℕ → Bool) where
 
   first-found : (n i : ℕ) → i < n → first wrong i ≡ Nothing → wrong i ≡ true → first wrong n ≡ At i
   first-found n i l h k = first-later (suc i) n i l (first-here i h k)
+
+  -- indices after n at which nothing is wrong, where nothing was wrong before, add nothing
+  pub first-past : (n k : ℕ) → ((i : ℕ) → first wrong n ≡ Nothing → n ≤ i → wrong i ≡ false)
+      → first wrong (n + k) ≡ first wrong n
+  first-past n zero f = let e : n + 0 ≡ n = omega arith in rw e
+  first-past n (suc k) f =
+      let e : n + suc k ≡ suc (n + k) = omega arith in
+      rw e (first-more (n + k) ∙ rw (first-past n k f) (go (first wrong n) refl))
+    where
+      go : (x : Found) → first wrong n ≡ x → kept x (wrong (n + k)) (n + k) ≡ x
+      go (At j) e = kept-at j (wrong (n + k)) (n + k)
+      go Nothing e = rw (f (n + k) e (omega arith)) (kept-past Nothing (n + k))
 
   -- the loop `while i < n { if wrong(i) { return At(i); } i += 1; } Nothing`, where r is what wrong(i) answered
   pub first-stop : (n i : ℕ) (r : Bool) → i < n → first wrong i ≡ Nothing → r ≡ wrong i → r ≡ true

@@ -1,4 +1,4 @@
--- Laws of the check: the claim with another floor, beside sheets that pass 1 to 15.
+-- Laws of the check: the claim with another floor, beside sheets that pass 1 to 15, 24 and 25.
 use mathlib.Core.Path.{_≡_, _∙_}
 use mathlib.Core.List.{List, _++_}
 use Prim.Native.Nat.{ℕ, _≤_}
@@ -7,13 +7,12 @@ use lib.ListN.{length, drop}
 use Rattle.bounds.specs.Bounds.{greatestWeight}
 use Rattle.answers.specs.Answers.{Passes}
 use Rattle.answers.proofs.answers.Laws.{then-on}
-use Rattle.points.specs.Points.{Exponents}
 use Rattle.sheets.specs.ClaimSheet.{withFloor}
-use Rattle.rows.specs.ProofSheet.{scaleOf}
 use Rattle.checks.specs.Input.{inputAnswer}
 use Rattle.checks.proofs.input.Laws.{input-formed, input-floored}
-use Rattle.targets.specs.Targets.{targetOf}
-use Rattle.targets.proofs.targets.Laws.{targets-floored}
+use Rattle.targets.specs.Targets.{aimOf, atFloor, targetOf}
+use Rattle.targets.specs.declared.targets.Aim.{Aim}
+use Rattle.targets.proofs.targets.Laws.{aim-floored, targets-floored}
 use Rattle.sharing.proofs.shifts.Laws.{sheets-checked, claim-eight}
 use Rattle.weighing.specs.Exact.{exactProof}
 use Rattle.weighing.specs.Weighed.{weighedAnswer}
@@ -21,20 +20,21 @@ use Rattle.weighing.proofs.weighed.Laws.{weighed-floored}
 use Rattle.judging.specs.Check.{targetsOf, checkAnswer, outputOf}
 use Rattle.judging.proofs.Promises.{written}
 
-module _ (c s : List ℕ) (room : ℕ) (h : Passes (inputAnswer c s room)) (b : ℤ) (w : natAbs b ≤ greatestWeight) where
-  -- the targets for floor b
-  abbrev τ : Exponents → ℤ
-  τ = targetOf c (record { floor = b; scale = scaleOf s })
+module _ (c s l : List ℕ) (room : ℕ) (h : Passes (inputAnswer c s l room)) (b : ℤ) (w : natAbs b ≤ greatestWeight) where
+  -- what the targets for floor b depend on
+  abbrev a : Aim
+  a = atFloor (aimOf c s l) b
 
-  targets : targetsOf (withFloor c b) s ≡ τ
-  unfolding targetsOf
-  targets = targets-floored c s b (claim-eight c s _ (sheets-checked c s (input-formed c s room h))) w
+  aims : aimOf (withFloor c b) s l ≡ a
+  aims = aim-floored c s l b (claim-eight c s _ (sheets-checked c s l (input-formed c s l room h))) w
 
   -- its check is that of 16 to 19
-  pub floored-answer : checkAnswer (withFloor c b) s room ≡ weighedAnswer τ c s
+  pub floored-answer : checkAnswer (withFloor c b) s l room ≡ weighedAnswer c s a
   unfolding checkAnswer
-  floored-answer = then-on _ _ (input-floored c s room h b w) ∙ rw targets (weighed-floored τ c s b)
+  floored-answer = then-on _ _ (input-floored c s l room h b w) ∙ rw aims (weighed-floored c s a b)
 
-  pub floored-output : (out : List ℕ) → length out ≡ room → Passes (weighedAnswer τ c s)
-      → outputOf (withFloor c b) s out ≡ exactProof τ s ++ drop (length s) out
-  floored-output out e p = rw (← targets) (written (withFloor c b) s out (rw (e, floored-answer) p))
+  pub floored-output : (out : List ℕ) → length out ≡ room → Passes (weighedAnswer c s a)
+      → outputOf (withFloor c b) s l out ≡ exactProof (targetOf c a) s ++ drop (length s) out
+  unfolding targetsOf
+  floored-output out e p =
+      written (withFloor c b) s l out (rw (e, floored-answer) p) ∙ rw (aims, targets-floored c a b)

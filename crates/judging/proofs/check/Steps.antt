@@ -9,9 +9,9 @@ use Rattle.answers.specs.declared.answers.Sheet.{Sheet}
 use Rattle.answers.specs.declared.answers.Verdict.{Verdict}
 use Rattle.answers.specs.declared.answers.Verdict.the-variants.{Accepted, Refused}
 use Rattle.answers.proofs.answers.Laws.{then-refused, then-passed, passed, failed, accepted-numbers}
-use Rattle.checks.specs.Input.{WellFormed}
-use Rattle.checks.specs.Input.{inputAnswer}
-use Rattle.checks.proofs.input.Laws.{input-formed}
+use Rattle.sheets.specs.Layout.{variables, LimitsRoom}
+use Rattle.checks.specs.Input.{inputAnswer, WellFormed}
+use Rattle.checks.proofs.input.Laws.{room-formed, input-formed}
 use Rattle.targets.specs.Targets.{aimOf, targetOf}
 use Rattle.targets.specs.declared.targets.Aim.{Aim}
 use Rattle.sharing.specs.Shifts.{CheckedSheets}
@@ -22,69 +22,61 @@ use Rattle.judging.specs.Check.{targetsOf, checkAnswer, outputOf}
 use Rattle.judging.specs.Promises.{CheckPromises}
 use Rattle.judging.proofs.Promises.{accepted-formed, accepted-enough, accepted-within, accepted-rows, check-promises}
 
--- ---- what decide and check read of well-formed sheets: a is the aim that was read
+-- ---- check: v is the verdict on 1 to 15, 24 and 25
 
-pub own-here : (c s : List ℕ) → WellFormed c s → (a : Aim) → a ≡ aimOf c s → CheckedSheets c s a
-own-here c s f a e = rw e (sheets-checked c s f)
-
--- ---- decide: v is the verdict on 1 to 15
-
-module _ (c s : List ℕ) (room : ℕ) (v : Verdict) (e : says v ≡ inputAnswer c s room) where
-  pub decided-input : (x : Sheet) → v ≡ Refused x → says v ≡ checkAnswer c s room
+module _ (c s l : List ℕ) (room : ℕ) (v : Verdict) (e : says v ≡ inputAnswer c s l room) where
+  pub check-input : (x : Sheet) → v ≡ Refused x → says v ≡ checkAnswer c s l room
   unfolding checkAnswer
-  decided-input x h = then-refused v _ e x h _
+  check-input x h = then-refused v _ e x h _
 
   module _ (j : ℕ) (h : v ≡ Accepted j) where
-    pub input-accepted : WellFormed c s
-    input-accepted = input-formed c s room (passed v _ e j h)
+    formed : WellFormed c s l
+    formed = input-formed c s l room (passed v _ e j h)
 
-    pub decided-claim : 8 ≤ length c
-    decided-claim = claim-eight c s _ (sheets-checked c s input-accepted)
+    pub claim-read : 8 ≤ length c
+    claim-read = claim-eight c s _ (sheets-checked c s l formed)
 
-    pub decided-proof : 8 ≤ length s
-    decided-proof = proof-eight c s _ (sheets-checked c s input-accepted)
+    pub proof-read : 8 ≤ length s
+    proof-read = proof-eight c s _ (sheets-checked c s l formed)
 
-    pub decided-weighed : (a : Aim) (r : Verdict) → says r ≡ weighedAnswer (targetOf c a) c s → a ≡ aimOf c s
-        → says r ≡ checkAnswer c s room
-    unfolding checkAnswer targetsOf
-    decided-weighed a r er ea = then-passed v _ e j h r _ (rw ea at er)
+    pub limits-read : LimitsRoom l (variables c)
+    limits-read = room-formed c s l formed
 
--- ---- check: v is the verdict, o the output afterwards
+    -- a is the aim that was read, r the verdict on 16 to 19
+    module _ (a : Aim) (ea : a ≡ aimOf c s l) where
+      pub sheets-read : CheckedSheets c s a
+      sheets-read = rw ea (sheets-checked c s l formed)
 
-module _ (c s out : List ℕ) (v : Verdict) (e : says v ≡ checkAnswer c s (length out)) where
-  pub promises : Bytes s → (o : List ℕ) → o ≡ outputOf c s out
-      → CheckPromises c s out (Passes (says v)) (says v .value) o
+      pub check-weighed : (r : Verdict) → says r ≡ weighedAnswer c s a → says r ≡ checkAnswer c s l room
+      unfolding checkAnswer
+      check-weighed r er = then-passed v _ e j h r _ (rw ea at er)
+
+-- ---- v is the verdict, o the output afterwards
+
+module _ (c s l out : List ℕ) (v : Verdict) (e : says v ≡ checkAnswer c s l (length out)) where
+  pub promises : Bytes s → (o : List ℕ) → o ≡ outputOf c s l out
+      → CheckPromises c s l out (Passes (says v)) (says v .value) o
   promises =
-      check-promises c s out _ _ (λ h. rw e at h, λ h. rw e h)
-      (λ h. accepted-numbers _ _ (e ∙ accepted-rows c s (length out) h) .1)
+      check-promises c s l out _ _ (λ h. rw e at h, λ h. rw e h)
+      (λ h. accepted-numbers _ _ (e ∙ accepted-rows c s l (length out) h) .1)
 
   module _ (x : Sheet) (h : v ≡ Refused x) where
-    pub refused-output : out ≡ outputOf c s out
+    pub refused-output : out ≡ outputOf c s l out
     unfolding outputOf
     refused-output = rw (failed v _ e x h)
 
-  module _ (k : ℕ) (h : v ≡ Accepted k) where
-    passes : Passes (checkAnswer c s (length out))
+  module _ (k : ℕ) (h : v ≡ Accepted k) (a : Aim) (ea : a ≡ aimOf c s l) where
+    passes : Passes (checkAnswer c s l (length out))
     passes = passed v _ e k h
 
-    check-accepted : WellFormed c s
-    check-accepted = accepted-formed c s (length out) passes
+    pub writable : Writable c s a out
+    unfolding targetsOf
+    writable = record {
+      sheets = rw ea (sheets-checked c s l (accepted-formed c s l (length out) passes));
+      light = rw ea (accepted-within c s l (length out) passes);
+      room = accepted-enough c s l (length out) passes;
+    }
 
-    pub accepted-claim : 8 ≤ length c
-    accepted-claim = claim-eight c s _ (sheets-checked c s check-accepted)
-
-    pub accepted-proof : 8 ≤ length s
-    accepted-proof = proof-eight c s _ (sheets-checked c s check-accepted)
-
-    module _ (a : Aim) (ea : a ≡ aimOf c s) where
-      pub writable : Writable c s a out
-      unfolding targetsOf
-      writable = record {
-        sheets = own-here c s check-accepted a ea;
-        light = rw ea (accepted-within c s (length out) passes);
-        room = accepted-enough c s (length out) passes;
-      }
-
-      pub accepted-output : (o : List ℕ) → o ≡ exactProof (targetOf c a) s ++ drop (length s) out → o ≡ outputOf c s out
-      unfolding outputOf targetsOf
-      accepted-output o eo = rw passes (rw ea at eo)
+    pub accepted-output : (o : List ℕ) → o ≡ exactProof (targetOf c a) s ++ drop (length s) out → o ≡ outputOf c s l out
+    unfolding outputOf targetsOf
+    accepted-output o eo = rw passes (rw ea at eo)

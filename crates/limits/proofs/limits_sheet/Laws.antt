@@ -3,10 +3,12 @@
 use mathlib.Core.Path.{_≡_, refl}
 use mathlib.Core.List.{List}
 use Prim.Native.Nat.{ℕ, zero, suc, _+_, _*_, _<_, _≤_}
+use native.Mathlib.Decide.{decLt}
 use native.Mathlib.Omega.{arith}
 use lib.ListN.{length, getD, length-replicate}
 use Rattle.integers.specs.Words.{u32At}
 use Rattle.points.proofs.points.Laws.{zeros-get, padded-get, padded-past}
+use Rattle.squares.specs.Domains.{Unlimited}
 use Rattle.sheets.specs.Layout.{variables, boundAt, multiplierAt, limitsLength}
 use Rattle.limits.specs.LimitsSheet.{limitOf, limitsOf, limitIn, noLimits}
 use Rattle.limits.specs.LimitChecks.{IsUnlimited}
@@ -50,3 +52,10 @@ module _ (n : ℕ) where
         rw (none-byte at (omega arith), none-byte (at + 1) (omega arith))
         (rw (none-byte (at + 2) (omega arith), none-byte (at + 3) (omega arith)));
   }
+
+  pub none-unlimited : Unlimited (limitIn (limitsOf (noLimits n) n))
+  none-unlimited i = go (decLt i n)
+    where
+      go : Dec (i < n) → limitIn (limitsOf (noLimits n) n) i .power ≡ 0
+      go (yes k) = rw (limit-read (noLimits n) n i k) (none-limit n i .power-none)
+      go (no k) = limit-past (noLimits n) n i (omega arith) .power-none

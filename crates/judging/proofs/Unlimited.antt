@@ -1,0 +1,38 @@
+-- The check with no variable limited, from the same law of its parts.
+use mathlib.Core.Path.{_≡_, fun-ext}
+use mathlib.Core.List.{List}
+use Prim.Native.Nat.{ℕ}
+use lib.ListN.{length}
+use Rattle.squares.specs.Domains.{Unlimited}
+use Rattle.sheets.specs.Layout.{variables}
+use Rattle.limits.specs.LimitsSheet.{limitIn, noLimits}
+use Rattle.limits.proofs.limits_sheet.Laws.{none-unlimited}
+use Rattle.checks.proofs.input.Laws.{input-unlimited}
+use Rattle.targets.specs.Targets.{aimOf}
+use Rattle.targets.proofs.Unlimited as Targets
+use Rattle.weighing.proofs.Unlimited.{weighed-unlimited}
+use Rattle.judging.specs.Check.{targetsOf, checkAnswer, outputOf}
+use Rattle.judging.specs.Unlimited.{plainTargets, plainAnswer, plainOutput, AsUnlimited}
+
+module _ (c s : List ℕ) where
+  abbrev l : List ℕ
+  l = noLimits (variables c)
+
+  unlimited : Unlimited (limitIn (aimOf c s l .limits))
+  unfolding aimOf
+  unlimited = none-unlimited (variables c)
+
+  targets : targetsOf c s l ≡ plainTargets c s
+  unfolding targetsOf plainTargets aimOf
+  targets = fun-ext (λ α. Targets.as-unlimited c .targets (aimOf c s l) unlimited α)
+
+  answer : (room : ℕ) → checkAnswer c s l room ≡ plainAnswer c s room
+  unfolding checkAnswer plainAnswer plainTargets aimOf
+  answer room = rw (input-unlimited c s room, weighed-unlimited c s (aimOf c s l) unlimited)
+
+pub as-unlimited : AsUnlimited
+unfolding outputOf plainOutput
+as-unlimited c s = record {
+  answer = answer c s;
+  output = λ out. rw (answer c s (length out), targets c s);
+}

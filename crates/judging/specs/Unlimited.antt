@@ -1,0 +1,37 @@
+-- The check with no variable limited is that of a claim and a proof alone, as document 01 and note 3 describe it.
+use mathlib.Core.Path.{_≡_}
+use mathlib.Core.Bool.{cond}
+use mathlib.Core.List.{List, _++_}
+use Prim.Native.Nat.{ℕ}
+use lib.IntN.{ℤ}
+use lib.ListN.{length, drop}
+use Rattle.answers.specs.Answers.{Answer, andThen, blameless}
+use Rattle.points.specs.Points.{Exponents}
+use Rattle.sheets.specs.Layout.{variables}
+use Rattle.sheets.specs.ClaimSheet.{floorOf}
+use Rattle.rows.specs.ProofSheet.{scaleOf}
+use Rattle.limits.specs.LimitsSheet.{noLimits}
+use Rattle.checks.specs.Input.{headAnswer, bodyAnswer}
+use Rattle.targets.specs.Unlimited.{plainTarget}
+use Rattle.weighing.specs.Exact.{exactProof}
+use Rattle.weighing.specs.Unlimited.{plainWeighed}
+use Rattle.judging.specs.Check.{checkAnswer, outputOf}
+
+-- the targets with the claim's floor and the proof's scale
+unfoldable pub plainTargets : List ℕ → List ℕ → Exponents → ℤ
+plainTargets c s = plainTarget c (scaleOf s) (floorOf c)
+
+-- 1 to 19
+unfoldable pub plainAnswer : List ℕ → List ℕ → ℕ → Answer
+plainAnswer c s room = andThen (andThen (headAnswer c s) (bodyAnswer s room)) (plainWeighed (plainTargets c s) c s)
+
+unfoldable pub plainOutput : List ℕ → List ℕ → List ℕ → List ℕ
+plainOutput c s out =
+    cond (blameless (plainAnswer c s (length out))) (exactProof (plainTargets c s) s ++ drop (length s) out) out
+
+pub record CheckUnlimited (c s : List ℕ) : Type 0 where
+  pub answer : (room : ℕ) → checkAnswer c s (noLimits (variables c)) room ≡ plainAnswer c s room
+  pub output : (out : List ℕ) → outputOf c s (noLimits (variables c)) out ≡ plainOutput c s out
+
+abbrev pub AsUnlimited : Type 0
+AsUnlimited = (c s : List ℕ) → CheckUnlimited c s
