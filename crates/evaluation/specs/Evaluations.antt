@@ -12,11 +12,12 @@ use Rattle.answers.specs.Answers.{Answer, accepted, says, refuseIf, refuseAt, b
 use Rattle.answers.specs.Searches.{first}
 use Rattle.answers.specs.declared.answers.Verdict.the-variants as Verdicts
 use Rattle.points.specs.Lists.{table}
-use Rattle.monomials.specs.Powers.{monomialOf}
+use Rattle.monomials.specs.Powers.{monomialOf, Allowed}
 use Rattle.squares.specs.Sums.{valueAt}
-use Rattle.squares.specs.Domains.{Admits}
+use Rattle.squares.specs.Domains.{Unlimited, Admits}
 use Rattle.sheets.specs.Layout.{variables, termCount, maskOf}
-use Rattle.sheets.specs.ClaimSheet.{domainOf, floorOf, termPoint, coefficientOf, termOf, termsOf}
+use Rattle.sheets.specs.ClaimSheet.{floorOf, termPoint, coefficientOf, termOf, termsOf}
+use Rattle.limits.specs.LimitsSheet.{domainOf}
 use Rattle.claims.specs.ClaimChecks.{claimAnswer}
 use Rattle.judging.specs.Check.{checkAnswer}
 use Rattle.evaluation.specs.declared.evaluations.Evaluation.{Evaluation}
@@ -84,9 +85,13 @@ pub record EvaluationPromises (c : List ℕ) (x : List ℤ) (Gives : ℤ → Typ
   pub exact : (z : ℤ) → Gives z → Evaluable c x × (z ≡ valueAt x (termsOf c))
   -- Demand 3: "At whatever offsets that claim is evaluated, every value reported is the polynomial's exact value there
   -- and at least the floor", where the claim is accepted with some proof and output; by note 3 "evaluation takes any
-  -- point and promises the floor only there", where the masked variables are at least 0
-  pub floored : (s out : List ℕ) → Passes (checkAnswer c s (length out)) → Admits (domainOf c) x
+  -- point and promises the floor only there", where the mask allows the offsets and each limited variable is within ±L,
+  -- for every limits sheet with which the claim is accepted
+  pub floored : (s l out : List ℕ) → Passes (checkAnswer c s l (length out)) → Admits (domainOf c l) x
       → (z : ℤ) → Gives z → floorOf c ≤ℤ z
+  -- where no variable is limited "at whole points with masked variables at least 0"
+  pub unlimited : (s l out : List ℕ) → Passes (checkAnswer c s l (length out)) → Unlimited (domainOf c l .limits)
+      → Allowed (maskOf c) x → (z : ℤ) → Gives z → floorOf c ≤ℤ z
   -- and without a mask wherever it is evaluated
-  pub everywhere : (s out : List ℕ) → Passes (checkAnswer c s (length out)) → maskOf c ≡ 0
-      → (z : ℤ) → Gives z → floorOf c ≤ℤ z
+  pub everywhere : (s l out : List ℕ) → Passes (checkAnswer c s l (length out)) → Unlimited (domainOf c l .limits)
+      → maskOf c ≡ 0 → (z : ℤ) → Gives z → floorOf c ≤ℤ z

@@ -19,10 +19,11 @@ use Rattle.answers.specs.declared.searches.Found.the-variants.{At, Nothing}
 use Rattle.answers.proofs.answers.Laws.{passes-or-fails, refused-blames, refused-number, short-accepted, short-refused}
 use Rattle.answers.proofs.searches.Laws.{first-inside, first-before, none-wrong}
 use Rattle.squares.specs.Floor.{Floors}
-use Rattle.squares.proofs.Floor.{floors-unmasked}
+use Rattle.squares.proofs.Floor.{floors-unlimited, floors-unmasked}
 use Rattle.sheets.specs.Layout.{rowCount}
-use Rattle.sheets.specs.ClaimSheet.{domainOf, withFloor, termsOf}
-use Rattle.sheets.proofs.claim_sheet.Laws.{floored-floor, floored-domain, floored-terms}
+use Rattle.sheets.specs.ClaimSheet.{withFloor, termsOf}
+use Rattle.sheets.proofs.claim_sheet.Laws.{floored-floor, floored-before, floored-terms}
+use Rattle.limits.specs.LimitsSheet.{domainOf}
 use Rattle.checks.specs.Input.{WellFormed}
 use Rattle.checks.proofs.proof_checks.Laws.{rows-counted}
 use Rattle.checks.proofs.input.Laws.{input-formed, input-enough}
@@ -31,7 +32,7 @@ use Rattle.judging.specs.Check.{checkAnswer, outputOf}
 use Rattle.judging.proofs.Promises.{accepted-rows, floor-kept, check-promises}
 use Rattle.floors.specs.Search.{Told, found, refusal, answerOf, rangeAnswer, floorCount, floorAfter, accepts, refusedBefore, toldAfter, searchOf, outputBy, searchOutput}
 use Rattle.floors.specs.Promises.{RightRange, FloorPromises, Some, SearchPromises}
-use Rattle.floors.proofs.search.Laws.{answer-found, answer-refusal, right-range, range-right, searchable, input-passed, range-passed, range-passes, range-short, after-low, after-high, after-within}
+use Rattle.floors.proofs.search.Laws.{answer-found, answer-refusal, right-range, range-right, searchable, input-passed, range-passed, range-passes, range-short, range-other, after-low, after-high, after-within}
 
 -- ---- a floor of the range, by the number of floors above it
 
@@ -49,32 +50,32 @@ module _ (hi b : ℤ) (high : b ≤ℤ hi) where
 
 -- ---- what is told, by what the checks and the walk found
 
-module _ (c s : List ℕ) (lo hi : ℤ) (room : ℕ) where
+module _ (c s ls : List ℕ) (lo hi : ℤ) (room : ℕ) where
   abbrev told : Told
-  told = searchOf c s lo hi room
+  told = searchOf c s ls lo hi room
 
   -- the walk found the floor b after i others
   record Walked (b : ℤ) (tried k : ℕ) : Type 0 where
-    ready : Passes (rangeAnswer c s lo hi room)
+    ready : Passes (rangeAnswer c s ls lo hi room)
     after : ℕ
-    before : refusedBefore c s lo hi room ≡ At after
+    before : refusedBefore c s ls lo hi room ≡ At after
     floor-is : b ≡ floorAfter hi after
     tried-is : tried ≡ suc after
     rows-are : k ≡ rowCount s
 
-  -- a refusal by 1 to 15 or 22, a floor after i others, or 23
+  -- a refusal before 16, a floor after i others, or 23
   told-cases : {A : Type 0}
-      → (blameless (rangeAnswer c s lo hi room) ≡ false → told ≡ refusal (rangeAnswer c s lo hi room) → A)
-      → (Passes (rangeAnswer c s lo hi room) → (i : ℕ) → refusedBefore c s lo hi room ≡ At i
+      → (blameless (rangeAnswer c s ls lo hi room) ≡ false → told ≡ refusal (rangeAnswer c s ls lo hi room) → A)
+      → (Passes (rangeAnswer c s ls lo hi room) → (i : ℕ) → refusedBefore c s ls lo hi room ≡ At i
       → told ≡ found (floorAfter hi i) (suc i) (rowCount s) → A)
-      → (Passes (rangeAnswer c s lo hi room) → refusedBefore c s lo hi room ≡ Nothing
+      → (Passes (rangeAnswer c s ls lo hi room) → refusedBefore c s ls lo hi room ≡ Nothing
       → told ≡ refusal (refused 23 0) → A)
       → A
   unfolding searchOf toldAfter
   told-cases {A} early some none =
-      passes-or-fails (rangeAnswer c s lo hi room) (λ h. go h (refusedBefore c s lo hi room) refl) (λ h. early h (rw h))
+      passes-or-fails (rangeAnswer c s ls lo hi room) (λ h. go h (refusedBefore c s ls lo hi room) refl) (λ h. early h (rw h))
     where
-      go : Passes (rangeAnswer c s lo hi room) → (f : Index.Found) → refusedBefore c s lo hi room ≡ f → A
+      go : Passes (rangeAnswer c s ls lo hi room) → (f : Index.Found) → refusedBefore c s ls lo hi room ≡ f → A
       go h (At i) e = some h i e (rw (h, e))
       go h Nothing e = none h e (rw (h, e))
 
@@ -91,12 +92,12 @@ module _ (c s : List ℕ) (lo hi : ℤ) (room : ℕ) where
     w = walked b tried k e
 
     right : RightRange lo hi
-    right = right-range lo hi (range-passed c s lo hi room (w .ready))
+    right = right-range lo hi (range-passed c s ls lo hi room (w .ready))
 
-    found-formed : WellFormed c s
-    found-formed = input-formed c s room (input-passed c s lo hi room (w .ready))
+    found-formed : WellFormed c s ls
+    found-formed = input-formed c s ls room (input-passed c s ls lo hi room (w .ready))
 
-    inside : (w .after < floorCount lo hi) × (accepts c s room (floorAfter hi (w .after)) ≡ true)
+    inside : (w .after < floorCount lo hi) × (accepts c s ls room (floorAfter hi (w .after)) ≡ true)
     unfolding refusedBefore
     inside = first-inside _ _ _ (w .before)
 
@@ -107,14 +108,14 @@ module _ (c s : List ℕ) (lo hi : ℤ) (room : ℕ) where
     found-small : natAbs b ≤ greatestWeight
     found-small = rw (w .floor-is) (after-within lo hi right (w .after) (inside .0))
 
-    found-passes : Passes (checkAnswer (withFloor c b) s room)
+    found-passes : Passes (checkAnswer (withFloor c b) s ls room)
     unfolding accepts
     found-passes = rw (w .floor-is) (inside .1)
 
-    found-accepted : checkAnswer (withFloor c b) s room ≡ accepted k
-    found-accepted = rw (w .rows-are) (accepted-rows (withFloor c b) s room found-passes)
+    found-accepted : checkAnswer (withFloor c b) s ls room ≡ accepted k
+    found-accepted = rw (w .rows-are) (accepted-rows (withFloor c b) s ls room found-passes)
 
-    found-higher : (a : ℤ) → b <ℤ a → a ≤ℤ hi → accepts c s room a ≡ false
+    found-higher : (a : ℤ) → b <ℤ a → a ≤ℤ hi → accepts c s ls room a ≡ false
     unfolding refusedBefore floorAfter
     found-higher a over high =
         let d = simp ring at (read-eq (abs-difference high)) in
@@ -127,26 +128,26 @@ module _ (c s : List ℕ) (lo hi : ℤ) (room : ℕ) where
     found-counts =
         let f = simp ring at (read-eq (w .floor-is)) in by-eq (simp ring (omega (ints, f, w .tried-is)))
 
-    found-floors : Floors (domainOf c) b (termsOf c)
+    found-floors : Floors (domainOf c ls) b (termsOf c)
     found-floors =
-        let long = claim-eight c s _ (searchable c s lo hi room (w .ready) .sheets) in
+        let long = claim-eight c s _ (searchable c s ls lo hi room (w .ready) .sheets) in
         let fits = fits-within b greatestWeight found-small (lit< tt) in
-        rw (floored-floor c b long fits, floored-terms c b, floored-domain c b)
-        at (floor-kept (withFloor c b) s room found-passes)
+        rw (floored-floor c b long fits, floored-terms c b, floored-before c b 0 (omega arith), floored-before c b 2 (omega arith))
+        at (floor-kept (withFloor c b) s ls room found-passes)
 
   -- ---- 23, and that a floor is found where there is one
 
-  none-accepted : refusedBefore c s lo hi room ≡ Nothing → RightRange lo hi → (b : ℤ) → lo ≤ℤ b → b ≤ℤ hi
-      → accepts c s room b ≡ false
+  none-accepted : refusedBefore c s ls lo hi room ≡ Nothing → RightRange lo hi → (b : ℤ) → lo ≤ℤ b → b ≤ℤ hi
+      → accepts c s ls room b ≡ false
   unfolding refusedBefore
   none-accepted e right b low high =
       rw (above-after hi b high)
       at (none-wrong _ _ e (natAbs (hi -ℤ b)) (above-inside hi b high lo right low))
 
-  -- a refusal is that of 1 to 15 and 22, or 23
+  -- a refusal is one before 16, or 23
   told-refused : {A : Type 0} (a : Answer) → told ≡ refusal a
-      → (blameless (rangeAnswer c s lo hi room) ≡ false → a ≡ rangeAnswer c s lo hi room → A)
-      → (Passes (rangeAnswer c s lo hi room) → refusedBefore c s lo hi room ≡ Nothing → a ≡ refused 23 0 → A) → A
+      → (blameless (rangeAnswer c s ls lo hi room) ≡ false → a ≡ rangeAnswer c s ls lo hi room → A)
+      → (Passes (rangeAnswer c s ls lo hi room) → refusedBefore c s ls lo hi room ≡ Nothing → a ≡ refused 23 0 → A) → A
   told-refused a e one other =
       told-cases (λ h q. one h (cc)) (λ h i f q. never (cc)) (λ h f q. other h f (cc))
 
@@ -154,35 +155,30 @@ module _ (c s : List ℕ) (lo hi : ℤ) (room : ℕ) where
   told-fails a e = told-refused a e (λ h q. rw q h) (λ h f q. rw q (refused-blames 23 0 refl))
 
   module _ (bc : Bytes c) (bs : Bytes s) (a : Answer) (e : told ≡ refusal a) (n : a .number ≡ 23) where
-    not-before : {A : Type 0} → a ≡ rangeAnswer c s lo hi room → A
+    not-before : {A : Type 0} → a ≡ rangeAnswer c s ls lo hi room → A
     not-before q =
-        absurd (omega (
-          arith,
-          n,
-          ap (λ (a : Answer). a .number) q,
-          range-short c s lo hi room {limit = 23} (omega arith) bc bs .number-short,
-        ))
+        absurd (range-other c s ls lo hi room bc bs (sym (ap (λ (a : Answer). a .number) q) ∙ n))
 
     pub told-none : a ≡ refused 23 0
     told-none = told-refused a e (λ h q. not-before q) (λ h f q. q)
 
-    none-ready : Passes (rangeAnswer c s lo hi room) × (refusedBefore c s lo hi room ≡ Nothing)
+    none-ready : Passes (rangeAnswer c s ls lo hi room) × (refusedBefore c s ls lo hi room ≡ Nothing)
     none-ready = told-refused a e (λ h q. not-before q) (λ h f q. (h, f))
 
-  module _ (h : Passes (rangeAnswer c s lo hi room)) where
+  module _ (h : Passes (rangeAnswer c s ls lo hi room)) where
     ready-cases : {A : Type 0}
-        → ((i : ℕ) → refusedBefore c s lo hi room ≡ At i → told ≡ found (floorAfter hi i) (suc i) (rowCount s) → A)
-        → (refusedBefore c s lo hi room ≡ Nothing → told ≡ refusal (refused 23 0) → A) → A
+        → ((i : ℕ) → refusedBefore c s ls lo hi room ≡ At i → told ≡ found (floorAfter hi i) (suc i) (rowCount s) → A)
+        → (refusedBefore c s ls lo hi room ≡ Nothing → told ≡ refusal (refused 23 0) → A) → A
     ready-cases some none = told-cases (λ n q. absurd (true≢false (sym h ∙ n))) (λ _. some) (λ _. none)
 
-    told-some : (b : ℤ) → lo ≤ℤ b → b ≤ℤ hi → accepts c s room b ≡ true → Some (λ b tried k. told ≡ found b tried k)
+    told-some : (b : ℤ) → lo ≤ℤ b → b ≤ℤ hi → accepts c s ls room b ≡ true → Some (λ b tried k. told ≡ found b tried k)
     told-some b low high a =
         ready-cases (λ i f q. record { floor = _; tried = _; rows = _; finds = q })
         (λ f q.
-        let right = right-range lo hi (range-passed c s lo hi room h) in
+        let right = right-range lo hi (range-passed c s ls lo hi room h) in
         absurd (true≢false (sym a ∙ none-accepted f right b low high)))
 
-    told-unfound : ((b : ℤ) → lo ≤ℤ b → b ≤ℤ hi → accepts c s room b ≡ false) → told ≡ refusal (refused 23 0)
+    told-unfound : ((b : ℤ) → lo ≤ℤ b → b ≤ℤ hi → accepts c s ls room b ≡ false) → told ≡ refusal (refused 23 0)
     unfolding accepts
     told-unfound none =
         ready-cases
@@ -192,11 +188,11 @@ module _ (c s : List ℕ) (lo hi : ℤ) (room : ℕ) where
 
   -- ---- for the crates above: the answer is short, and an acceptance carries k
 
-  pub told-short : {limit : ℕ} → 23 < limit → Bytes c → Bytes s → Short limit (answerOf told)
+  pub told-short : {limit : ℕ} → 25 < limit → Bytes c → Bytes s → Short limit (answerOf told)
   told-short {limit} h bc bs =
-      told-cases (λ _ q. rw (answer-refusal _ _ q) (range-short c s lo hi room (omega arith) bc bs))
+      told-cases (λ _ q. rw (answer-refusal _ _ q) (range-short c s ls lo hi room h bc bs))
       (λ _ i f q. rw (answer-found _ _ _ _ q) (short-accepted _ (omega arith) (rows-counted s bs)))
-      (λ _ f q. rw (answer-refusal _ _ q) (short-refused 23 0 h (omega arith)))
+      (λ _ f q. rw (answer-refusal _ _ q) (short-refused 23 0 (omega arith) (omega arith)))
 
   pub told-accepted : Passes (answerOf told) → answerOf told ≡ accepted (rowCount s)
   told-accepted h =
@@ -205,67 +201,68 @@ module _ (c s : List ℕ) (lo hi : ℤ) (room : ℕ) where
 
 -- ---- the promises of a floor that is told
 
-found-promises : (c s : List ℕ) (lo hi : ℤ) (out : List ℕ) → Bytes s → (b : ℤ) (tried k : ℕ)
-    → searchOf c s lo hi (length out) ≡ found b tried k → (o : List ℕ) → o ≡ outputOf (withFloor c b) s out
-    → FloorPromises c s lo hi out b tried k o
+found-promises : (c s ls : List ℕ) (lo hi : ℤ) (out : List ℕ) → Bytes s → (b : ℤ) (tried k : ℕ)
+    → searchOf c s ls lo hi (length out) ≡ found b tried k → (o : List ℕ) → o ≡ outputOf (withFloor c b) s ls out
+    → FloorPromises c s ls lo hi out b tried k o
 unfolding accepts
-found-promises c s lo hi out bs b tried k e o eo = record {
-  formed = found-formed c s lo hi (length out) b tried k e;
-  right = right c s lo hi (length out) b tried k e;
-  within = found-within c s lo hi (length out) b tried k e;
-  accepted = found-accepted c s lo hi (length out) b tried k e;
-  higher = found-higher c s lo hi (length out) b tried k e;
+found-promises c s ls lo hi out bs b tried k e o eo = record {
+  formed = found-formed c s ls lo hi (length out) b tried k e;
+  right = right c s ls lo hi (length out) b tried k e;
+  within = found-within c s ls lo hi (length out) b tried k e;
+  accepted = found-accepted c s ls lo hi (length out) b tried k e;
+  higher = found-higher c s ls lo hi (length out) b tried k e;
   written = eo;
-  counts = found-counts c s lo hi (length out) b tried k e;
-  floors = found-floors c s lo hi (length out) b tried k e;
-  everywhere = λ z. floors-unmasked (domainOf c) b _ z .0 (found-floors c s lo hi (length out) b tried k e);
+  counts = found-counts c s ls lo hi (length out) b tried k e;
+  floors = found-floors c s ls lo hi (length out) b tried k e;
+  unlimited = λ u. floors-unlimited (domainOf c ls) b _ u .0 (found-floors c s ls lo hi (length out) b tried k e);
+  everywhere = λ u z. floors-unmasked (domainOf c ls) b _ u z .0 (found-floors c s ls lo hi (length out) b tried k e);
   checked =
-      check-promises (withFloor c b) s out _ k (λ h. h, λ h. h)
-      (λ _. walked c s lo hi (length out) b tried k e .rows-are) bs o eo;
+      check-promises (withFloor c b) s ls out _ k (λ h. h, λ h. h)
+      (λ _. walked c s ls lo hi (length out) b tried k e .rows-are) bs o eo;
 }
 
 -- ---- the promises, for whatever is to say that a floor is found, or none
 
-module _ (c s : List ℕ) (lo hi : ℤ) (out : List ℕ) (Finds : ℤ → ℕ → ℕ → Type 0) (FindsNone : Type 0)
-    (meant : (b : ℤ) (tried k : ℕ) → Finds b tried k ↔ (searchOf c s lo hi (length out) ≡ found b tried k))
-    (none-meant : FindsNone ↔ (searchOf c s lo hi (length out) ≡ refusal (refused 23 0))) (bc : Bytes c) (bs : Bytes s)
-    (o : List ℕ) (eo : o ≡ searchOutput c s lo hi out) where
-  found-output : (b : ℤ) (tried k : ℕ) → Finds b tried k → o ≡ outputOf (withFloor c b) s out
+module _ (c s ls : List ℕ) (lo hi : ℤ) (out : List ℕ) (Finds : ℤ → ℕ → ℕ → Type 0) (FindsNone : Type 0)
+    (meant : (b : ℤ) (tried k : ℕ) → Finds b tried k ↔ (searchOf c s ls lo hi (length out) ≡ found b tried k))
+    (none-meant : FindsNone ↔ (searchOf c s ls lo hi (length out) ≡ refusal (refused 23 0))) (bc : Bytes c) (bs : Bytes s)
+    (o : List ℕ) (eo : o ≡ searchOutput c s ls lo hi out) where
+  found-output : (b : ℤ) (tried k : ℕ) → Finds b tried k → o ≡ outputOf (withFloor c b) s ls out
   unfolding searchOutput outputBy
   found-output b tried k f = eo ∙ rw (meant b tried k .0 f)
 
   unfound-output : (Some Finds → ⊥) → o ≡ out
   unfolding searchOutput outputBy
-  unfound-output n = go (searchOf c s lo hi (length out)) refl
+  unfound-output n = go (searchOf c s ls lo hi (length out)) refl
     where
-      go : (t : Told) → searchOf c s lo hi (length out) ≡ t → o ≡ out
+      go : (t : Told) → searchOf c s ls lo hi (length out) ≡ t → o ≡ out
       go (found b tried k) e =
           absurd (n (record { floor = b; tried = tried; rows = k; finds = meant b tried k .1 e }))
       go (refusal answer) e = eo ∙ rw e
 
-  pub search-promises : SearchPromises c s lo hi out Finds FindsNone o
+  pub search-promises : SearchPromises c s ls lo hi out Finds FindsNone o
   unfolding accepts
   search-promises = record {
     found = λ b tried k f.
-        found-promises c s lo hi out bs b tried k (meant b tried k .0 f) o (found-output b tried k f);
+        found-promises c s ls lo hi out bs b tried k (meant b tried k .0 f) o (found-output b tried k f);
     finds = λ formed enough right b low high a.
-        let ready = range-passes c s lo hi (length out) formed enough (range-right lo hi right) in
-        let t = told-some c s lo hi (length out) ready b low high a in
+        let ready = range-passes c s ls lo hi (length out) formed enough (range-right lo hi right) in
+        let t = told-some c s ls lo hi (length out) ready b low high a in
         record { floor = t .floor; tried = t .tried; rows = t .rows; finds = meant _ _ _ .1 (t .finds) };
     none = (
       λ f.
-          let r = none-ready c s lo hi (length out) bc bs _ (none-meant .0 f) (refused-number 23 0) in
-          let input = input-passed c s lo hi (length out) (r .0) in
-          let right = right-range lo hi (range-passed c s lo hi (length out) (r .0)) in (
-            input-formed c s (length out) input,
-            input-enough c s (length out) input,
+          let r = none-ready c s ls lo hi (length out) bc bs _ (none-meant .0 f) (refused-number 23 0) in
+          let input = input-passed c s ls lo hi (length out) (r .0) in
+          let right = right-range lo hi (range-passed c s ls lo hi (length out) (r .0)) in (
+            input-formed c s ls (length out) input,
+            input-enough c s ls (length out) input,
             right,
-            none-accepted c s lo hi (length out) (r .1) right,
+            none-accepted c s ls lo hi (length out) (r .1) right,
           ),
       λ p.
           none-meant .1
-          (told-unfound c s lo hi (length out)
-          (range-passes c s lo hi (length out) (p .0) (p .1) (range-right lo hi (p .2))) (p .3)),
+          (told-unfound c s ls lo hi (length out)
+          (range-passes c s ls lo hi (length out) (p .0) (p .1) (range-right lo hi (p .2))) (p .3)),
     );
     leaves = unfound-output;
   }

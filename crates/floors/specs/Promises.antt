@@ -11,10 +11,13 @@ use lib.Signed.{_≤ℤ_, _<ℤ_}
 use Rattle.bounds.specs.Bounds.{greatestWeight, greatestSpan}
 use Rattle.answers.specs.Answers as Answers
 use Rattle.answers.specs.Answers.{blameless, Passes}
+use Rattle.monomials.specs.Powers.{Allowed}
 use Rattle.squares.specs.Sums.{valueAt}
+use Rattle.squares.specs.Domains.{Unlimited}
 use Rattle.squares.specs.Floor.{Floors}
 use Rattle.sheets.specs.Layout.{maskOf}
-use Rattle.sheets.specs.ClaimSheet.{domainOf, withFloor, termsOf}
+use Rattle.sheets.specs.ClaimSheet.{withFloor, termsOf}
+use Rattle.limits.specs.LimitsSheet.{domainOf}
 use Rattle.checks.specs.Input.{WellFormed}
 use Rattle.judging.specs.Check.{checkAnswer, outputOf}
 use Rattle.judging.specs.Promises.{CheckPromises}
@@ -27,25 +30,29 @@ pub record RightRange (lo hi : ℤ) : Type 0 where
   pub span : (hi -ℤ lo) ≤ℤ pos greatestSpan
 
 -- what is promised of a floor b that is found after so many were tried, with k rows; o is the output afterwards
-pub record FloorPromises (c s : List ℕ) (lo hi : ℤ) (out : List ℕ) (b : ℤ) (tried k : ℕ) (o : List ℕ) : Type 0 where
-  -- "The claim's own b must be valid"; "1 to 15 apply once"; and so does 22
-  pub formed : WellFormed c s
+pub record FloorPromises (c s l : List ℕ) (lo hi : ℤ) (out : List ℕ) (b : ℤ) (tried k : ℕ) (o : List ℕ) : Type 0 where
+  -- "The claim's own b must be valid"; "1 to 15 apply once"; and so do 22, 24 and 25
+  pub formed : WellFormed c s l
   pub right : RightRange lo hi
   -- "the greatest floor whose check is accepted": a floor of the range, accepted with k
   pub within : (lo ≤ℤ b) × (b ≤ℤ hi)
-  pub accepted : checkAnswer (withFloor c b) s (length out) ≡ Answers.accepted k
+  pub accepted : checkAnswer (withFloor c b) s l (length out) ≡ Answers.accepted k
   -- "Every higher floor up to hi is refused by the check"
-  pub higher : (a : ℤ) → b <ℤ a → a ≤ℤ hi → blameless (checkAnswer (withFloor c a) s (length out)) ≡ false
+  pub higher : (a : ℤ) → b <ℤ a → a ≤ℤ hi → blameless (checkAnswer (withFloor c a) s l (length out)) ≡ false
   -- "that floor's exact proof": what its check writes
-  pub written : o ≡ outputOf (withFloor c b) s out
+  pub written : o ≡ outputOf (withFloor c b) s l out
   -- "the number of floors tried, which is hi minus the floor found, plus one"
   pub counts : pos tried ≡ hi -ℤ b +ℤ pos 1
-  -- Demand 3: "the polynomial is at least the floor", by note 3 "at whole points with masked variables at least 0"
-  pub floors : Floors (domainOf c) b (termsOf c)
+  -- Demand 3: "the polynomial is at least the floor", by note 4 "at every whole point that the mask allows, with each
+  -- limited variable within ±L"
+  pub floors : Floors (domainOf c l) b (termsOf c)
+  -- where no variable is limited "at whole points with masked variables at least 0"
+  pub unlimited : Unlimited (domainOf c l .limits)
+      → (x : List ℤ) → Allowed (maskOf c) x → b ≤ℤ valueAt x (termsOf c)
   -- and without a mask "at all whole offsets, of either sign and however large"
-  pub everywhere : maskOf c ≡ 0 → (x : List ℤ) → b ≤ℤ valueAt x (termsOf c)
+  pub everywhere : Unlimited (domainOf c l .limits) → maskOf c ≡ 0 → (x : List ℤ) → b ≤ℤ valueAt x (termsOf c)
   -- and all else that its check promises
-  pub checked : CheckPromises (withFloor c b) s out (Passes (checkAnswer (withFloor c b) s (length out))) k o
+  pub checked : CheckPromises (withFloor c b) s l out (Passes (checkAnswer (withFloor c b) s l (length out))) k o
 
 -- a floor is found, with the number of floors tried and the number of rows
 pub record Some (Finds : ℤ → ℕ → ℕ → Type 0) : Type 0 where
@@ -56,14 +63,14 @@ pub record Some (Finds : ℤ → ℕ → ℕ → Type 0) : Type 0 where
 
 -- `Finds b tried k` says that the entry point found the floor b, and `FindsNone` that it answered 23, both as its
 -- caller sees them
-pub record SearchPromises (c s : List ℕ) (lo hi : ℤ) (out : List ℕ) (Finds : ℤ → ℕ → ℕ → Type 0) (FindsNone : Type 0)
+pub record SearchPromises (c s l : List ℕ) (lo hi : ℤ) (out : List ℕ) (Finds : ℤ → ℕ → ℕ → Type 0) (FindsNone : Type 0)
     (o : List ℕ) : Type 0 where
-  pub found : (b : ℤ) (tried k : ℕ) → Finds b tried k → FloorPromises c s lo hi out b tried k o
+  pub found : (b : ℤ) (tried k : ℕ) → Finds b tried k → FloorPromises c s l lo hi out b tried k o
   -- where some floor of a right range is accepted, one is found
-  pub finds : WellFormed c s → length s ≤ length out → RightRange lo hi
-      → (b : ℤ) → lo ≤ℤ b → b ≤ℤ hi → Passes (checkAnswer (withFloor c b) s (length out)) → Some Finds
+  pub finds : WellFormed c s l → length s ≤ length out → RightRange lo hi
+      → (b : ℤ) → lo ≤ℤ b → b ≤ℤ hi → Passes (checkAnswer (withFloor c b) s l (length out)) → Some Finds
   -- 23, "no floor accepted": exactly where the check refuses every floor of a right range
-  pub none : FindsNone ↔ (WellFormed c s × (length s ≤ length out) × RightRange lo hi
-      × ((b : ℤ) → lo ≤ℤ b → b ≤ℤ hi → blameless (checkAnswer (withFloor c b) s (length out)) ≡ false))
+  pub none : FindsNone ↔ (WellFormed c s l × (length s ≤ length out) × RightRange lo hi
+      × ((b : ℤ) → lo ≤ℤ b → b ≤ℤ hi → blameless (checkAnswer (withFloor c b) s l (length out)) ≡ false))
   -- "both write nothing", and so does every other refusal
   pub leaves : (Some Finds → ⊥) → o ≡ out

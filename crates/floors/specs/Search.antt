@@ -1,10 +1,10 @@
 -- The search for the highest floor: "tries hi first and goes down".
 use mathlib.Core.Path.{_≡_}
 use mathlib.Core.Bool.{Bool, false, cond, _||_}
-use mathlib.Core.List.{List}
+use mathlib.Core.List.{List, _++_}
 use Prim.Native.Nat.{ℕ, suc}
 use lib.IntN.{ℤ, pos, natAbs, _-ℤ_}
-use lib.ListN.{length}
+use lib.ListN.{length, drop}
 use lib.Signed.{ltZ}
 use Rattle.bounds.specs.Bounds.{greatestWeight, greatestSpan, beyond}
 use Rattle.answers.specs.Answers.{Answer, accepted, refused, says, refuseIf, blameless, andThen}
@@ -14,11 +14,11 @@ use Rattle.answers.specs.declared.searches.Found as Index
 use Rattle.answers.specs.declared.searches.Found.the-variants.{At, Nothing}
 use Rattle.sheets.specs.Layout.{rowCount}
 use Rattle.sheets.specs.ClaimSheet.{withFloor}
-use Rattle.rows.specs.ProofSheet.{scaleOf}
 use Rattle.checks.specs.Input.{inputAnswer}
-use Rattle.targets.specs.Targets.{aimOf, targetOf}
+use Rattle.targets.specs.Targets.{atFloor, targetOf}
 use Rattle.targets.specs.declared.targets.Aim.{Aim}
 use Rattle.sharing.specs.Shifts.{CheckedSheets}
+use Rattle.weighing.specs.Exact.{exactProof}
 use Rattle.weighing.specs.Weighed.{weighedAnswer}
 use Rattle.judging.specs.Check.{checkAnswer, outputOf}
 use Rattle.floors.specs.declared.search.Searched.{Searched}
@@ -47,9 +47,9 @@ unfoldable pub rangeWrong : ℤ → ℤ → Bool
 rangeWrong lo hi =
     ltZ hi lo || beyond greatestWeight lo || beyond greatestWeight hi || ltZ (pos greatestSpan) (hi -ℤ lo)
 
--- "1 to 15 apply once"; "22 after 15"; the room is the output's length
-unfoldable pub rangeAnswer : List ℕ → List ℕ → ℤ → ℤ → ℕ → Answer
-rangeAnswer c s lo hi room = andThen (inputAnswer c s room) (refuseIf (rangeWrong lo hi) 22 (accepted 0))
+-- "1 to 15 apply once", and 24 and 25 among them; "22 after 15"; the room is the output's length
+unfoldable pub rangeAnswer : List ℕ → List ℕ → List ℕ → ℤ → ℤ → ℕ → Answer
+rangeAnswer c s l lo hi room = andThen (inputAnswer c s l room) (refuseIf (rangeWrong lo hi) 22 (accepted 0))
 
 -- how many floors there are from lo to hi, and the one that comes after i others
 unfoldable pub floorCount : ℤ → ℤ → ℕ
@@ -61,40 +61,45 @@ floorAfter hi i = hi -ℤ pos i
 -- ---- the search
 
 -- the check accepts the claim with b in its floor field
-unfoldable pub accepts : List ℕ → List ℕ → ℕ → ℤ → Bool
-accepts c s room b = blameless (checkAnswer (withFloor c b) s room)
+unfoldable pub accepts : List ℕ → List ℕ → List ℕ → ℕ → ℤ → Bool
+accepts c s l room b = blameless (checkAnswer (withFloor c b) s l room)
 
 -- how many floors are refused before "the greatest floor whose check is accepted"
-unfoldable pub refusedBefore : List ℕ → List ℕ → ℤ → ℤ → ℕ → Index.Found
-refusedBefore c s lo hi room = first (λ i. accepts c s room (floorAfter hi i)) (floorCount lo hi)
+unfoldable pub refusedBefore : List ℕ → List ℕ → List ℕ → ℤ → ℤ → ℕ → Index.Found
+refusedBefore c s l lo hi room = first (λ i. accepts c s l room (floorAfter hi i)) (floorCount lo hi)
 
 -- "the number of floors tried"; 23: "no floor accepted"
 unfoldable pub toldAfter : List ℕ → ℤ → Index.Found → Told
 toldAfter s hi (At i) = found (floorAfter hi i) (suc i) (rowCount s)
 toldAfter s hi Nothing = refusal (refused 23 0)
 
-unfoldable pub searchOf : List ℕ → List ℕ → ℤ → ℤ → ℕ → Told
-searchOf c s lo hi room =
-    cond (blameless (rangeAnswer c s lo hi room)) (toldAfter s hi (refusedBefore c s lo hi room))
-    (refusal (rangeAnswer c s lo hi room))
+unfoldable pub searchOf : List ℕ → List ℕ → List ℕ → ℤ → ℤ → ℕ → Told
+searchOf c s l lo hi room =
+    cond (blameless (rangeAnswer c s l lo hi room)) (toldAfter s hi (refusedBefore c s l lo hi room))
+    (refusal (rangeAnswer c s l lo hi room))
 
 -- "that floor's exact proof": the output of the check with that floor. A refusal "writes nothing".
-unfoldable pub outputBy : List ℕ → List ℕ → List ℕ → Told → List ℕ
-outputBy c s out (found b tried k) = outputOf (withFloor c b) s out
-outputBy c s out (refusal answer) = out
+unfoldable pub outputBy : List ℕ → List ℕ → List ℕ → List ℕ → Told → List ℕ
+outputBy c s l out (found b tried k) = outputOf (withFloor c b) s l out
+outputBy c s l out (refusal answer) = out
 
-unfoldable pub searchOutput : List ℕ → List ℕ → ℤ → ℤ → List ℕ → List ℕ
-searchOutput c s lo hi out = outputBy c s out (searchOf c s lo hi (length out))
+unfoldable pub searchOutput : List ℕ → List ℕ → List ℕ → ℤ → ℤ → List ℕ → List ℕ
+searchOutput c s l lo hi out = outputBy c s l out (searchOf c s l lo hi (length out))
 
--- ---- as the code goes: 16 to 19 alone, for a floor and the proof's scale
+-- ---- as the code goes: 16 to 19 alone, for each floor; a has the scale and the limits
 
-unfoldable pub aimAfter : List ℕ → ℤ → ℕ → Aim
-aimAfter s hi i = record { floor = floorAfter hi i; scale = scaleOf s }
+unfoldable pub aimAfter : Aim → ℤ → ℕ → Aim
+aimAfter a hi i = atFloor a (floorAfter hi i)
 
-unfoldable pub passesAfter : List ℕ → List ℕ → ℤ → ℕ → Bool
-passesAfter c s hi i = blameless (weighedAnswer (targetOf c (aimAfter s hi i)) c s)
+unfoldable pub passesAfter : List ℕ → List ℕ → Aim → ℤ → ℕ → Bool
+passesAfter c s a hi i = blameless (weighedAnswer c s (aimAfter a hi i))
 
--- sheets and a range that pass 1 to 15 and 22
-pub record Searchable (c s : List ℕ) (lo hi : ℤ) : Type 0 where
-  pub sheets : CheckedSheets c s (aimOf c s)
+-- what stands in the output after the search, where so many floors were refused
+unfoldable pub outputAfter : List ℕ → List ℕ → Aim → ℤ → List ℕ → Index.Found → List ℕ
+outputAfter c s a hi out (At i) = exactProof (targetOf c (aimAfter a hi i)) s ++ drop (length s) out
+outputAfter c s a hi out Nothing = out
+
+-- sheets and a range that pass all checks before 16
+pub record Searchable (c s : List ℕ) (a : Aim) (lo hi : ℤ) : Type 0 where
+  pub sheets : CheckedSheets c s a
   pub ranged : rangeWrong lo hi ≡ false

@@ -2,32 +2,32 @@
 -- `cycle-failed` of proofs/trials/Laws.antt show that none fails exactly where 16 to 19 are passed.
 use mathlib.Core.Bool.{Bool, cond, not}
 use mathlib.Core.List.{List}
-use Prim.Native.Nat.{ℕ, suc, _+_, _-_}
+use Prim.Native.Nat.{ℕ, _+_, _-_}
 use lib.Dec.{ltb}
-use lib.IntN.{ℤ}
 use Rattle.bounds.specs.Bounds.{greatestWeight}
-use Rattle.points.specs.Points.{Exponents}
-use Rattle.sheets.specs.Layout.{termCount, rowCount}
+use Rattle.sheets.specs.Layout.{variables, termCount, rowCount}
+use Rattle.targets.specs.Targets.{targetOf}
+use Rattle.targets.specs.declared.targets.Aim.{Aim}
 use Rattle.sharing.specs.Shifts.{shiftedRow}
 use Rattle.judgements.specs.Judgements.{judgedAs}
-use Rattle.weighing.specs.Unheld.{unheld}
+use Rattle.weighing.specs.Unheld.{pointCount, unheld}
 
--- the points that 16 looks at: those of the terms, and the constant's
-abbrev pub pointCount : List ℕ → ℕ
-pointCount c = suc (termCount c)
+-- the points that 16 looks at
+abbrev pub points : List ℕ → ℕ
+points c = pointCount (variables c) (termCount c)
 
 unfoldable pub testCount : List ℕ → List ℕ → ℕ
-testCount c s = pointCount c + rowCount s
+testCount c s = points c + rowCount s
 
--- test i fails: point i is unheld, or after the points a row is not judged to hold; τ gives each point's target
-unfoldable pub fails : (Exponents → ℤ) → List ℕ → List ℕ → ℕ → Bool
-fails τ c s i =
-    cond (ltb i (pointCount c)) (unheld τ c s i)
-    (not (judgedAs 0 greatestWeight (shiftedRow τ s) (i - pointCount c)))
+-- test i fails: point i is unheld, or after the points a row is not judged to hold
+unfoldable pub fails : List ℕ → List ℕ → Aim → ℕ → Bool
+fails c s a i =
+    cond (ltb i (points c)) (unheld c s a i)
+    (not (judgedAs 0 greatestWeight (shiftedRow (targetOf c a) s) (i - points c)))
 
 -- the i-th of n tests from one on; after the last comes the first
 unfoldable pub rotated : ℕ → ℕ → ℕ → ℕ
 rotated n from i = cond (ltb (from + i) n) (from + i) (from + i - n)
 
-unfoldable pub failsFrom : (Exponents → ℤ) → List ℕ → List ℕ → ℕ → ℕ → Bool
-failsFrom τ c s from i = fails τ c s (rotated (testCount c s) from i)
+unfoldable pub failsFrom : List ℕ → List ℕ → Aim → ℕ → ℕ → Bool
+failsFrom c s a from i = fails c s a (rotated (testCount c s) from i)

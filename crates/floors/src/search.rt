@@ -11,8 +11,9 @@ use bounds::bounds::is_beyond;
 use checks::input::check_input;
 use integers::magnitudes::magnitude;
 use rows::proof_sheet::row_count;
-use rows::proof_sheet::scale;
 use targets::targets::Aim;
+use targets::targets::aim_of;
+use targets::targets::at_floor;
 use weighing::exact::write_exact;
 ghost use mathlib.Core.Path.{_≡_};
 ghost use mathlib.Core.Bool.{false};
@@ -22,7 +23,7 @@ ghost use lib.ListN.{length};
 ghost use Rattle.bounds.specs.Bounds.{greatestWeight, greatestSpan};
 ghost use Rattle.answers.specs.Answers.{says, refused};
 ghost use Rattle.answers.specs.Searches.{first};
-ghost use Rattle.floors.specs.Search.{rangeWrong, rangeAnswer, floorCount, aimAfter, Searchable, passesAfter, found, refusal, tells, searchOf, searchOutput};
+ghost use Rattle.floors.specs.Search.{rangeWrong, rangeAnswer, floorCount, toldAfter, aimAfter, Searchable, passesAfter, outputAfter, found, refusal, tells, searchOf, searchOutput};
 ghost use Rattle.floors.specs.Promises.{SearchPromises};
 
 // The highest floor that is accepted, how many floors were tried and the number of rows; or the sheet at fault.
@@ -47,11 +48,12 @@ fn range_wrong(lo: i64, hi: i64) -> bool
     is_beyond(hi - lo, GREATEST_SPAN)
 }
 
-// The checks 1 to 15, then 22; the room is the output's length.
-fn check_range(claim: &[u8], proof: &[u8], lo: i64, hi: i64, room: usize) -> Verdict
-    ensures { λ r. ⌜ says r ≡ rangeAnswer (now (claim .entry)) (now (proof .entry)) lo hi room ⌝ }
+// The checks 1 to 15, 24 and 25, then 22; the room is the output's length.
+fn check_range(claim: &[u8], proof: &[u8], limits: &[u8], lo: i64, hi: i64, room: usize) -> Verdict
+    ensures { λ r. ⌜ says r
+        ≡ rangeAnswer (now (claim .entry)) (now (proof .entry)) (now (limits .entry)) lo hi room ⌝ }
 {
-    let formed = check_input(claim, proof, room);
+    let formed = check_input(claim, proof, limits, room);
     let Verdict::Accepted(_) = formed else {
         return formed;
     };
@@ -69,29 +71,26 @@ fn floor_count(lo: i64, hi: i64) -> usize
     magnitude(hi - lo) as usize + 1
 }
 
-// What is tried after i floors: the floor that many below hi, with the proof's scale.
-fn aim_after(proof: &[u8], hi: i64, i: usize) -> Aim
-    requires { ⌜ (8 ≤ length (now proof)) × (natAbs hi ≤ greatestWeight) × (i ≤ greatestSpan) ⌝ }
-    ensures { λ r. ⌜ r ≡ aimAfter (now (proof .entry)) hi i ⌝ }
+// What is tried after i floors: the floor that many below hi.
+fn aim_after(aim: Aim, hi: i64, i: usize) -> Aim
+    requires { ⌜ (natAbs hi ≤ greatestWeight) × (i ≤ greatestSpan) ⌝ }
+    ensures { λ r. ⌜ r ≡ aimAfter aim hi i ⌝ }
 {
-    Aim {
-        floor: hi - i as i64,
-        scale: scale(proof),
-    }
+    at_floor(aim, hi - i as i64)
 }
 
 // How many floors fail before the first that passes 16 to 19. Each is tried first by the test that refused the one
 // before; that test mostly refuses it too, and no answer depends on which it was.
-fn walk(claim: &[u8], proof: &[u8], lo: i64, hi: i64) -> Found
-    requires { ⌜ Searchable (now claim) (now proof) lo hi ⌝ }
-    ensures { λ r. ⌜ r ≡ first (passesAfter (now (claim .entry)) (now (proof .entry)) hi) (floorCount lo hi) ⌝ }
+fn walk(claim: &[u8], proof: &[u8], aim: Aim, lo: i64, hi: i64) -> Found
+    requires { ⌜ Searchable (now claim) (now proof) aim lo hi ⌝ }
+    ensures { λ r. ⌜ r ≡ first (passesAfter (now (claim .entry)) (now (proof .entry)) aim hi) (floorCount lo hi) ⌝ }
 {
     let tests = test_count(claim, proof);
     let floors = floor_count(lo, hi);
     let mut last = 0;
     let mut i = 0;
     while i < floors {
-        let Found::At(j) = first_failing(claim, proof, aim_after(proof, hi, i), tests, last) else {
+        let Found::At(j) = first_failing(claim, proof, aim_after(aim, hi, i), tests, last) else {
             return Found::At(i);
         };
         last = rotate(tests, last, j);
@@ -100,23 +99,50 @@ fn walk(claim: &[u8], proof: &[u8], lo: i64, hi: i64) -> Found
     Found::Nothing
 }
 
-// Searches for the highest floor from hi down to lo whose check is accepted, and writes that floor's exact proof into
-// the output as its check does; a refusal writes nothing.
-pub fn search(claim: &[u8], proof: &[u8], lo: i64, hi: i64, output: &mut [u8]) -> Searched
-    ensures answer { λ r. ⌜ tells r
-        ≡ searchOf (now (claim .entry)) (now (proof .entry)) lo hi (length (now (output .entry))) ⌝ }
+// The search of checked sheets, by 16 to 19 alone.
+fn search_checked(
+    claim: &[u8],
+    proof: &[u8],
+    own: Aim,
+    lo: i64,
+    hi: i64,
+    output: &mut [u8],
+) -> Searched
+    requires { ⌜ (Searchable (now claim) (now proof) own lo hi) × (length (now proof) ≤ length (now output)) ⌝ }
+    ensures told { λ r. ⌜ tells r ≡ toldAfter (now (proof .entry)) hi
+        (first (passesAfter (now (claim .entry)) (now (proof .entry)) own hi) (floorCount lo hi)) ⌝ }
     ensures written { λ r. ⌜ now (output .exit)
-        ≡ searchOutput (now (claim .entry)) (now (proof .entry)) lo hi (now (output .entry)) ⌝ }
-    ensures promises { λ r. ⌜ SearchPromises (now (claim .entry)) (now (proof .entry)) lo hi (now (output .entry))
-        (λ b tried k. tells r ≡ found b tried k) (tells r ≡ refusal (refused 23 0)) (now (output .exit)) ⌝ }
+        ≡ outputAfter (now (claim .entry)) (now (proof .entry)) own hi (now (output .entry))
+        (first (passesAfter (now (claim .entry)) (now (proof .entry)) own hi) (floorCount lo hi)) ⌝ }
 {
-    if let Verdict::Refused(sheet) = check_range(claim, proof, lo, hi, output.len()) {
-        return Searched::Refused(sheet);
-    }
-    let Found::At(i) = walk(claim, proof, lo, hi) else {
+    let Found::At(i) = walk(claim, proof, own, lo, hi) else {
         return Searched::Refused(Sheet::Range(23, 0));
     };
-    let aim = aim_after(proof, hi, i);
+    let aim = aim_after(own, hi, i);
     write_exact(claim, proof, aim, output);
     Searched::Found(aim.floor, i as u32 + 1, row_count(proof))
+}
+
+// Searches for the highest floor from hi down to lo whose check is accepted, and writes that floor's exact proof into
+// the output as its check does; a refusal writes nothing.
+pub fn search(
+    claim: &[u8],
+    proof: &[u8],
+    limits: &[u8],
+    lo: i64,
+    hi: i64,
+    output: &mut [u8],
+) -> Searched
+    ensures answer { λ r. ⌜ tells r ≡ searchOf (now (claim .entry)) (now (proof .entry)) (now (limits .entry)) lo hi
+        (length (now (output .entry))) ⌝ }
+    ensures written { λ r. ⌜ now (output .exit) ≡ searchOutput (now (claim .entry)) (now (proof .entry))
+        (now (limits .entry)) lo hi (now (output .entry)) ⌝ }
+    ensures promises { λ r. ⌜ SearchPromises (now (claim .entry)) (now (proof .entry)) (now (limits .entry)) lo hi
+        (now (output .entry)) (λ b tried k. tells r ≡ found b tried k) (tells r ≡ refusal (refused 23 0))
+        (now (output .exit)) ⌝ }
+{
+    if let Verdict::Refused(sheet) = check_range(claim, proof, limits, lo, hi, output.len()) {
+        return Searched::Refused(sheet);
+    }
+    search_checked(claim, proof, aim_of(claim, proof, limits), lo, hi, output)
 }

@@ -2,15 +2,14 @@
 use answers::searches::Found;
 use judgements::judgements::holds;
 use rows::proof_sheet::row_count;
-use sheets::claim_sheet::term_count;
 use targets::targets::Aim;
 use weighing::unheld::is_unheld;
+use weighing::unheld::point_count;
 use weighing::weighed::judge_row;
 ghost use mathlib.Core.Path.{_≡_};
 ghost use Prim.Native.Nat.{_<_, _≤_};
 ghost use lib.ListN.{length};
 ghost use Rattle.answers.specs.Searches.{first};
-ghost use Rattle.targets.specs.Targets.{targetOf};
 ghost use Rattle.sharing.specs.Shifts.{CheckedSheets};
 ghost use Rattle.floors.specs.Trials.{testCount, fails, rotated, failsFrom};
 
@@ -19,15 +18,15 @@ pub(crate) fn test_count(claim: &[u8], proof: &[u8]) -> usize
     requires { ⌜ (8 ≤ length (now claim)) × (8 ≤ length (now proof)) ⌝ }
     ensures { λ r. ⌜ r ≡ testCount (now (claim .entry)) (now (proof .entry)) ⌝ }
 {
-    term_count(claim) + 1 + row_count(proof)
+    point_count(claim) + row_count(proof)
 }
 
 // Whether test i fails: a point that is unheld, or a row that does not hold.
 fn fails(claim: &[u8], proof: &[u8], aim: Aim, i: usize) -> bool
     requires { ⌜ (CheckedSheets (now claim) (now proof) aim) × (i < testCount (now claim) (now proof)) ⌝ }
-    ensures { λ r. ⌜ r ≡ fails (targetOf (now (claim .entry)) aim) (now (claim .entry)) (now (proof .entry)) i ⌝ }
+    ensures { λ r. ⌜ r ≡ fails (now (claim .entry)) (now (proof .entry)) aim i ⌝ }
 {
-    let points = term_count(claim) + 1;
+    let points = point_count(claim);
     if i < points {
         return is_unheld(claim, proof, aim, i);
     }
@@ -56,8 +55,7 @@ pub(crate) fn first_failing(
 ) -> Found
     requires { ⌜ (CheckedSheets (now claim) (now proof) aim) × (tests ≡ testCount (now claim) (now proof))
         × (from < tests) ⌝ }
-    ensures { λ r. ⌜ r
-        ≡ first (failsFrom (targetOf (now (claim .entry)) aim) (now (claim .entry)) (now (proof .entry)) from) tests ⌝ }
+    ensures { λ r. ⌜ r ≡ first (failsFrom (now (claim .entry)) (now (proof .entry)) aim from) tests ⌝ }
 {
     let mut i = 0;
     while i < tests {

@@ -10,13 +10,13 @@ use Rattle.integers.proofs.words.Laws.{Bytes}
 use Rattle.bounds.specs.Bounds.{greatestWeight}
 use Rattle.answers.specs.Answers.{says, Passes, Short}
 use Rattle.answers.specs.declared.answers.Verdict.the-variants.{Accepted}
-use Rattle.answers.proofs.answers.Laws.{passed-if, accepted-says, passes-if, passes-then, then-passes, then-on, passed, short-accepted, short-if, short-then}
+use Rattle.answers.proofs.answers.Laws.{passes-or-fails, then-off, passed-if, accepted-says, passes-if, passes-then, then-passes, then-on, passed, short-accepted, short-if, short-then}
 use Rattle.sheets.specs.Layout.{variables, termCount, shapeOf, LimitsRoom}
 use Rattle.sheets.specs.ClaimSheet.{withFloor}
 use Rattle.sheets.proofs.claim_sheet.Laws.{floored-before}
 use Rattle.limits.specs.LimitsSheet.{limitsOf}
 use Rattle.limits.specs.LimitChecks.{limitsAnswer, RightLimits}
-use Rattle.limits.proofs.limit_checks.Laws.{limits-room, limits-right, limits-short, none-passes}
+use Rattle.limits.proofs.limit_checks.Laws.{limits-room, limits-right, limits-short, limits-other, none-passes}
 use Rattle.claims.specs.ClaimChecks.{claimAnswer, ClaimFacts}
 use Rattle.claims.proofs.claim_checks.Laws.{claim-facts, claim-floored, claim-short}
 use Rattle.checks.specs.ProofChecks.{rowsAnswer, HeaderFacts, ProofFacts}
@@ -115,14 +115,35 @@ module _ (c s l : List ℕ) (room : ℕ) where
         (then-passes _ _ (then-passes _ _ (claim-floored c b w (d .0)) (d .1)) (a .1))
 
 -- every answer is short
+head-short : (c s : List ℕ) {limit : ℕ} → 10 < limit → Bytes c → Short limit (headAnswer c s)
+unfolding headAnswer
+head-short c s h bc = short-then _ _ (claim-short c (omega arith) bc) (header-short (variables c) s h)
+
+body-short : (s : List ℕ) (room : ℕ) {limit : ℕ} → 15 < limit → Bytes s → Short limit (bodyAnswer s room)
+unfolding bodyAnswer roomAnswer
+body-short s room h bs =
+    short-then _ _ (short-if 11 _ (omega arith) (short-accepted 0 (omega arith) (omega arith)) _) (rows-short s h bs)
+
 pub input-short : {limit : ℕ} (c s l : List ℕ) (room : ℕ) → 25 < limit → Bytes c → Bytes s
     → Short limit (inputAnswer c s l room)
-unfolding inputAnswer headAnswer restAnswer bodyAnswer roomAnswer
+unfolding inputAnswer restAnswer
 input-short c s l room h bc bs =
-    short-then _ _ (short-then _ _ (claim-short c (omega arith) bc) (header-short (variables c) s (omega arith)))
-    (short-then _ _ (limits-short (variables c) l h (omega (arith, bc 0)))
-    (short-then _ _ (short-if 11 _ (omega arith) (short-accepted 0 (omega arith) (omega arith)) _)
-    (rows-short s (omega arith) bs)))
+    short-then _ _ (head-short c s (omega arith) bc)
+    (short-then _ _ (limits-short (variables c) l h (omega (arith, bc 0))) (body-short s room (omega arith) bs))
+
+-- and none is 23, which a search says of its own
+pub input-other : (c s l : List ℕ) (room : ℕ) → Bytes c → Bytes s → inputAnswer c s l room .number ≡ 23 → ⊥
+unfolding inputAnswer restAnswer
+input-other c s l room bc bs n =
+    passes-or-fails (headAnswer c s)
+    (λ h.
+    let e = rw (then-on _ _ h) at n in
+    passes-or-fails (limitsAnswer (variables c) l) (λ k. body (rw (then-on _ _ k) at e))
+    (λ k. limits-other (variables c) l (rw (then-off _ _ k) at e)))
+    (λ h. let e = rw (then-off _ _ h) at n in omega (arith, head-short c s {limit = 11} (omega arith) bc .number-short))
+  where
+    body : bodyAnswer s room .number ≡ 23 → ⊥
+    body e = omega (arith, body-short s room {limit = 16} (omega arith) bs .number-short)
 
 -- ---- without limits
 

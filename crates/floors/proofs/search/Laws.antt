@@ -12,14 +12,16 @@ use Rattle.integers.proofs.Tests.{nor}
 use Rattle.integers.proofs.words.Laws.{Bytes}
 use Rattle.bounds.specs.Bounds.{greatestWeight, greatestSpan}
 use Rattle.bounds.proofs.bounds.Laws.{within-bound, bound-within}
-use Rattle.answers.specs.Answers.{Answer, accepted, says, blameless, Passes, Short}
+use Rattle.answers.specs.Answers.{Answer, accepted, says, refuseIf, blameless, Passes, Short}
 use Rattle.answers.specs.Searches.{first}
 use Rattle.answers.specs.declared.answers.Sheet.{Sheet}
 use Rattle.answers.specs.declared.answers.Verdict.the-variants as Verdicts
-use Rattle.answers.proofs.answers.Laws.{passes-then, passes-if, then-passes, passed, passed-if, accepted-says, short-accepted, short-if, short-then}
+use Rattle.answers.proofs.answers.Laws.{passes-or-fails, passes-then, passes-if, then-passes, then-on, then-off, passed, passed-if, accepted-says, short-accepted, short-if, short-then}
 use Rattle.answers.proofs.searches.Laws.{first-same}
 use Rattle.checks.specs.Input.{inputAnswer, WellFormed}
-use Rattle.checks.proofs.input.Laws.{input-formed, input-passes, input-short}
+use Rattle.checks.proofs.input.Laws.{input-formed, input-passes, input-short, input-other}
+use Rattle.targets.specs.Targets.{aimOf}
+use Rattle.targets.specs.declared.targets.Aim.{Aim}
 use Rattle.sharing.proofs.shifts.Laws.{sheets-checked}
 use Rattle.judging.proofs.check.Laws.{floored-answer}
 use Rattle.floors.specs.Search.{Told, found, refusal, tells, answerOf, rangeWrong, rangeAnswer, floorCount, floorAfter, accepts, refusedBefore, aimAfter, passesAfter, Searchable}
@@ -97,10 +99,10 @@ module _ (lo hi : ℤ) (r : RightRange lo hi) where
     pub after-within : natAbs (floorAfter hi i) ≤ greatestWeight
     after-within = abs-between greatestWeight after-low after-high (r .low) (r .high)
 
--- ---- sheets and a range that pass 1 to 15 and 22
+-- ---- sheets and a range that pass all checks before 16
 
-module _ (c s : List ℕ) (lo hi : ℤ) (room : ℕ) (h : Passes (rangeAnswer c s lo hi room)) where
-  pub input-passed : Passes (inputAnswer c s room)
+module _ (c s ls : List ℕ) (lo hi : ℤ) (room : ℕ) (h : Passes (rangeAnswer c s ls lo hi room)) where
+  pub input-passed : Passes (inputAnswer c s ls room)
   unfolding rangeAnswer
   input-passed = passes-then _ _ h .0
 
@@ -108,34 +110,49 @@ module _ (c s : List ℕ) (lo hi : ℤ) (room : ℕ) (h : Passes (rangeAnswer c 
   unfolding rangeAnswer
   range-passed = passes-if _ 22 _ refl (passes-then _ _ h .1) .0
 
-  pub searchable : Searchable c s lo hi
+  -- with the claim's own floor
+  abbrev own : Aim
+  own = aimOf c s ls
+
+  pub searchable : Searchable c s own lo hi
   searchable = record {
-    sheets = sheets-checked c s (input-formed c s room input-passed);
+    sheets = sheets-checked c s ls (input-formed c s ls room input-passed);
     ranged = range-passed;
   }
 
   -- the check of each floor
-  accepts-after : (i : ℕ) → i < floorCount lo hi → accepts c s room (floorAfter hi i) ≡ passesAfter c s hi i
+  accepts-after : (i : ℕ) → i < floorCount lo hi → accepts c s ls room (floorAfter hi i) ≡ passesAfter c s own hi i
   unfolding accepts passesAfter aimAfter
   accepts-after i l =
       ap blameless
-      (floored-answer c s room input-passed (floorAfter hi i)
+      (floored-answer c s ls room input-passed (floorAfter hi i)
       (after-within lo hi (right-range lo hi range-passed) i l))
 
-  pub refused-before : refusedBefore c s lo hi room ≡ first (passesAfter c s hi) (floorCount lo hi)
+  pub refused-before : refusedBefore c s ls lo hi room ≡ first (passesAfter c s own hi) (floorCount lo hi)
   unfolding refusedBefore
   refused-before = first-same _ _ (floorCount lo hi) accepts-after
 
--- they pass where the sheets are well-formed, the output is long enough and the range is right; no number is over 22
-module _ (c s : List ℕ) (lo hi : ℤ) (room : ℕ) where
-  pub range-passes : WellFormed c s → length s ≤ room → rangeWrong lo hi ≡ false → Passes (rangeAnswer c s lo hi room)
+-- they pass where the sheets are well-formed, the output is long enough and the range is right; no answer is 23
+module _ (c s ls : List ℕ) (lo hi : ℤ) (room : ℕ) where
+  pub range-passes : WellFormed c s ls → length s ≤ room → rangeWrong lo hi ≡ false → Passes (rangeAnswer c s ls lo hi room)
   unfolding rangeAnswer
   range-passes f l r =
-      then-passes _ _ (input-passes c s room f l)
+      then-passes _ _ (input-passes c s ls room f l)
       (passed (Verdicts.Accepted 0) _ (passed-if (Verdicts.Accepted 0) _ 22 _ r (accepted-says 0)) 0 refl)
 
-  pub range-short : {limit : ℕ} → 22 < limit → Bytes c → Bytes s → Short limit (rangeAnswer c s lo hi room)
+  pub range-short : {limit : ℕ} → 25 < limit → Bytes c → Bytes s → Short limit (rangeAnswer c s ls lo hi room)
   unfolding rangeAnswer
   range-short h bc bs =
-      short-then _ _ (input-short c s room (omega arith) bc bs)
-      (short-if 22 _ h (short-accepted 0 (omega arith) (omega arith)) _)
+      short-then _ _ (input-short c s ls room h bc bs)
+      (short-if 22 _ (omega arith) (short-accepted 0 (omega arith) (omega arith)) _)
+
+  pub range-other : Bytes c → Bytes s → rangeAnswer c s ls lo hi room .number ≡ 23 → ⊥
+  unfolding rangeAnswer
+  range-other bc bs n =
+      let later = refuseIf (rangeWrong lo hi) 22 (accepted 0) in
+      let short = short-if {limit = 23} 22 (accepted 0) (omega arith) (short-accepted 0 (omega arith) (omega arith))
+      (rangeWrong lo hi) in
+      passes-or-fails (inputAnswer c s ls room)
+      (λ h. let e : later .number ≡ 23 = rw (then-on (inputAnswer c s ls room) later h) at n in
+      omega (arith, short .number-short))
+      (λ h. input-other c s ls room bc bs (rw (then-off (inputAnswer c s ls room) later h) at n))

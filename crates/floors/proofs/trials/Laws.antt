@@ -5,7 +5,6 @@ use mathlib.Core.List.{List}
 use Prim.Native.Nat.{ℕ, _+_, _-_, _<_, _≤_}
 use native.Mathlib.Decide.{decLt}
 use native.Mathlib.Omega.{arith}
-use lib.IntN.{ℤ}
 use borrow.Author.Tests.{lt-ltb, le-ltb, not-false}
 use Rattle.bounds.specs.Bounds.{greatestWeight}
 use Rattle.answers.specs.Answers.{blameless, Passes}
@@ -13,15 +12,15 @@ use Rattle.answers.specs.Searches.{first}
 use Rattle.answers.specs.declared.searches.Found.the-variants.{At, Nothing}
 use Rattle.answers.proofs.answers.Laws.{passes-or-fails, accepted-passes}
 use Rattle.answers.proofs.searches.Laws.{none-wrong, first-inside}
-use Rattle.points.specs.Points.{Exponents}
 use Rattle.sheets.specs.Layout.{rowCount}
+use Rattle.targets.specs.Targets.{targetOf}
 use Rattle.targets.specs.declared.targets.Aim.{Aim}
 use Rattle.sharing.specs.Shifts.{shiftedRow, CheckedSheets}
 use Rattle.judgements.specs.Judgements.{judgedAs}
 use Rattle.weighing.specs.Unheld.{unheld}
 use Rattle.weighing.specs.Weighed.{weighedAnswer}
 use Rattle.weighing.proofs.weighed.Laws.{tests-passed, tests-pass}
-use Rattle.floors.specs.Trials.{pointCount, testCount, fails, rotated, failsFrom}
+use Rattle.floors.specs.Trials.{points, testCount, fails, rotated, failsFrom}
 
 -- ---- the rotation
 
@@ -53,50 +52,50 @@ module _ (n from : ℕ) (inside : from < n) where
 
 pub tests-few : (c s : List ℕ) (n : ℕ) → n ≡ testCount c s → (a : Aim) → CheckedSheets c s a → n ≤ 65536
 unfolding testCount
-tests-few c s n e a given = omega (arith, e, given .claim .room .terms, given .proof .header .room .rows)
+tests-few c s n e a given = omega (arith, e, given .claim .room .few, given .claim .room .terms, given .proof .header .room .rows)
 
-module _ (τ : Exponents → ℤ) (c s : List ℕ) where
-  pub fails-point : (i : ℕ) → i < pointCount c → fails τ c s i ≡ unheld τ c s i
+module _ (c s : List ℕ) (a : Aim) where
+  pub fails-point : (i : ℕ) → i < points c → fails c s a i ≡ unheld c s a i
   unfolding fails
-  fails-point i l = rw (lt-ltb i (pointCount c) l)
+  fails-point i l = rw (lt-ltb i (points c) l)
 
-  pub fails-row : (i : ℕ) → pointCount c ≤ i
-      → fails τ c s i ≡ not (judgedAs 0 greatestWeight (shiftedRow τ s) (i - pointCount c))
+  pub fails-row : (i : ℕ) → points c ≤ i
+      → fails c s a i ≡ not (judgedAs 0 greatestWeight (shiftedRow (targetOf c a) s) (i - points c))
   unfolding fails
-  fails-row i l = rw (le-ltb i (pointCount c) l)
+  fails-row i l = rw (le-ltb i (points c) l)
 
-  none-fails : ((i : ℕ) → i < testCount c s → fails τ c s i ≡ false) → Passes (weighedAnswer τ c s)
+  none-fails : ((i : ℕ) → i < testCount c s → fails c s a i ≡ false) → Passes (weighedAnswer c s a)
   unfolding testCount
   none-fails h =
       accepted-passes _ (rowCount s)
-      (tests-pass τ c s (λ i l. sym (fails-point i l) ∙ h i (omega arith))
+      (tests-pass c s a (λ i l. sym (fails-point i l) ∙ h i (omega arith))
       (λ i l.
-      let e : pointCount c + i - pointCount c ≡ i = omega arith in
+      let e : points c + i - points c ≡ i = omega arith in
       not-false _
-      (rw e at (sym (fails-row (pointCount c + i) (omega arith)) ∙ h (pointCount c + i) (omega arith)))))
+      (rw e at (sym (fails-row (points c + i) (omega arith)) ∙ h (points c + i) (omega arith)))))
 
-  passes-none : Passes (weighedAnswer τ c s) → (i : ℕ) → i < testCount c s → fails τ c s i ≡ false
+  passes-none : Passes (weighedAnswer c s a) → (i : ℕ) → i < testCount c s → fails c s a i ≡ false
   unfolding testCount
-  passes-none h i l = go (decLt i (pointCount c))
+  passes-none h i l = go (decLt i (points c))
     where
-      go : Dec (i < pointCount c) → fails τ c s i ≡ false
-      go (yes m) = fails-point i m ∙ tests-passed τ c s h .0 i m
+      go : Dec (i < points c) → fails c s a i ≡ false
+      go (yes m) = fails-point i m ∙ tests-passed c s a h .0 i m
       go (no m) =
-          fails-row i (omega arith) ∙ rw (tests-passed τ c s h .1 (i - pointCount c) (omega arith))
+          fails-row i (omega arith) ∙ rw (tests-passed c s a h .1 (i - points c) (omega arith))
 
   -- from any of them on
   module _ (from : ℕ) (inside : from < testCount c s) where
-    pub cycle-passed : first (failsFrom τ c s from) (testCount c s) ≡ Nothing → Passes (weighedAnswer τ c s)
+    pub cycle-passed : first (failsFrom c s a from) (testCount c s) ≡ Nothing → Passes (weighedAnswer c s a)
     unfolding failsFrom
     cycle-passed h =
-        none-fails (rotated-all (testCount c s) from inside (λ j. fails τ c s j ≡ false) (none-wrong _ _ h))
+        none-fails (rotated-all (testCount c s) from inside (λ j. fails c s a j ≡ false) (none-wrong _ _ h))
 
-    pub cycle-failed : (i : ℕ) → first (failsFrom τ c s from) (testCount c s) ≡ At i
-        → blameless (weighedAnswer τ c s) ≡ false
+    pub cycle-failed : (i : ℕ) → first (failsFrom c s a from) (testCount c s) ≡ At i
+        → blameless (weighedAnswer c s a) ≡ false
     unfolding failsFrom
     cycle-failed i h =
         let f = first-inside _ (testCount c s) i h in
-        passes-or-fails (weighedAnswer τ c s)
+        passes-or-fails (weighedAnswer c s a)
         (λ p.
         absurd
         (true≢false (sym (f .1) ∙ passes-none p _ (rotated-inside (testCount c s) from inside i (f .0)))))

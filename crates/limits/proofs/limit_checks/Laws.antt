@@ -1,7 +1,7 @@
 -- Laws of the checks 24 and 25: the test of a limit and its words, what it says of a sheet that it passes them, and how
 -- short their answers are.
 use mathlib.Core.Path.{_≡_, refl, sym, _∙_}
-use mathlib.Core.Bool.{true, false, and-eq-true-iff}
+use mathlib.Core.Bool.{true, false, and-eq-true-iff, Bool, not}
 use mathlib.Core.List.{List}
 use mathlib.Core.Logic.{_⊎_, inl, inr, _↔_}
 use Prim.Native.Nat.{ℕ, _<_, _≤_}
@@ -10,7 +10,10 @@ use native.Mathlib.Omega.{arith}
 use lib.ListN.{length}
 use borrow.Author.Tests.{eq-eqb, ne-eqb, eqb-true, le-leb, leb-true, not-false}
 use Rattle.bounds.specs.Bounds.{mostVariables}
-use Rattle.answers.specs.Answers.{Passes, Short}
+use Rattle.answers.specs.Answers.{accepted, refused, refuseIf, refuseAt, Passes, Short}
+use Rattle.answers.specs.Searches.{first}
+use Rattle.answers.specs.declared.searches.Found.{Found}
+use Rattle.answers.specs.declared.searches.Found.the-variants.{At, Nothing}
 use Rattle.answers.proofs.answers.Laws.{passes-if, passes-at, if-on, at-on, accepted-passes, short-accepted, short-if, short-at}
 use Rattle.answers.proofs.searches.Laws.{none-wrong, all-right}
 use Rattle.squares.specs.declared.limits.Limit.{Limit}
@@ -114,6 +117,16 @@ unfolding limitsAnswer
 limits-short n l h k =
     short-if 24 _ (omega arith)
     (short-at 25 _ (omega arith) (short-accepted 0 (omega arith) (omega arith)) _ _ (omega arith)) _
+
+-- a search says 23 of its own
+pub limits-other : (n : ℕ) (l : List ℕ) → limitsAnswer n l .number ≡ 23 → ⊥
+unfolding limitsAnswer refuseIf refuseAt refused accepted
+limits-other n l = go (not (limitsShaped n l)) (first (limitBreaks l n) n)
+  where
+    go : (b : Bool) (f : Found) → refuseIf b 24 (refuseAt f 25 (accepted 0)) .number ≡ 23 → ⊥
+    go true f e = omega arith
+    go false (At i) e = omega arith
+    go false Nothing e = omega arith
 
 -- ---- the sheet that limits no variable
 

@@ -14,11 +14,10 @@ use Rattle.floors.proofs.search.walk.Statement.{statement}
 use Rattle.floors.proofs.search.walk.Tie as tie
 
 abbrev Inv-loop : tie.InvT-loop
-Inv-loop claim proof lo hi tests floors last₀ i₀ last i =
-    (i ≤ floors) × (last < tests) × (first (passesAfter claim proof (toZ w64 hi)) i ≡ Nothing)
+Inv-loop claim proof aim lo hi tests floors last₀ i₀ last i = (i ≤ floors) × (last < tests) × (first (passesAfter claim proof aim (toZ w64 hi)) i ≡ Nothing)
 
 abbrev μ-loop : tie.MeasureT-loop
-μ-loop claim proof lo hi tests floors last₀ i₀ last i = floors - i
+μ-loop claim proof aim lo hi tests floors last₀ i₀ last i = floors - i
 
 test-count-requires : tie.Need-test-count-requires Inv-loop μ-loop
 test-count-requires c κs = (search claim-eight, search proof-eight)
@@ -30,7 +29,7 @@ loop-holds : tie.Need-loop-holds Inv-loop μ-loop
 loop-holds c = (search needs, search tests-some, search first-start)
 
 aim-after-requires : tie.Need-aim-after-requires Inv-loop μ-loop
-aim-after-requires c κs = (search proof-eight, search (walk-high, toZ-ofZ), search (needs, walk-few, toZ-ofZ))
+aim-after-requires c κs = (search (walk-high, toZ-ofZ), search (needs, walk-few, toZ-ofZ))
 
 first-failing-requires : tie.Need-first-failing-requires Inv-loop μ-loop
 first-failing-requires c κs = (search (walk-checked, toZ-ofZ), search needs, search needs)

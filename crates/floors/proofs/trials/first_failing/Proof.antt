@@ -4,7 +4,6 @@ use borrow.Author.Needs.{needs}
 use Rattle.answers.specs.Searches.{first}
 use Rattle.answers.specs.declared.searches.Found.the-variants.{Nothing}
 use Rattle.answers.proofs.searches.Laws.{first-start, first-stop, first-next, first-end}
-use Rattle.targets.specs.Targets.{targetOf}
 use Rattle.floors.specs.Trials.{failsFrom}
 use Rattle.floors.proofs.trials.Laws.{tests-few}
 use Rattle.floors.proofs.trials.Steps.{test-met, test-inside}
@@ -13,7 +12,7 @@ use Rattle.floors.proofs.trials.first_failing.Tie as tie
 
 abbrev Inv-loop : tie.InvT-loop
 Inv-loop claim proof aim tests from i₀ i =
-    (i ≤ tests) × (first (failsFrom (targetOf claim aim) claim proof from) i ≡ Nothing)
+    (i ≤ tests) × (first (failsFrom claim proof aim from) i ≡ Nothing)
 
 abbrev μ-loop : tie.MeasureT-loop
 μ-loop claim proof aim tests from i₀ i = tests - i

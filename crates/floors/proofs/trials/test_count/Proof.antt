@@ -7,6 +7,4 @@ returns : tie.Need-returns
 returns c = search tests-counted
 
 pub test-count-spec : {M : Type 1} → statement M
-test-count-spec =
-    tie.close
-    (tie.spec (λ c κs. search needs) (λ c. search needs) (λ c κs. search needs) (λ c. search needs) returns)
+test-count-spec = tie.close (tie.spec (λ c κs. search needs) (λ c κs. search needs) (λ c. search needs) returns)
