@@ -30,19 +30,24 @@ fn code(verdict: Verdict) -> u64
     said.sheet as u64 * SHEET_UNIT + said.number as u64 * NUMBER_UNIT + said.value as u64
 }
 
-// Checks a claim and its proof, and writes the exact proof into the output where they are accepted.
+// Checks a claim and its proof within limits, and writes the exact proof into the output where they are accepted.
 #[no_mangle]
-pub extern "C" fn burmelox_check(claim: &[u8], proof: &[u8], output: &mut [u8]) -> u64
-    ensures code { λ r. ⌜ r
-        ≡ codeOf (checkAnswer (now (claim .entry)) (now (proof .entry)) (length (now (output .entry)))) ⌝ }
-    ensures answer { λ r. ⌜ Coded
-        (checkAnswer (now (claim .entry)) (now (proof .entry)) (length (now (output .entry)))) r ⌝ }
+pub extern "C" fn burmelox_check(
+    claim: &[u8],
+    proof: &[u8],
+    limits: &[u8],
+    output: &mut [u8],
+) -> u64
+    ensures code { λ r. ⌜ r ≡ codeOf (checkAnswer (now (claim .entry)) (now (proof .entry)) (now (limits .entry))
+        (length (now (output .entry)))) ⌝ }
+    ensures answer { λ r. ⌜ Coded (checkAnswer (now (claim .entry)) (now (proof .entry)) (now (limits .entry))
+        (length (now (output .entry)))) r ⌝ }
     ensures written { λ r. ⌜ now (output .exit)
-        ≡ outputOf (now (claim .entry)) (now (proof .entry)) (now (output .entry)) ⌝ }
-    ensures promises { λ r. ⌜ CheckPromises (now (claim .entry)) (now (proof .entry)) (now (output .entry))
-        (Accepted r) r (now (output .exit)) ⌝ }
+        ≡ outputOf (now (claim .entry)) (now (proof .entry)) (now (limits .entry)) (now (output .entry)) ⌝ }
+    ensures promises { λ r. ⌜ CheckPromises (now (claim .entry)) (now (proof .entry)) (now (limits .entry))
+        (now (output .entry)) (Accepted r) r (now (output .exit)) ⌝ }
 {
-    code(check(claim, proof, output))
+    code(check(claim, proof, limits, output))
 }
 
 // Evaluates a claim's polynomial: 0 and the value, or the refusal's code and the value as it was.
@@ -65,36 +70,36 @@ pub extern "C" fn burmelox_evaluate(claim: &[u8], offsets: &[i32], value: &mut i
     }
 }
 
-// Searches for the highest floor from hi down to lo that is accepted, and writes its exact proof into the output: the
+// Searches for the highest floor from hi down to lo that is accepted within limits, and writes its exact proof into the output: the
 // number of rows, the floor and the number of floors tried, or the refusal's code and both as they were.
 #[no_mangle]
 pub extern "C" fn burmelox_search(
     claim: &[u8],
     proof: &[u8],
+    limits: &[u8],
     lo: i64,
     hi: i64,
     output: &mut [u8],
     floor: &mut i64,
     tried: &mut u32,
 ) -> u64
-    ensures code { λ r. ⌜ r ≡ codeOf
-        (answerOf (searchOf (now (claim .entry)) (now (proof .entry)) lo hi (length (now (output .entry))))) ⌝ }
-    ensures answer { λ r. ⌜ Coded
-        (answerOf (searchOf (now (claim .entry)) (now (proof .entry)) lo hi (length (now (output .entry))))) r ⌝ }
-    ensures written { λ r. ⌜ now (output .exit)
-        ≡ searchOutput (now (claim .entry)) (now (proof .entry)) lo hi (now (output .entry)) ⌝ }
-    ensures floor { λ r. ⌜ now (floor .exit) ≡ toldFloor
-        (searchOf (now (claim .entry)) (now (proof .entry)) lo hi (length (now (output .entry))))
-        (now (floor .entry)) ⌝ }
-    ensures tried { λ r. ⌜ now (tried .exit) ≡ toldTried
-        (searchOf (now (claim .entry)) (now (proof .entry)) lo hi (length (now (output .entry))))
-        (now (tried .entry)) ⌝ }
+    ensures code { λ r. ⌜ r ≡ codeOf (answerOf (searchOf (now (claim .entry)) (now (proof .entry))
+        (now (limits .entry)) lo hi (length (now (output .entry))))) ⌝ }
+    ensures answer { λ r. ⌜ Coded (answerOf (searchOf (now (claim .entry)) (now (proof .entry))
+        (now (limits .entry)) lo hi (length (now (output .entry))))) r ⌝ }
+    ensures written { λ r. ⌜ now (output .exit) ≡ searchOutput (now (claim .entry)) (now (proof .entry))
+        (now (limits .entry)) lo hi (now (output .entry)) ⌝ }
+    ensures floor { λ r. ⌜ now (floor .exit) ≡ toldFloor (searchOf (now (claim .entry)) (now (proof .entry))
+        (now (limits .entry)) lo hi (length (now (output .entry)))) (now (floor .entry)) ⌝ }
+    ensures tried { λ r. ⌜ now (tried .exit) ≡ toldTried (searchOf (now (claim .entry)) (now (proof .entry))
+        (now (limits .entry)) lo hi (length (now (output .entry)))) (now (tried .entry)) ⌝ }
     ensures kept { λ r. ⌜ Leaves (Accepted r) (now (floor .entry)) (now (floor .exit))
         × Leaves (Accepted r) (now (tried .entry)) (now (tried .exit)) ⌝ }
-    ensures promises { λ r. ⌜ SearchPromises (now (claim .entry)) (now (proof .entry)) lo hi (now (output .entry))
-        (Finds r (now (floor .exit)) (now (tried .exit))) (numberIn r ≡ 23) (now (output .exit)) ⌝ }
+    ensures promises { λ r. ⌜ SearchPromises (now (claim .entry)) (now (proof .entry)) (now (limits .entry)) lo hi
+        (now (output .entry)) (Finds r (now (floor .exit)) (now (tried .exit))) (numberIn r ≡ 23)
+        (now (output .exit)) ⌝ }
 {
-    match search(claim, proof, lo, hi, output) {
+    match search(claim, proof, limits, lo, hi, output) {
         Searched::Refused(sheet) => code(Verdict::Refused(sheet)),
         Searched::Found(b, m, k) => {
             *floor = b;

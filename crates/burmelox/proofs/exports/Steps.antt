@@ -74,27 +74,27 @@ module _ (a : Answer) (r : ℕ) (e : r ≡ codeOf a) where
 
 -- ---- burmelox_check: v is the verdict, r its code, o the output afterwards
 
-module _ (c s out : List ℕ) (v : Verdict) (e : says v ≡ checkAnswer c s (length out)) (bc : Bytes c)
+module _ (c s ls out : List ℕ) (v : Verdict) (e : says v ≡ checkAnswer c s ls (length out)) (bc : Bytes c)
     (bs : Bytes s) where
   pub checked-short : Short 65536 (says v)
-  checked-short = rw e (check-short c s (length out) (omega arith) bc bs)
+  checked-short = rw e (check-short c s ls (length out) (omega arith) bc bs)
 
   module _ (r : ℕ) (er : r ≡ codeOf (says v)) where
     abbrev answer : Answer
-    answer = checkAnswer c s (length out)
+    answer = checkAnswer c s ls (length out)
 
     pub check-code : r ≡ codeOf answer
     check-code = er ∙ ap codeOf e
 
     pub check-coded : Coded answer r
     check-coded =
-        coded answer r check-code (check-short c s (length out) (omega arith) bc bs) (rowCount s)
-        (accepted-rows c s (length out))
+        coded answer r check-code (check-short c s ls (length out) (omega arith) bc bs) (rowCount s)
+        (accepted-rows c s ls (length out))
 
-    pub check-promised : (o : List ℕ) → o ≡ outputOf c s out → CheckPromises c s out (Accepted r) r o
+    pub check-promised : (o : List ℕ) → o ≡ outputOf c s ls out → CheckPromises c s ls out (Accepted r) r o
     check-promised =
-        check-promises c s out _ _ (check-coded .accepted)
-        (λ h. accepted-code _ _ check-code _ (accepted-rows c s (length out) h)) bs
+        check-promises c s ls out _ _ (check-coded .accepted)
+        (λ h. accepted-code _ _ check-code _ (accepted-rows c s ls (length out) h)) bs
 
 -- ---- burmelox_evaluate: t is the evaluation, r the answer, `after` what is stored
 
@@ -151,11 +151,11 @@ module _ (c : List ℕ) (x : List ℤ) (bc : Bytes c) (r : ℕ) (before after : 
 
 -- ---- burmelox_search: t is the search, r the answer, b and m what is stored, o the output afterwards
 
-module _ (c s : List ℕ) (lo hi : ℤ) (out : List ℕ) where
+module _ (c s ls : List ℕ) (lo hi : ℤ) (out : List ℕ) where
   abbrev told : Floors.Told
-  told = searchOf c s lo hi (length out)
+  told = searchOf c s ls lo hi (length out)
 
-  module _ (t : Searched) (lo′ hi′ : ℤ) (e : Floors.tells t ≡ searchOf c s lo′ hi′ (length out)) (el : lo′ ≡ lo)
+  module _ (t : Searched) (lo′ hi′ : ℤ) (e : Floors.tells t ≡ searchOf c s ls lo′ hi′ (length out)) (el : lo′ ≡ lo)
       (eh : hi′ ≡ hi) where
     told-here : Floors.tells t ≡ told
     told-here = e ∙ rw (el, eh)
@@ -166,7 +166,7 @@ module _ (c s : List ℕ) (lo hi : ℤ) (out : List ℕ) where
 
       pub search-short : Bytes c → Bytes s → Short 65536 (says (Verdicts.Refused sheet))
       search-short bc bs =
-          rw (answer-refusal _ _ unfound) at (told-short c s lo hi (length out) {limit = 65536} (omega arith) bc bs)
+          rw (answer-refusal _ _ unfound) at (told-short c s ls lo hi (length out) {limit = 65536} (omega arith) bc bs)
 
       pub unfound-code : (r : ℕ) → r ≡ codeOf (says (Verdicts.Refused sheet)) → r ≡ codeOf (answerOf told)
       unfound-code r er = er ∙ ap codeOf (sym (answer-refusal _ _ unfound))
@@ -194,16 +194,16 @@ module _ (c s : List ℕ) (lo hi : ℤ) (out : List ℕ) where
       unfolding toldTried
       found-tried before = rw found
 
-  pub search-output : (o : List ℕ) (lo′ hi′ : ℤ) → o ≡ searchOutput c s lo′ hi′ out → lo′ ≡ lo → hi′ ≡ hi
-      → o ≡ searchOutput c s lo hi out
+  pub search-output : (o : List ℕ) (lo′ hi′ : ℤ) → o ≡ searchOutput c s ls lo′ hi′ out → lo′ ≡ lo → hi′ ≡ hi
+      → o ≡ searchOutput c s ls lo hi out
   search-output o lo′ hi′ e el eh = e ∙ rw (el, eh)
 
   module _ (bc : Bytes c) (bs : Bytes s) (r : ℕ) (b₀ b : ℤ) (m₀ m : ℕ) (o : List ℕ) (er : r ≡ codeOf (answerOf told))
-      (eb : b ≡ toldFloor told b₀) (em : m ≡ toldTried told m₀) (eo : o ≡ searchOutput c s lo hi out) where
+      (eb : b ≡ toldFloor told b₀) (em : m ≡ toldTried told m₀) (eo : o ≡ searchOutput c s ls lo hi out) where
     search-coded : Coded (answerOf told) r
     search-coded =
-        coded (answerOf told) r er (told-short c s lo hi (length out) (omega arith) bc bs) (rowCount s)
-        (told-accepted c s lo hi (length out))
+        coded (answerOf told) r er (told-short c s ls lo hi (length out) (omega arith) bc bs) (rowCount s)
+        (told-accepted c s ls lo hi (length out))
 
     -- what is told, by what the caller sees
     module _ (floor : ℤ) (tried k : ℕ) where
@@ -232,7 +232,7 @@ module _ (c s : List ℕ) (lo hi : ℤ) (out : List ℕ) where
               cc
           go (Floors.refusal a) e =
               let p = search-coded .accepted .0 (q .0) in
-              absurd (true≢false (sym p ∙ rw (answer-refusal told a e) (told-fails c s lo hi (length out) a e)))
+              absurd (true≢false (sym p ∙ rw (answer-refusal told a e) (told-fails c s ls lo hi (length out) a e)))
 
     none-seen : numberIn r ≡ 23 → told ≡ Floors.refusal (refused 23 0)
     none-seen n = go told refl
@@ -245,7 +245,7 @@ module _ (c s : List ℕ) (lo hi : ℤ) (out : List ℕ) where
             absurd (omega (arith, number, accepted-numbers _ k (answer-found told f j k e) .0))
         go (Floors.refusal a) e =
             e ∙ ap Floors.refusal
-            (told-none c s lo hi (length out) bc bs a e (rw (answer-refusal told a e) at number))
+            (told-none c s ls lo hi (length out) bc bs a e (rw (answer-refusal told a e) at number))
 
     seen-none : told ≡ Floors.refusal (refused 23 0) → numberIn r ≡ 23
     seen-none e = search-coded .number ∙ rw (answer-refusal told _ e, refused-number)
@@ -258,15 +258,15 @@ module _ (c s : List ℕ) (lo hi : ℤ) (out : List ℕ) where
         go n (Floors.found f j k) e = absurd (n (seen-found f j k e .0))
         go n (Floors.refusal a) e = h a e
 
-    pub searched : (r ≡ codeOf (answerOf told)) × (Coded (answerOf told) r × ((o ≡ searchOutput c s lo hi out)
+    pub searched : (r ≡ codeOf (answerOf told)) × (Coded (answerOf told) r × ((o ≡ searchOutput c s ls lo hi out)
         × ((b ≡ toldFloor told b₀) × ((m ≡ toldTried told m₀)
         × ((Leaves (Accepted r) b₀ b × Leaves (Accepted r) m₀ m)
-        × SearchPromises c s lo hi out (Finds r b m) (numberIn r ≡ 23) o)))))
+        × SearchPromises c s ls lo hi out (Finds r b m) (numberIn r ≡ 23) o)))))
     unfolding toldFloor toldTried
     searched =
         let floor-kept = kept b₀ b (λ a e. eb ∙ rw e) in
         let tried-kept = kept m₀ m (λ a e. em ∙ rw e) in
         let promises =
-        search-promises c s lo hi out _ _ (λ f j k. (found-seen f j k, seen-found f j k)) (none-seen, seen-none) bc bs
+        search-promises c s ls lo hi out _ _ (λ f j k. (found-seen f j k, seen-found f j k)) (none-seen, seen-none) bc bs
         o eo in
         (er, (search-coded, (eo, (eb, (em, ((floor-kept, tried-kept), promises))))))
