@@ -9,22 +9,23 @@ use Rattle.points.specs.Lists.{table}
 use Rattle.points.specs.Points.{bytesAt, every, everyPair, samePoint, risesTo, midpointOf, evenSum, hasMidpoint, exponentsWithin, keepsSign}
 use Rattle.squares.specs.Sums.{gathered, coefficient}
 use Rattle.squares.specs.Rows.{slotsAt}
-use Rattle.squares.specs.Targets.{lowered, worst, target}
+use Rattle.squares.specs.Targets.{lowered, worst}
 use Rattle.sheets.specs.ClaimSheet.{floorOf, termPoint, coefficientOf, termOf, termsOf}
 use Rattle.rows.specs.ProofSheet.{scaleOf, vOf, wOf, wordsAt, tripleOf, weightsOf, rowOf, rowsOf, tripleFor}
 use Rattle.writing.specs.Writing.{withTriple, withWeights, withRows}
 use Rattle.claims.specs.ClaimChecks as C
 use Rattle.checks.specs.ProofChecks as P
-use Rattle.checks.specs.Input.{headAnswer, roomAnswer, bodyAnswer, inputAnswer}
-use Rattle.targets.specs.Targets.{aimOf, targetOf}
+use Rattle.checks.specs.Input.{headAnswer, roomAnswer, bodyAnswer}
+use Rattle.targets.specs.Unlimited.{plainTarget}
 use Rattle.sharing.specs.Sharing.{count, errorAt, shiftedWeight, rankOf}
 use Rattle.sharing.specs.Slots.{slotsTo}
 use Rattle.sharing.specs.Shifts.{shiftedWeights, shiftRow, slotsBefore, shiftedRow}
 use Rattle.judgements.specs.Judgements.{negative, indefinite, judgePair, judgeLone, judgementOf, numberOf, judgedAs, firstsTo, judgedAnswer}
-use Rattle.weighing.specs.Unheld.{pointFor, unheldAt, unheld, unheldAnswer}
+use Rattle.weighing.specs.Unheld.{unheldAt}
 use Rattle.weighing.specs.Exact.{weightsFor, exactProof}
-use Rattle.weighing.specs.Weighed.{weighedAnswer}
-use Rattle.judging.specs.Check.{targetsOf, checkAnswer, outputOf}
+use Rattle.weighing.specs.Weighed.{rowsJudged}
+use Rattle.weighing.specs.Unlimited.{plainPoint, plainUnheld, plainWeighed}
+use Rattle.judging.specs.Unlimited.{plainTargets, plainAnswer, plainOutput}
 use Rattle.text.specs.Text.{digits, natural, integer, counted, numbered}
 use Rattle.text.specs.Lines.{scaleText, acceptedLine, laterText, weightsText, rowLine, refusedLine}
 use Rattle.report.specs.Reports.{ended, linesOf, rowsText, firstText, acceptedText, refusedText, reportable, reportText}
@@ -39,13 +40,13 @@ unfolding
     refusedText acceptedText firstText rowsText linesOf ended refusedLine rowLine weightsText laterText
     acceptedLine scaleText numbered counted integer natural digits u32At i32At withBits withI32 floorDiv
     floorMod share table bytesAt every everyPair samePoint risesTo midpointOf evenSum hasMidpoint
-    exponentsWithin keepsSign gathered coefficient slotsAt lowered worst target floorOf termPoint coefficientOf
+    exponentsWithin keepsSign gathered coefficient slotsAt lowered worst floorOf termPoint coefficientOf
     termOf termsOf scaleOf vOf wOf wordsAt tripleOf weightsOf rowOf rowsOf tripleFor withTriple withWeights
     withRows accepted refused refuseIf refuseAt blameless andThen kept first beyond C.countsRight C.maskRight
     C.claimHeaderRight C.termBreaks C.termsAnswer C.claimAnswer P.proofHeaderRight P.headerAnswer P.qOrR
     P.anyBeyond P.rowBreaks P.rowsAnswer joined word words claimOf proofOf squareWith square squareProof masked
-    maskedSquare count errorAt shiftedWeight aimOf targetOf slotsTo rankOf shiftedWeights shiftRow slotsBefore
-    shiftedRow headAnswer roomAnswer bodyAnswer inputAnswer pointFor unheldAt unheld unheldAnswer negative
+    maskedSquare count errorAt shiftedWeight plainTarget slotsTo rankOf shiftedWeights shiftRow slotsBefore
+    shiftedRow headAnswer roomAnswer bodyAnswer plainPoint unheldAt plainUnheld negative
     indefinite judgePair judgeLone judgementOf numberOf judgedAs firstsTo judgedAnswer weightsFor exactProof
-    weighedAnswer targetsOf checkAnswer outputOf motzkin motzkinProof
+    rowsJudged plainWeighed plainTargets plainAnswer plainOutput motzkin motzkinProof
 worked = refl

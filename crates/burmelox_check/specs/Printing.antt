@@ -5,20 +5,22 @@ use mathlib.Core.List.{List, _++_}
 use Prim.Native.Nat.{ℕ}
 use lib.ListN.{length, take, replicate}
 use Rattle.answers.specs.Answers.{blameless, Passes}
-use Rattle.sheets.specs.Layout.{rowCount}
+use Rattle.sheets.specs.Layout.{variables, rowCount}
 use Rattle.sheets.specs.ClaimSheet.{floorOf}
 use Rattle.rows.specs.ProofSheet.{scaleOf, tripleFor}
+use Rattle.limits.specs.LimitsSheet.{noLimits}
 use Rattle.weighing.specs.Exact.{weightsFor}
-use Rattle.judging.specs.Check.{targetsOf, checkAnswer, outputOf}
+use Rattle.judging.specs.Unlimited.{plainTargets, plainAnswer, plainOutput}
 use Rattle.judging.specs.Promises.{CheckPromises}
 use Rattle.text.specs.Text.{ascii}
 use Rattle.text.specs.Lines.{acceptedLine}
 use Rattle.report.specs.Reports.{ended, linesOf, refusedText, reportText}
 use Rattle.burmelox_check.specs.Input.{claimPart, proofPart}
 
--- the report of the check of a claim and its proof, with what it leaves in the output
+-- the report of the check of a claim and its proof alone, with what it leaves in the output: the program "limits no
+-- variable, and its verdicts stay"
 unfoldable pub sheetsText : List ℕ → List ℕ → List ℕ → List ℕ
-sheetsText c s out = reportText c (outputOf c s out) (checkAnswer c s (length out))
+sheetsText c s out = reportText c (plainOutput c s out) (plainAnswer c s (length out))
 
 abbrev pub zeros : ℕ → List ℕ
 zeros k = replicate k 0
@@ -33,7 +35,7 @@ programText input = sheetsText (claimPart input) (proofPart input) (zeros (lengt
 unfoldable pub acceptedLines : List ℕ → List ℕ → List ℕ
 acceptedLines c s =
     ended (acceptedLine (rowCount s) (scaleOf s) (floorOf c))
-    ++ linesOf (λ i. tripleFor (weightsFor (targetsOf c s) s i)) (rowCount s)
+    ++ linesOf (λ i. tripleFor (weightsFor (plainTargets c s) s i)) (rowCount s)
 
 -- what tells an acceptance: the text's first word
 abbrev pub Accepts : List ℕ → Type 0
@@ -42,10 +44,11 @@ Accepts text = take 8 text ≡ ascii "accepted"
 -- an acceptance has these lines, and "A refusal prints `refused 19 at 0`: number, index"; what the check promises holds
 -- of a text by its first word, with k and the shifted rows as its lines have them
 pub record IsPrinted (c s text : List ℕ) : Type 0 where
-  pub acceptance : Passes (checkAnswer c s (length s)) → text ≡ acceptedLines c s
-  pub refusal : blameless (checkAnswer c s (length s)) ≡ false
-      → text ≡ refusedText (checkAnswer c s (length s) .number) (checkAnswer c s (length s) .value)
-  pub promises : CheckPromises c s (zeros (length s)) (Accepts text) (rowCount s) (outputOf c s (zeros (length s)))
+  pub acceptance : Passes (plainAnswer c s (length s)) → text ≡ acceptedLines c s
+  pub refusal : blameless (plainAnswer c s (length s)) ≡ false
+      → text ≡ refusedText (plainAnswer c s (length s) .number) (plainAnswer c s (length s) .value)
+  pub promises : CheckPromises c s (noLimits (variables c)) (zeros (length s)) (Accepts text) (rowCount s)
+      (plainOutput c s (zeros (length s)))
 
 abbrev pub PrintsLines : List ℕ → Type 0
 PrintsLines input = IsPrinted (claimPart input) (proofPart input) (programText input)

@@ -6,7 +6,8 @@ use report::reports::report_text;
 ghost use mathlib.Core.Path.{_≡_};
 ghost use Prim.Native.Nat.{_≤_};
 ghost use lib.ListN.{length};
-ghost use Rattle.judging.specs.Check.{outputOf};
+ghost use Rattle.sheets.specs.Layout.{variables};
+ghost use Rattle.judging.specs.Unlimited.{plainOutput};
 ghost use Rattle.text.specs.Text.{Written};
 ghost use Rattle.burmelox_check.specs.Input.{greatestInput};
 ghost use Rattle.burmelox_check.specs.Printing.{sheetsText, programText, PrintsLines};
@@ -14,14 +15,31 @@ ghost use Rattle.burmelox_check.specs.Printing.{sheetsText, programText,
 // How many bytes of standard input are read at most.
 pub(crate) const GREATEST_INPUT: usize = 8192;
 
-// The text for a claim and its proof, with an output for the exact proof; the answer is where the text ends.
+// How long a limits sheet is at most: for as many variables as a byte can say.
+const LONGEST_LIMITS: usize = 1786;
+
+// The number of variables that a claim says, 0 where it has no byte.
+fn said_variables(claim: &[u8]) -> u8
+    ensures { λ r. ⌜ r ≡ variables (now (claim .entry)) ⌝ }
+{
+    if claim.len() == 0 {
+        return 0;
+    }
+    claim[0]
+}
+
+// The text for a claim and its proof, none of whose variables is limited, with an output for the exact proof; the
+// answer is where the text ends.
 fn print_sheets(claim: &[u8], proof: &[u8], output: &mut [u8], text: &mut [u8; LONGEST]) -> usize
     ensures written { λ r. ⌜ now (output .exit)
-        ≡ outputOf (now (claim .entry)) (now (proof .entry)) (now (output .entry)) ⌝ }
+        ≡ plainOutput (now (claim .entry)) (now (proof .entry)) (now (output .entry)) ⌝ }
     ensures text { λ r. ⌜ Written (now (text .entry)) 0
         (sheetsText (now (claim .entry)) (now (proof .entry)) (now (output .entry))) (now (text .exit)) r ⌝ }
 {
-    let verdict = check(claim, proof, output);
+    let n = said_variables(claim);
+    let mut limits = [0u8; LONGEST_LIMITS];
+    limits[0] = n;
+    let verdict = check(claim, proof, &limits[..1 + 7 * n as usize], output);
     report_text(claim, output, verdict, text)
 }
 

@@ -22,9 +22,9 @@ module _ (c s : List ℕ) where
   unfolding aimOf
   unlimited = none-unlimited (variables c)
 
-  targets : targetsOf c s l ≡ plainTargets c s
+  pub plain-targets : targetsOf c s l ≡ plainTargets c s
   unfolding targetsOf plainTargets aimOf
-  targets = fun-ext (λ α. Targets.as-unlimited c .targets (aimOf c s l) unlimited α)
+  plain-targets = fun-ext (λ α. Targets.as-unlimited c .targets (aimOf c s l) unlimited α)
 
   answer : (room : ℕ) → checkAnswer c s l room ≡ plainAnswer c s room
   unfolding checkAnswer plainAnswer plainTargets aimOf
@@ -34,5 +34,5 @@ pub as-unlimited : AsUnlimited
 unfolding outputOf plainOutput
 as-unlimited c s = record {
   answer = answer c s;
-  output = λ out. rw (answer c s (length out), targets c s);
+  output = λ out. rw (answer c s (length out), plain-targets c s);
 }

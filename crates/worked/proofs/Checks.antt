@@ -23,18 +23,21 @@ use Rattle.sheets.specs.ClaimSheet.{floorOf, termPoint, coefficientOf}
 use Rattle.sheets.specs.declared.layout.Shape.{Shape}
 use Rattle.rows.specs.ProofSheet.{scaleOf, vOf, wOf, wordsAt, tripleOf}
 use Rattle.claims.specs.ClaimChecks as C
+use Rattle.limits.specs.LimitsSheet.{limitOf}
+use Rattle.limits.specs.LimitChecks.{limitsShaped, powerRight, limitRight, limitBreaks, limitsAnswer}
 use Rattle.checks.specs.ProofChecks as P
 use Rattle.checks.specs.Input.{headAnswer, formedAnswer}
 use Rattle.checks.specs.declared.proof_checks.RowRule.the-variants as R
-use Rattle.worked.specs.Sheets.{joined, word, words, claimOf, proofOf, squareWith, square, squareProof, twoTerms, oneRow, masked}
-use Rattle.worked.specs.Checks.{Case, claims, proves, full, manyPoints, manyRows, small, cases, Worked}
+use Rattle.worked.specs.Sheets.{joined, word, words, claimOf, proofOf, squareWith, square, squareProof, twoTerms, oneRow, masked, limit, unlimited, limitsWith, oneLimit}
+use Rattle.worked.specs.Checks.{Case, claims, proves, limits, eight, full, manyPoints, manyRows, small, cases, Worked}
 
-small-worked : map (λ (c : Case). formedAnswer (c .claim) (c .proof)) small ≡ map (λ (c : Case). c .answer) small
+small-worked : map (λ (c : Case). formedAnswer (c .claim) (c .proof) (c .limits)) small ≡ map (λ (c : Case). c .answer) small
 unfolding
     u32At i32At table bytesAt every everyPair samePoint risesTo evenSum hasMidpoint exponentsWithin accepted
     refused refuseIf refuseAt blameless andThen kept first beyond floorOf termPoint coefficientOf C.countsRight
     C.maskRight C.claimHeaderRight C.termBreaks C.termsAnswer C.claimAnswer scaleOf vOf wOf wordsAt tripleOf
-    P.proofHeaderRight P.headerAnswer P.qOrR P.anyBeyond P.rowBreaks P.rowsAnswer headAnswer formedAnswer joined
+    P.proofHeaderRight P.headerAnswer P.qOrR P.anyBeyond P.rowBreaks P.rowsAnswer headAnswer formedAnswer limitOf
+    limitsShaped powerRight limitRight limitBreaks limitsAnswer limit unlimited limitsWith oneLimit limits eight joined
     word words claimOf proofOf squareWith square squareProof claims proves twoTerms oneRow full manyPoints
     manyRows masked small
 small-worked = refl
@@ -115,9 +118,17 @@ head-right : says (Accepted 0) ≡ headAnswer square many
 unfolding headAnswer squareWith square claimOf joined word
 head-right = then-passed (Accepted 0) (C.claimAnswer square) claim-right 0 refl (Accepted 0) _ header-right
 
-many-accepted : formedAnswer square many ≡ accepted 0
-unfolding formedAnswer says many manyRows manyPoints joined word
-many-accepted = sym (then-passed (Accepted 0) (headAnswer square many) head-right 0 refl (Accepted 0) _ rows-right)
+limits-right : says (Accepted 0) ≡ limitsAnswer 1 (oneLimit 0 0 0)
+unfolding
+    says accepted refuseIf refuseAt kept first limitsAnswer limitsShaped limitBreaks limitRight powerRight limitOf
+    u32At oneLimit limitsWith limit joined word
+limits-right = refl
+
+many-accepted : formedAnswer square many (oneLimit 0 0 0) ≡ accepted 0
+unfolding formedAnswer says many manyRows manyPoints joined word square squareWith claimOf
+many-accepted =
+    sym (then-passed (Accepted 0) (headAnswer square many) head-right 0 refl (Accepted 0) _
+    (then-passed (Accepted 0) (limitsAnswer 1 (oneLimit 0 0 0)) limits-right 0 refl (Accepted 0) _ rows-right))
 
 pub worked : Worked
 unfolding cases proves many

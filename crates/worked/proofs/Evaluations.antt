@@ -11,14 +11,14 @@ use Rattle.squares.specs.Sums.{value}
 use Rattle.sheets.specs.ClaimSheet.{floorOf, termPoint, coefficientOf, termOf, termsOf}
 use Rattle.claims.specs.ClaimChecks.{countsRight, maskRight, claimHeaderRight, termBreaks, termsAnswer, claimAnswer}
 use Rattle.evaluation.specs.Evaluations.{toldBy, termValue, tooLarge, tooLargeAnswer, evaluationAnswer, evaluationOf}
-use Rattle.worked.specs.Sheets.{joined, word, words, claimOf, twoTerms, squareWith, square, oneTerm, masked, maskedCube}
+use Rattle.worked.specs.Sheets.{joined, word, words, claimOf, twoTerms, squareWith, square, oneTerm, masked, maskedCube, minusSquare}
 use Rattle.worked.specs.Evaluations.{at, oneAt, least, greatest, cases, Worked}
 
 pub worked : Worked
 unfolding
     u32At i32At table bytesAt every risesTo exponentsWithin powerOf monomialOf value floorOf termPoint
     coefficientOf termOf termsOf accepted refused refuseIf refuseAt blameless andThen beyond joined word words
-    claimOf twoTerms squareWith square oneTerm masked maskedCube countsRight maskRight claimHeaderRight
+    claimOf twoTerms squareWith square oneTerm masked maskedCube minusSquare countsRight maskRight claimHeaderRight
     termBreaks termsAnswer claimAnswer kept first toldBy termValue tooLarge tooLargeAnswer evaluationAnswer
     evaluationOf at oneAt least greatest cases
 worked = refl

@@ -8,9 +8,10 @@ use Rattle.bounds.specs.Bounds.{beyond}
 use Rattle.answers.specs.Answers.{accepted, refused, refuseIf, refuseAt, blameless, andThen}
 use Rattle.answers.specs.Searches.{kept, first}
 use Rattle.points.specs.Lists.{table}
-use Rattle.points.specs.Points.{bytesAt, every, everyPair, samePoint, risesTo, midpointOf, evenSum, hasMidpoint, exponentsWithin, keepsSign}
+use Rattle.points.specs.Points.{bytesAt, every, everyPair, samePoint, risesTo, midpointOf, evenSum, hasMidpoint, exponentsWithin, keepsSign, padded, pureAt}
 use Rattle.squares.specs.Sums.{gathered, coefficient}
 use Rattle.squares.specs.Rows.{slotsAt}
+use Rattle.squares.specs.Domains.{limitAt, limitsTo}
 use Rattle.squares.specs.Targets.{lowered, worst, target}
 use Rattle.sheets.specs.Layout.{shapeOf}
 use Rattle.sheets.specs.ClaimSheet.{floorOf, withFloor, termPoint, coefficientOf, termOf, termsOf}
@@ -18,7 +19,9 @@ use Rattle.rows.specs.ProofSheet.{scaleOf, vOf, wOf, wordsAt, tripleOf, weights
 use Rattle.writing.specs.Writing.{withTriple, withWeights, withRows}
 use Rattle.claims.specs.ClaimChecks as C
 use Rattle.checks.specs.ProofChecks as P
-use Rattle.checks.specs.Input.{headAnswer, roomAnswer, bodyAnswer, inputAnswer}
+use Rattle.limits.specs.LimitsSheet.{limitOf, limitsOf, limitIn, noLimits}
+use Rattle.limits.specs.LimitChecks.{limitsShaped, powerRight, limitRight, limitBreaks, limitsAnswer}
+use Rattle.checks.specs.Input.{headAnswer, roomAnswer, bodyAnswer, restAnswer, inputAnswer}
 use Rattle.targets.specs.Targets.{aimOf, targetOf}
 use Rattle.sharing.specs.Sharing.{count, errorAt, shiftedWeight, rankOf}
 use Rattle.sharing.specs.Slots.{slotsTo}
@@ -26,14 +29,14 @@ use Rattle.sharing.specs.Shifts.{shiftedWeights, shiftRow, slotsBefore, shifted
 use Rattle.judgements.specs.Judgements.{negative, indefinite, judgePair, judgeLone, judgementOf, numberOf, judgedAs, firstsTo, judgedAnswer}
 use Rattle.weighing.specs.Unheld.{pointFor, unheldAt, unheld, unheldAnswer}
 use Rattle.weighing.specs.Exact.{weightsFor, exactProof}
-use Rattle.weighing.specs.Weighed.{weighedAnswer}
+use Rattle.weighing.specs.Weighed.{rowsJudged, weighedAnswer}
 use Rattle.judging.specs.Check.{targetsOf, checkAnswer, outputOf}
 use Rattle.floors.specs.Search as F
-use Rattle.worked.specs.Sheets.{joined, word, words, claimOf, proofOf, squareWith, square, squareProof, oneRow, bare, noRows, motzkin, motzkinProof, motzkinExchanged, motzkinBytes, motzkinProofBytes, oneTerm, masked, maskedSquare, maskedProduct, productProof, maskedCube, cubeProof}
-use Rattle.worked.specs.Judging.{spare, accepts, refuses, motzkinExact, marked, tabled, withMask, worked, Worked, TargetMasked, Exchanged}
+use Rattle.worked.specs.Sheets.{joined, word, words, claimOf, proofOf, squareWith, square, squareProof, oneRow, bare, noRows, motzkin, motzkinProof, motzkinExchanged, motzkinBytes, motzkinProofBytes, oneTerm, masked, maskedSquare, maskedProduct, productProof, maskedCube, cubeProof, limit, unlimited, limitsWith, oneLimit, minusSquare, line, bareProof, lineProof, atZero}
+use Rattle.worked.specs.Judging.{spare, acceptsIn, refusesIn, accepts, refuses, motzkinExact, marked, tabled, withMask, worked, withLimits, cases, Worked, Targets, Exchanged}
 use Rattle.worked.specs.Searches as S
 
-computed : Worked × S.Worked × TargetMasked
+computed : Worked × S.Worked × Targets
 unfolding
     u32At i32At withBits withI32 floorDiv floorMod share table bytesAt every everyPair samePoint risesTo
     midpointOf evenSum hasMidpoint exponentsWithin keepsSign gathered coefficient slotsAt lowered worst target
@@ -42,14 +45,15 @@ unfolding
     beyond C.countsRight C.maskRight C.claimHeaderRight C.termBreaks C.termsAnswer C.claimAnswer
     P.proofHeaderRight P.headerAnswer P.qOrR P.anyBeyond P.rowBreaks P.rowsAnswer joined word words claimOf
     proofOf squareWith square squareProof oneRow count errorAt shiftedWeight aimOf targetOf slotsTo rankOf
-    shiftedWeights shiftRow slotsBefore shiftedRow shiftedRows headAnswer roomAnswer bodyAnswer inputAnswer
-    pointFor unheldAt unheld unheldAnswer negative indefinite judgePair judgeLone judgementOf numberOf judgedAs
+    shiftedWeights shiftRow slotsBefore shiftedRow shiftedRows headAnswer roomAnswer bodyAnswer restAnswer inputAnswer padded pureAt limitAt limitsTo limitOf limitsOf limitIn noLimits
+    limitsShaped powerRight limitRight limitBreaks limitsAnswer rowsJudged limit unlimited limitsWith oneLimit minusSquare line
+    bareProof lineProof atZero acceptsIn refusesIn withLimits cases S.findsIn S.refusesIn pointFor unheldAt unheld unheldAnswer negative indefinite judgePair judgeLone judgementOf numberOf judgedAs
     firstsTo judgedAnswer weightsFor exactProof weighedAnswer targetsOf checkAnswer outputOf bare noRows motzkin
     motzkinProof motzkinExchanged motzkinBytes motzkinProofBytes oneTerm masked maskedSquare maskedProduct
     productProof maskedCube cubeProof spare accepts refuses motzkinExact marked tabled withMask worked withFloor
     F.rangeWrong F.rangeAnswer F.floorCount F.floorAfter F.accepts F.refusedBefore F.toldAfter F.searchOf
     F.outputBy F.searchOutput S.finds S.refuses S.heavy S.loneZero S.cases S.ranges S.worked
-computed = (refl, (refl, refl), (refl, refl))
+computed = (refl, (refl, refl), (refl, refl, refl, refl))
 
 pub all-worked : Worked
 all-worked = computed .0
@@ -57,8 +61,8 @@ all-worked = computed .0
 pub all-searched : S.Worked
 all-searched = computed .1
 
-pub target-masked : TargetMasked
-target-masked = computed .2
+pub all-targets : Targets
+all-targets = computed .2
 
 -- the second sheet has H's second row first, then its first
 pub rows-exchanged : Exchanged

@@ -1,25 +1,34 @@
--- Cases: the table's examples for 1 to 10 and 12 to 15, sheets that break two rules, and sheets at the limits.
+-- Cases: the table's examples for 1 to 10, 12 to 15, 24 and 25, sheets that break two rules, and sheets at the limits.
 use mathlib.Core.Path.{_≡_}
 use mathlib.Core.List.{List, [], _∷_, _++_, map}
 use Prim.Native.Nat.{ℕ, _+_, _-_, _^_}
 use lib.IntN.{ℤ, pos, negsuc}
 use lib.ListN.{replicate}
+use Rattle.answers.specs.Answers as Answers
 use Rattle.answers.specs.Answers.{Answer, accepted, refused}
 use Rattle.points.specs.Lists.{table}
 use Rattle.checks.specs.Input.{formedAnswer}
-use Rattle.worked.specs.Sheets.{joined, word, claimOf, proofOf, square, squareProof, twoTerms, oneRow, masked}
+use Rattle.worked.specs.Sheets.{joined, word, claimOf, proofOf, square, squareProof, twoTerms, oneRow, masked, limit, unlimited, limitsWith, oneLimit}
 
 pub record Case : Type 0 where
   pub claim : List ℕ
   pub proof : List ℕ
+  pub limits : List ℕ
   pub answer : Answer
 
--- a claim beside Square's proof, and a proof beside Square
+-- a claim beside Square's proof, a proof beside Square, and limits beside both
 unfoldable pub claims : List ℕ → Answer → Case
-claims c answer = record { claim = c; proof = squareProof; answer = answer }
+claims c answer = record { claim = c; proof = squareProof; limits = oneLimit 0 0 0; answer = answer }
 
 unfoldable pub proves : List ℕ → Answer → Case
-proves s answer = record { claim = square; proof = s; answer = answer }
+proves s answer = record { claim = square; proof = s; limits = oneLimit 0 0 0; answer = answer }
+
+unfoldable pub limits : List ℕ → Answer → Case
+limits l answer = record { claim = square; proof = squareProof; limits = l; answer = answer }
+
+-- eight variables without rows
+unfoldable pub eight : List ℕ → List ℕ → Answer → Case
+eight c l answer = record { claim = c; proof = proofOf 8 (pos 1) 0 [] []; limits = l; answer = answer }
 
 -- 64 terms in eight variables, with exponents up to 120, and the floor and the coefficients at one number
 unfoldable pub full : ℤ → List ℕ
@@ -67,13 +76,39 @@ small =
     ∷ proves (oneRow 0 2 (pos (2 ^ 30 + 1)) (pos 1) (pos 1)) (refused 15 0)
     ∷ proves (oneRow 0 2 (pos 1) (negsuc (2 ^ 30)) (pos 1)) (refused 15 0)
     ∷ proves (oneRow 0 2 (pos 1) (pos 1) (pos (2 ^ 30 + 1))) (refused 15 0)
+    -- 24: empty, too long, n not the claim's; before it 10, and after it 25 and 12
+    ∷ limits [] (refused 24 0)
+    ∷ limits (oneLimit 0 0 0 ++ (0 ∷ [])) (refused 24 0)
+    ∷ limits (2 ∷ replicate 7 0) (refused 24 0)
+    ∷ limits (limitsWith (unlimited ∷ unlimited ∷ [])) (record { number = 24; blamed = Answers.limits; value = 0 })
+    ∷ record { claim = square; proof = 0 ∷ squareProof; limits = []; answer = refused 9 0 }
+    ∷ record { claim = square; proof = oneRow 0 121 (pos 1) (pos 1) (pos 1); limits = []; answer = refused 24 0 }
+    ∷ record {
+      claim = square;
+      proof = oneRow 0 121 (pos 1) (pos 1) (pos 1);
+      limits = oneLimit 3 1 0;
+      answer = refused 25 0;
+    }
+    -- 25: "a power, L or m not as said, with the first such variable as index"
+    ∷ limits (oneLimit 1 1 1) (refused 25 0)
+    ∷ limits (oneLimit 3 1 1) (record { number = 25; blamed = Answers.limits; value = 0 })
+    ∷ limits (oneLimit 2 0 1) (refused 25 0)
+    ∷ limits (oneLimit 4 1024 1) (refused 25 0)
+    ∷ limits (oneLimit 2 1 65537) (refused 25 0)
+    ∷ limits (oneLimit 0 1 0) (refused 25 0)
+    ∷ limits (oneLimit 0 0 1) (refused 25 0)
+    ∷ eight (claimOf 8 (pos 0) [] []) (limitsWith (replicate 7 (limit 2 1 1) ++ (limit 2 0 1 ∷ []))) (refused 25 7)
+    ∷ eight (claimOf 8 (pos 0) [] []) (limitsWith (unlimited ∷ limit 6 1 1 ∷ replicate 6 (limit 5 1 1))) (refused 25 1)
     -- at the limits
     ∷ claims square (accepted 0)
     ∷ claims (masked 1 square) (accepted 0)
-    ∷ record { claim = masked 255 (full (pos 1)); proof = proofOf 8 (pos 1) 0 [] []; answer = accepted 0 }
+    ∷ limits (oneLimit 2 1 0) (accepted 0)
+    ∷ limits (oneLimit 4 1023 65536) (accepted 0)
+    ∷ eight (claimOf 8 (pos 0) [] []) (limitsWith (replicate 8 (limit 4 1023 65536))) (accepted 0)
+    ∷ eight (masked 255 (full (pos 1))) (limitsWith (replicate 8 unlimited)) (accepted 0)
     ∷ claims (masked 128 (claimOf 7 (pos 0) [] [])) (refused 2 0)
-    ∷ record { claim = full (pos (2 ^ 30)); proof = proofOf 8 (pos 1) 0 [] []; answer = accepted 0 }
-    ∷ record { claim = full (negsuc (2 ^ 30 - 1)); proof = proofOf 8 (pos 1) 0 [] []; answer = accepted 0 }
+    ∷ eight (full (pos (2 ^ 30))) (limitsWith (replicate 8 unlimited)) (accepted 0)
+    ∷ eight (full (negsuc (2 ^ 30 - 1))) (limitsWith (replicate 8 unlimited)) (accepted 0)
     ∷ proves (oneRow 0 120 (pos (2 ^ 30)) (pos (2 ^ 30)) (negsuc (2 ^ 30 - 1))) (accepted 0)
     ∷ proves (manyRows 121) (refused 12 255)
     ∷ []
@@ -83,4 +118,4 @@ cases = proves (manyRows 120) (accepted 0) ∷ small
 
 -- the definitions give every answer
 abbrev pub Worked : Type 0
-Worked = map (λ (c : Case). formedAnswer (c .claim) (c .proof)) cases ≡ map (λ (c : Case). c .answer) cases
+Worked = map (λ (c : Case). formedAnswer (c .claim) (c .proof) (c .limits)) cases ≡ map (λ (c : Case). c .answer) cases

@@ -5,7 +5,7 @@ use Prim.Native.Nat.{ℕ, _-_, _^_}
 use lib.IntN.{ℤ, pos, negsuc}
 use Rattle.answers.specs.Answers.{claim, offsets, refused}
 use Rattle.evaluation.specs.Evaluations.{Told, value, refusal, evaluationOf}
-use Rattle.worked.specs.Sheets.{claimOf, twoTerms, square, maskedCube}
+use Rattle.worked.specs.Sheets.{claimOf, twoTerms, square, maskedCube, minusSquare}
 
 pub record Case : Type 0 where
   pub claim : List ℕ
@@ -42,6 +42,9 @@ cases =
     -- "evaluation takes any point": x³ with mask 1, whose floor 0 holds from 0 on
     ∷ at (maskedCube 1) (negsuc 1 ∷ []) (value (negsuc 7))
     ∷ at (maskedCube 1) (pos 2 ∷ []) (value (pos 8))
+    -- and −x², whose floor −9 holds within ±3
+    ∷ at (minusSquare (negsuc 8)) (negsuc 2 ∷ []) (value (negsuc 8))
+    ∷ at (minusSquare (negsuc 8)) (pos 4 ∷ []) (value (negsuc 15))
     -- "A zero offset under a positive exponent makes its term zero, however large the rest"
     ∷ at (oneAt 2 (120 ∷ 1 ∷ [])) (least ∷ pos 0 ∷ []) (value (pos 0))
     ∷ at (oneAt 2 (1 ∷ 120 ∷ [])) (pos 0 ∷ greatest ∷ []) (value (pos 0))

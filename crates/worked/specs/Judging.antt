@@ -1,23 +1,27 @@
--- Cases: document 01's worked sheets marked *, and the table's examples for 11 and 16 to 18.
+-- Cases: document 01's worked sheets marked *, the table's examples for 11 and 16 to 18, and sheets of document 02's
+-- notes 3 and 4.
 use mathlib.Core.Path.{_≡_}
 use mathlib.Core.List.{List, [], _∷_, _++_, map}
-use Prim.Native.Nat.{ℕ, _+_, _^_}
+use Prim.Native.Nat.{ℕ, _+_, _-_, _*_, _^_}
 use lib.IntN.{pos, negsuc}
 use lib.ListN.{length, replicate}
-use Rattle.answers.specs.Answers.{Answer, proof, output, accepted, refused}
+use Rattle.answers.specs.Answers.{Answer, proof, output, limits, accepted, refused}
 use Rattle.points.specs.Lists.{Reordered}
 use Rattle.squares.specs.Rows.{Row}
 use Rattle.squares.specs.declared.rows.Weights.{Weights}
 use Rattle.squares.specs.declared.rows.Weights.the-variants.{Pair, Lone}
+use Rattle.sheets.specs.Layout.{variables}
 use Rattle.rows.specs.ProofSheet.{rowsOf}
+use Rattle.limits.specs.LimitsSheet.{noLimits}
 use Rattle.sharing.specs.Shifts.{shiftedRows}
 use Rattle.judging.specs.Check.{targetsOf, checkAnswer, outputOf}
-use Rattle.worked.specs.Sheets.{claimOf, proofOf, squareWith, square, squareProof, oneRow, bare, noRows, motzkin, motzkinProof, motzkinExchanged, motzkinBytes, motzkinProofBytes, oneTerm, maskedSquare, maskedProduct, productProof, maskedCube, cubeProof}
+use Rattle.worked.specs.Sheets.{claimOf, proofOf, squareWith, square, squareProof, oneRow, bare, noRows, motzkin, motzkinProof, motzkinExchanged, motzkinBytes, motzkinProofBytes, oneTerm, maskedSquare, maskedProduct, productProof, maskedCube, cubeProof, limit, unlimited, limitsWith, oneLimit, minusSquare, line, bareProof, lineProof, atZero}
 
--- two sheets and an output; the weights that every row has after the shift, the answer, and the output afterwards
+-- three sheets and an output; the weights that every row has after the shift, the answer, and the output afterwards
 pub record Case : Type 0 where
   pub claim : List ℕ
   pub proof : List ℕ
+  pub limits : List ℕ
   pub output : List ℕ
   pub weights : List Weights
   pub answer : Answer
@@ -27,11 +31,12 @@ pub record Case : Type 0 where
 unfoldable pub spare : List ℕ → List ℕ
 spare s = replicate (length s + 2) 7
 
--- accepted, with k and the exact proof
-unfoldable pub accepts : List ℕ → List ℕ → List Weights → ℕ → List ℕ → Case
-accepts c s weights k exact = record {
+-- accepted within limits, with k and the exact proof
+unfoldable pub acceptsIn : List ℕ → List ℕ → List ℕ → List Weights → ℕ → List ℕ → Case
+acceptsIn c s l weights k exact = record {
   claim = c;
   proof = s;
+  limits = l;
   output = spare s;
   weights = weights;
   answer = accepted k;
@@ -39,15 +44,23 @@ accepts c s weights k exact = record {
 }
 
 -- refused, with this answer
-unfoldable pub refuses : List ℕ → List ℕ → List Weights → Answer → Case
-refuses c s weights answer = record {
+unfoldable pub refusesIn : List ℕ → List ℕ → List ℕ → List Weights → Answer → Case
+refusesIn c s l weights answer = record {
   claim = c;
   proof = s;
+  limits = l;
   output = spare s;
   weights = weights;
   answer = answer;
   written = spare s;
 }
+
+-- the same with no variable limited
+unfoldable pub accepts : List ℕ → List ℕ → List Weights → ℕ → List ℕ → Case
+accepts c s weights k exact = acceptsIn c s (noLimits (variables c)) weights k exact
+
+unfoldable pub refuses : List ℕ → List ℕ → List Weights → Answer → Case
+refuses c s weights answer = refusesIn c s (noLimits (variables c)) weights answer
 
 unfoldable pub motzkinExact : List Weights
 motzkinExact = Pair (pos 1) (pos 1) (negsuc 1) ∷ Pair (pos 2) (pos 2) (negsuc 3) ∷ Pair (pos 1) (pos 1) (negsuc 1) ∷ []
@@ -88,6 +101,7 @@ tabled =
     record {
       claim = square;
       proof = squareProof;
+      limits = noLimits 1;
       output = replicate 21 7;
       weights = Pair (pos 1) (pos 1) (negsuc 1) ∷ [];
       answer = record { number = 11; blamed = output; value = 0 };
@@ -122,26 +136,67 @@ withMask =
     ∷ accepts (maskedCube 1) cubeProof (Lone (pos 1) ∷ []) 1 cubeProof
     ∷ []
 
+-- document 02, note 4
+unfoldable pub withLimits : List Case
+withLimits =
+    -- −x² is at least −9 within ±3: "The constant target falls by m × L^power; the target at that pure power rises by m",
+    -- and neither is multiplied by S
+    acceptsIn (minusSquare (negsuc 8)) (bareProof 1) (oneLimit 2 3 1) [] 0 (bareProof 1)
+    ∷ refusesIn (minusSquare (negsuc 8)) (bareProof 2) (oneLimit 2 3 1) [] (refused 16 0)
+    ∷ acceptsIn (minusSquare (negsuc 8)) (bareProof 2) (oneLimit 2 3 2) [] 0 (bareProof 2)
+    -- a limit without a multiplier changes no target; L of two bytes; power 4
+    ∷ refusesIn (minusSquare (negsuc 8)) (bareProof 1) (oneLimit 2 3 0) [] (refused 16 0)
+    ∷ acceptsIn (minusSquare (negsuc 65535)) (bareProof 1) (oneLimit 2 256 1) [] 0 (bareProof 1)
+    ∷ acceptsIn (claimOf 1 (negsuc 80) ((4 ∷ []) ∷ []) (negsuc 0 ∷ [])) (bareProof 1) (oneLimit 4 3 1) [] 0 (bareProof 1)
+    -- x is at least −5 within ±5
+    ∷ acceptsIn line lineProof (oneLimit 2 5 1) (Pair (pos 25) (pos 1) (negsuc 9) ∷ []) 1 lineProof
+    -- 16: "points the limits add are searched after the constant, by variable, with indices t + 1 + i"
+    ∷ refusesIn (bare (pos 0)) noRows (oneLimit 2 1 1) [] (refused 16 0)
+    ∷ refusesIn (claimOf 2 (pos 0) [] []) (atZero 2 (pos 0)) (limitsWith (unlimited ∷ limit 2 1 1 ∷ []))
+    (Lone (negsuc 0) ∷ []) (record { number = 16; blamed = proof; value = 2 })
+    -- "A claim term counts as having no slot by its new target": x² keeps its index 0
+    ∷ refusesIn (claimOf 1 (negsuc 0) ((2 ∷ []) ∷ []) (pos 1 ∷ [])) noRows (oneLimit 2 1 1) [] (refused 16 0)
+    -- the greatest limits of eight variables
+    ∷ refusesIn (claimOf 8 (pos 0) [] []) (atZero 8 (pos 0)) (limitsWith (replicate 8 (limit 4 1023 65536)))
+    (Lone (negsuc (8 * (65536 * 1023 ^ 4) - 1)) ∷ []) (refused 16 1)
+    -- 24 comes before 11
+    ∷ record {
+      claim = square;
+      proof = squareProof;
+      limits = [];
+      output = replicate 21 7;
+      weights = Pair (pos 1) (pos 1) (negsuc 1) ∷ [];
+      answer = record { number = 24; blamed = limits; value = 0 };
+      written = replicate 21 7;
+    }
+    ∷ []
+
 -- ---- the definitions give every weight, answer and byte
 
 unfoldable pub worked : Case → Case
 worked a = record {
   claim = a .claim;
   proof = a .proof;
+  limits = a .limits;
   output = a .output;
-  weights = map (λ (row : Row). row .weights) (shiftedRows (targetsOf (a .claim) (a .proof)) (a .proof));
-  answer = checkAnswer (a .claim) (a .proof) (length (a .output));
-  written = outputOf (a .claim) (a .proof) (a .output);
+  weights = map (λ (row : Row). row .weights) (shiftedRows (targetsOf (a .claim) (a .proof) (a .limits)) (a .proof));
+  answer = checkAnswer (a .claim) (a .proof) (a .limits) (length (a .output));
+  written = outputOf (a .claim) (a .proof) (a .limits) (a .output);
 }
 
-abbrev pub Worked : Type 0
-Worked = map worked (marked ++ (tabled ++ withMask)) ≡ marked ++ (tabled ++ withMask)
+unfoldable pub cases : List Case
+cases = marked ++ (tabled ++ (withMask ++ withLimits))
 
--- B's target at point 1
-abbrev pub TargetMasked : Type 0
-TargetMasked =
-    (targetsOf (maskedSquare 0) squareProof (1 ∷ []) ≡ negsuc 1)
-    × (targetsOf (maskedSquare 1) squareProof (1 ∷ []) ≡ pos 2)
+abbrev pub Worked : Type 0
+Worked = map worked cases ≡ cases
+
+-- B's target at point 1, without and with mask 1; −x² with floor −9 and scale 2 within ±3: at 2 and at the constant
+abbrev pub Targets : Type 0
+Targets =
+    (targetsOf (maskedSquare 0) squareProof (noLimits 1) (1 ∷ []) ≡ negsuc 1)
+    × (targetsOf (maskedSquare 1) squareProof (noLimits 1) (1 ∷ []) ≡ pos 2)
+    × (targetsOf (minusSquare (negsuc 8)) (bareProof 2) (oneLimit 2 3 1) (2 ∷ []) ≡ negsuc 0)
+    × (targetsOf (minusSquare (negsuc 8)) (bareProof 2) (oneLimit 2 3 1) (0 ∷ []) ≡ pos 9)
 
 -- H's rows in another order are those of the sheet beside it: its errors are the same, and its shares are not
 abbrev pub Exchanged : Type 0

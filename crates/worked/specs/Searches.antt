@@ -6,25 +6,29 @@ use Prim.Native.Nat.{ℕ, _+_, _^_, _-_}
 use lib.IntN.{ℤ, pos, negsuc}
 use lib.ListN.{length, replicate}
 use Rattle.answers.specs.Answers.{Answer, output, range, refused}
+use Rattle.sheets.specs.Layout.{variables}
+use Rattle.limits.specs.LimitsSheet.{noLimits}
 use Rattle.floors.specs.Search.{Told, found, refusal, rangeWrong, searchOf, searchOutput}
 use Rattle.worked.specs.Judging.{spare}
-use Rattle.worked.specs.Sheets.{claimOf, squareWith, square, squareProof, oneRow, bare, noRows, motzkin, motzkinProofBytes, oneTerm, maskedCube, cubeProof}
+use Rattle.worked.specs.Sheets.{claimOf, squareWith, square, squareProof, oneRow, bare, noRows, motzkin, motzkinProofBytes, oneTerm, maskedCube, cubeProof, oneLimit, minusSquare, atZero}
 
--- two sheets, a range and an output; what is told, and the output afterwards
+-- three sheets, a range and an output; what is told, and the output afterwards
 pub record Case : Type 0 where
   pub claim : List ℕ
   pub proof : List ℕ
+  pub limits : List ℕ
   pub lo : ℤ
   pub hi : ℤ
   pub output : List ℕ
   pub told : Told
   pub written : List ℕ
 
--- a floor is found, with the number of floors tried, k and the exact proof
-unfoldable pub finds : List ℕ → List ℕ → ℤ → ℤ → ℤ → ℕ → ℕ → List ℕ → Case
-finds c s lo hi floor tried k exact = record {
+-- a floor is found within limits, with the number of floors tried, k and the exact proof
+unfoldable pub findsIn : List ℕ → List ℕ → List ℕ → ℤ → ℤ → ℤ → ℕ → ℕ → List ℕ → Case
+findsIn c s l lo hi floor tried k exact = record {
   claim = c;
   proof = s;
+  limits = l;
   lo = lo;
   hi = hi;
   output = spare s;
@@ -33,16 +37,24 @@ finds c s lo hi floor tried k exact = record {
 }
 
 -- refused, with this answer
-unfoldable pub refuses : List ℕ → List ℕ → ℤ → ℤ → List ℕ → Answer → Case
-refuses c s lo hi out answer = record {
+unfoldable pub refusesIn : List ℕ → List ℕ → List ℕ → ℤ → ℤ → List ℕ → Answer → Case
+refusesIn c s l lo hi out answer = record {
   claim = c;
   proof = s;
+  limits = l;
   lo = lo;
   hi = hi;
   output = out;
   told = refusal answer;
   written = out;
 }
+
+-- the same with no variable limited
+unfoldable pub finds : List ℕ → List ℕ → ℤ → ℤ → ℤ → ℕ → ℕ → List ℕ → Case
+finds c s lo hi floor tried k exact = findsIn c s (noLimits (variables c)) lo hi floor tried k exact
+
+unfoldable pub refuses : List ℕ → List ℕ → ℤ → ℤ → List ℕ → Answer → Case
+refuses c s lo hi out answer = refusesIn c s (noLimits (variables c)) lo hi out answer
 
 -- 2^30 at point 0, with a lone row there
 unfoldable pub heavy : List ℕ
@@ -71,6 +83,12 @@ cases =
     -- x³ with mask 1 and without
     ∷ finds (maskedCube 1) cubeProof (negsuc 1) (pos 2) (pos 0) 3 1 cubeProof
     ∷ refuses (maskedCube 0) cubeProof (negsuc 1) (pos 2) (spare cubeProof) (refused 23 0)
+    -- −x² within ±3, and within ±2; 24 comes before 11 and 22
+    ∷ findsIn (minusSquare (pos 0)) (atZero 1 (pos 0)) (oneLimit 2 3 1) (negsuc 11) (negsuc 4) (negsuc 8) 5 1
+    (atZero 1 (pos 0))
+    ∷ findsIn (minusSquare (pos 0)) (atZero 1 (pos 0)) (oneLimit 2 2 1) (negsuc 11) (negsuc 4) (negsuc 4) 1 1
+    (atZero 1 (pos 1))
+    ∷ refusesIn square squareProof [] (pos 1) (pos 0) (replicate 21 7) (refused 24 0)
     -- 22 comes after 1 to 15, which the claim's own floor has to pass
     ∷ refuses square squareProof (pos 1) (pos 0) (spare squareProof) (record { number = 22; blamed = range; value = 0 })
     ∷ refuses square squareProof (pos 1) (pos 0) (replicate 21 7) (record { number = 11; blamed = output; value = 0 })
@@ -105,11 +123,12 @@ unfoldable pub worked : Case → Case
 worked a = record {
   claim = a .claim;
   proof = a .proof;
+  limits = a .limits;
   lo = a .lo;
   hi = a .hi;
   output = a .output;
-  told = searchOf (a .claim) (a .proof) (a .lo) (a .hi) (length (a .output));
-  written = searchOutput (a .claim) (a .proof) (a .lo) (a .hi) (a .output);
+  told = searchOf (a .claim) (a .proof) (a .limits) (a .lo) (a .hi) (length (a .output));
+  written = searchOutput (a .claim) (a .proof) (a .limits) (a .lo) (a .hi) (a .output);
 }
 
 abbrev pub Worked : Type 0

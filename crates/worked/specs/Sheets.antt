@@ -1,11 +1,12 @@
 -- Sheets that the cases are about.
 use mathlib.Core.List.{List, [], _∷_, _++_, map}
-use Prim.Native.Nat.{ℕ}
+use Prim.Native.Nat.{ℕ, _/_, _%_}
 use lib.IntN.{ℤ, pos, negsuc}
 use lib.ListN.{length, take, drop, replicate}
 use mir.Syntax.{w32}
 use mir.Val.{ofZ}
 use Rattle.integers.specs.Words.{bytesOf}
+use Rattle.squares.specs.declared.limits.Limit.{Limit}
 
 -- ---- sheets from their numbers
 
@@ -99,6 +100,44 @@ maskedCube mask = masked mask (oneTerm 3 (pos 1))
 
 unfoldable pub cubeProof : List ℕ
 cubeProof = oneRow 3 3 (pos 1) (pos 0) (pos 0)
+
+-- ---- sheets with limits
+
+-- the limit of one variable
+unfoldable pub limit : ℕ → ℕ → ℕ → Limit
+limit power L m = record { power = power; bound = L; multiplier = m }
+
+unfoldable pub unlimited : Limit
+unlimited = limit 0 0 0
+
+-- a limits sheet, one limit for each variable
+unfoldable pub limitsWith : List Limit → List ℕ
+limitsWith limits =
+    length limits
+    ∷ (joined (map (λ (l : Limit). l .power ∷ l .bound % 256 ∷ l .bound / 256 ∷ []) limits)
+    ++ joined (map (λ (l : Limit). word (pos (l .multiplier))) limits))
+
+-- for one variable
+unfoldable pub oneLimit : ℕ → ℕ → ℕ → List ℕ
+oneLimit power L m = limitsWith (limit power L m ∷ [])
+
+-- −x² with a floor; x with floor −5
+unfoldable pub minusSquare : ℤ → List ℕ
+minusSquare b = claimOf 1 b ((2 ∷ []) ∷ []) (negsuc 0 ∷ [])
+
+unfoldable pub line : List ℕ
+line = claimOf 1 (negsuc 4) ((1 ∷ []) ∷ []) (pos 1 ∷ [])
+
+-- no rows, with a scale; one pair of 0 and 2 with scale 10
+unfoldable pub bareProof : ℕ → List ℕ
+bareProof S = proofOf 1 (pos S) 0 [] []
+
+unfoldable pub lineProof : List ℕ
+lineProof = proofOf 1 (pos 10) 1 ((0 ∷ []) ∷ (2 ∷ []) ∷ []) (pos 25 ∷ pos 1 ∷ negsuc 9 ∷ [])
+
+-- a lone row at zero in n variables, with a weight
+unfoldable pub atZero : ℕ → ℤ → List ℕ
+atZero n p = proofOf n (pos 1) 1 (replicate n 0 ∷ replicate n 0 ∷ []) (p ∷ pos 0 ∷ pos 0 ∷ [])
 
 -- ---- G byte by byte, so that bytes in a wrong order would show
 

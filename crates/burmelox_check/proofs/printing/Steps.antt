@@ -1,23 +1,29 @@
 -- The steps of the functions that print.
 use mathlib.Core.Path.{_≡_, refl, sym, _∙_, ap}
 use mathlib.Core.Bool.{false}
-use mathlib.Core.List.{List, _∷_}
-use Prim.Native.Nat.{ℕ, zero, suc, _+_, _-_, _<_, _≤_}
+use mathlib.Core.List.{List, [], _∷_}
+use Prim.Native.Nat.{ℕ, zero, suc, _+_, _-_, _*_, _<_, _≤_}
 use native.Mathlib.Omega.{arith}
-use lib.ListN.{length, getD, take, drop, length-drop, length-replicate}
+use lib.IntN.{ℤ}
+use lib.ListN.{length, getD, set, take, drop, replicate, length-drop, length-replicate}
 use lib.Seq.{take-all, getD-drop}
 use Rattle.integers.proofs.words.Laws.{Bytes}
 use Rattle.answers.specs.Answers.{says, blameless, Passes}
 use Rattle.answers.specs.declared.answers.Verdict.{Verdict}
 use Rattle.answers.proofs.answers.Laws.{passes-or-fails}
-use Rattle.sheets.specs.Layout.{rowCount, shapeOf, ProofRoom}
+use Rattle.points.specs.Points.{Exponents}
+use Rattle.sheets.specs.Layout.{variables, rowCount, shapeOf, ProofRoom}
 use Rattle.rows.specs.ProofSheet.{scaleOf, tripleOf, tripleFor}
+use Rattle.limits.specs.LimitsSheet.{noLimits}
+use Rattle.limits.proofs.limits_sheet.Laws.{none-length}
 use Rattle.targets.specs.Targets.{aimOf}
 use Rattle.sharing.specs.Shifts.{CheckedSheets}
 use Rattle.sharing.proofs.shifts.Laws.{sheets-checked}
 use Rattle.weighing.specs.Exact.{weightsFor, exactProof}
 use Rattle.weighing.proofs.exact.Laws.{exact-length, exact-variables, exact-scale, exact-weights}
 use Rattle.judging.specs.Check.{targetsOf, checkAnswer, outputOf}
+use Rattle.judging.specs.Unlimited.{plainAnswer, plainOutput}
+use Rattle.judging.proofs.Unlimited.{plain-targets, as-unlimited}
 use Rattle.judging.proofs.Promises.{check-promises, accepted-formed, accepted-within, accepted-rows, accepted-exact}
 use Rattle.text.specs.Text.{Written}
 use Rattle.report.specs.Reports.{shapeWith, refusedText, reportText}
@@ -25,19 +31,44 @@ use Rattle.report.proofs.reports.Laws.{accepted-word, refused-word, accepted-li
 use Rattle.burmelox_check.specs.Input.{claimEnd, claimPart, proofPart}
 use Rattle.burmelox_check.specs.Printing.{zeros, sheetsText, programText, acceptedLines, IsPrinted, Accepts, PrintsLines}
 
--- print_sheets: v is the verdict, o the output afterwards
-pub sheets-written : (c s out o l m : List ℕ) (v : Verdict) (end : ℕ) → Written l 0 (reportText c o (says v)) m end
-    → says v ≡ checkAnswer c s (length out) → o ≡ outputOf c s out → Written l 0 (sheetsText c s out) m end
-unfolding sheetsText
-sheets-written c s out o l m v end w ev eo = rw (← ev, ← eo) w
-
 -- as many zeros as are taken of more
 take-zeros : (k most : ℕ) → k ≤ most → take k (zeros most) ≡ zeros k
 take-zeros zero most h = refl
 take-zeros (suc k) zero h = absurd (omega arith)
 take-zeros (suc k) (suc most) h = ap (λ (l : List ℕ). 0 ∷ l) (take-zeros k most (omega arith))
 
--- print_input: e is where the claim ends, `most` the greatest length of an input
+-- ---- said_variables
+
+pub none-said : (c : List ℕ) → length c ≡ 0 → 0 ≡ variables c
+none-said [] e = refl
+none-said (b ∷ c) e = absurd (omega arith)
+
+-- ---- print_sheets: n is the number of variables that was read, r the bytes of the limits; v is the verdict, o the output
+-- afterwards
+
+module _ (c : List ℕ) (n : ℕ) (en : n ≡ variables c) where
+  unlimited-is : n < 256 → take (1 + 7 * n) (set (replicate 1786 0) 0 n) ≡ noLimits (variables c)
+  unfolding noLimits
+  unlimited-is l =
+      let k : 1 + 7 * n ≡ suc (7 * n) = omega arith in
+      rw (k, ← en) (ap (_∷_ n) (take-zeros (7 * n) 1785 (omega arith)))
+
+  pub limits-part : n < 256 → 1 + 7 * n ≡ length (take (1 + 7 * n) (set (replicate {A = ℕ} 1786 0) 0 n))
+  limits-part l = sym (ap length (unlimited-is l) ∙ none-length (variables c) ∙ rw (← en) (omega arith))
+
+  module _ (s out o : List ℕ) (l : n < 256)
+      (eo : o ≡ outputOf c s (take (1 + 7 * n) (set (replicate 1786 0) 0 n)) out) where
+    pub sheets-output : o ≡ plainOutput c s out
+    sheets-output = eo ∙ rw (unlimited-is l) (as-unlimited c s .output out)
+
+    pub sheets-written : (m m′ : List ℕ) (v : Verdict) (end : ℕ) → Written m 0 (reportText c o (says v)) m′ end
+        → says v ≡ checkAnswer c s (take (1 + 7 * n) (set (replicate 1786 0) 0 n)) (length out)
+        → Written m 0 (sheetsText c s out) m′ end
+    unfolding sheetsText
+    sheets-written m m′ v end w ev =
+        rw (← (ev ∙ rw (unlimited-is l) (as-unlimited c s .answer (length out))), ← sheets-output) w
+
+-- ---- print_input: e is where the claim ends, `most` the greatest length of an input
 module _ (input : List ℕ) (e most : ℕ) (h : length input ≤ most) where
   pub rest-counts : length input - e ≡ length (take (length input - e) (zeros most))
   rest-counts =
@@ -57,56 +88,68 @@ module _ (input : List ℕ) (e most : ℕ) (h : length input ≤ most) where
   input-written l m end ee w =
       rw (← ee, rest-length) (rw (rest-whole, take-zeros (length input - e) most (omega arith)) at w)
 
--- ---- the lines
+-- ---- the lines: the check's, with no variable limited
 
 module _ (c s : List ℕ) where
+  abbrev ls : List ℕ
+  ls = noLimits (variables c)
+
   as-long : length (zeros (length s)) ≡ length s
   as-long = length-replicate {A = ℕ} (length s) 0
 
-  module _ (h : Passes (checkAnswer c s (length s))) where
-    own : CheckedSheets c s (aimOf c s)
-    own = sheets-checked c s (accepted-formed c s (length s) h)
+  answers : (room : ℕ) → checkAnswer c s ls room ≡ plainAnswer c s room
+  answers = as-unlimited c s .answer
+
+  module _ (p : Passes (plainAnswer c s (length s))) where
+    h : Passes (checkAnswer c s ls (length s))
+    h = rw answers p
+
+    own : CheckedSheets c s (aimOf c s ls)
+    own = sheets-checked c s ls (accepted-formed c s ls (length s) h)
+
+    abbrev τ : Exponents → ℤ
+    τ = targetsOf c s ls
 
     abbrev exact : List ℕ
-    exact = exactProof (targetsOf c s) s
+    exact = exactProof τ s
 
     same : shapeWith exact (rowCount s) ≡ shapeOf s
-    same = rw (exact-variables (targetsOf c s) s)
+    same = rw (exact-variables τ s)
 
     room : ProofRoom exact (shapeWith exact (rowCount s))
     room = rw same (record {
       few = own .proof .header .room .few;
       rows = own .proof .header .room .rows;
-      long = rw (exact-length (targetsOf c s) s) (own .proof .header .room .long);
+      long = rw (exact-length τ s) (own .proof .header .room .long);
     })
 
     weights : (i : ℕ) → i < rowCount s
-        → tripleOf exact (shapeWith exact (rowCount s)) i ≡ tripleFor (weightsFor (targetsOf c s) s i)
+        → tripleOf exact (shapeWith exact (rowCount s)) i ≡ tripleFor (weightsFor τ s i)
     weights i l =
-        rw same
-        (exact-weights (targetsOf c s) s (own .proof .header .room .long) (accepted-within c s (length s) h) i l)
+        rw same (exact-weights τ s (own .proof .header .room .long) (accepted-within c s ls (length s) h) i l)
 
     accepted-text : sheetsText c s (zeros (length s)) ≡ acceptedLines c s
     unfolding sheetsText acceptedLines
     accepted-text =
-        rw (accepted-exact c s (zeros (length s)) as-long (rw as-long h), as-long, accepted-rows c s (length s) h)
-        (accepted-lines c exact (rowCount s) (scaleOf s) (λ i. tripleFor (weightsFor (targetsOf c s) s i))
-        (omega (arith, own .claim .sized)) room (exact-scale (targetsOf c s) s) weights)
+        rw (← (as-unlimited c s .output (zeros (length s))), ← (answers (length (zeros (length s)))), ← (plain-targets c s))
+        (rw (accepted-exact c s ls (zeros (length s)) as-long (rw as-long h), as-long, accepted-rows c s ls (length s) h)
+        (accepted-lines c exact (rowCount s) (scaleOf s) (λ i. tripleFor (weightsFor τ s i))
+        (omega (arith, own .claim .sized)) room (exact-scale τ s) weights))
 
-  refused-text : blameless (checkAnswer c s (length s)) ≡ false
+  refused-text : blameless (plainAnswer c s (length s)) ≡ false
       → sheetsText c s (zeros (length s))
-      ≡ refusedText (checkAnswer c s (length s) .number) (checkAnswer c s (length s) .value)
+      ≡ refusedText (plainAnswer c s (length s) .number) (plainAnswer c s (length s) .value)
   unfolding sheetsText
-  refused-text h = rw as-long (refused-lines c (outputOf c s (zeros (length s))) (checkAnswer c s (length s)) h)
+  refused-text h = rw as-long (refused-lines c (plainOutput c s (zeros (length s))) (plainAnswer c s (length s)) h)
 
-  passed-begins : Passes (checkAnswer c s (length s)) → Accepts (sheetsText c s (zeros (length s)))
+  passed-begins : Passes (plainAnswer c s (length s)) → Accepts (sheetsText c s (zeros (length s)))
   unfolding acceptedLines
   passed-begins h = rw (accepted-text h) (accepted-word _ _ _ _)
 
   -- no refusal begins so
-  begins-passed : Accepts (sheetsText c s (zeros (length s))) → Passes (checkAnswer c s (length s))
+  begins-passed : Accepts (sheetsText c s (zeros (length s))) → Passes (plainAnswer c s (length s))
   begins-passed h =
-      passes-or-fails (checkAnswer c s (length s)) (λ q. q)
+      passes-or-fails (plainAnswer c s (length s)) (λ q. q)
       (λ q.
       let w : _≡_ {A = ℕ} 97 114 =
       ap (λ (l : List ℕ). getD l 0 0) (sym h ∙ ap (take 8) (refused-text q) ∙ refused-word _ _) in
@@ -117,9 +160,9 @@ module _ (c s : List ℕ) where
     acceptance = accepted-text;
     refusal = refused-text;
     promises =
-        check-promises c s (zeros (length s)) _ _
-        (λ h. rw as-long (begins-passed h), λ h. passed-begins (rw as-long at h))
-        (λ h. refl) b _ refl;
+        check-promises c s ls (zeros (length s)) _ _
+        (λ h. rw (as-long, answers) (begins-passed h), λ h. passed-begins (rw (as-long, answers) at h))
+        (λ h. refl) b _ (rw (as-unlimited c s .output (zeros (length s))));
   }
 
 -- every input has its lines
