@@ -66,7 +66,9 @@ module _ (c : List ℕ) (n : ℕ) (en : n ≡ variables c) where
         → Written m 0 (sheetsText c s out) m′ end
     unfolding sheetsText
     sheets-written m m′ v end w ev =
-        rw (← (ev ∙ rw (unlimited-is l) (as-unlimited c s .answer (length out))), ← sheets-output) w
+        let e : says v ≡ plainAnswer c s (length out) =
+        ev ∙ rw (unlimited-is l) (as-unlimited c s .answer (length out)) in
+        rw (← e, ← sheets-output) w
 
 -- ---- print_input: e is where the claim ends, `most` the greatest length of an input
 module _ (input : List ℕ) (e most : ℕ) (h : length input ≤ most) where
