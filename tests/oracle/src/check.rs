@@ -1,8 +1,10 @@
-//! The check: targets, sharing the error, judging (refusals 16 to 19) and the exact proof.
+//! The check: the order of its sheets, the output's length (11), targets, sharing the error, judging
+//! (16 to 19) and the exact proof.
 
 use crate::claim::{self, Claim};
-use crate::proof::{self, Proof, Row};
-use crate::verdict::{refuse_at, Accepted, Verdict};
+use crate::limits::{self, Limits};
+use crate::proof::{self, Row};
+use crate::verdict::{refuse_at, refuse_if, Accepted, Refusal, Verdict};
 use crate::{Integer, Point};
 use std::collections::BTreeMap;
 use std::iter::once;
@@ -10,47 +12,102 @@ use std::iter::once;
 /// A row's weights p, q, r after the shift.
 type Shifted = [Integer; 3];
 
+/// The target at each point that has one; at every other point it is 0.
+type Targets = BTreeMap<Point, Integer>;
+
 /// The slots at each held point, in row order: the row, and which of its weights.
 type Slots = BTreeMap<Point, Vec<(usize, usize)>>;
 
-/// The verdict on a claim and a proof with an output of `room` bytes.
-pub fn check(claim: &[u8], proof: &[u8], room: usize) -> Verdict {
-    let polynomial = claim::read(claim)?;
-    let squares = proof::read(proof, polynomial.variables, room)?;
-    judge(&polynomial, &squares, proof)
+/// The verdict on a claim and a proof with limits and an output of `room` bytes.
+pub fn check(claim: &[u8], proof: &[u8], limits: &[u8], room: usize) -> Verdict {
+    Sheets::read(claim, proof, Some(limits), room)?.judge()
 }
 
-/// The verdict on sheets that passed the checks 1 to 15, with the bytes of the proof.
-pub fn judge(claim: &Claim, proof: &Proof, bytes: &[u8]) -> Verdict {
-    let targets = targets(claim, proof.scale);
-    let slots = slots(&proof.rows);
-    refuse_at(16, without_slot(claim, &targets, &slots))?;
-
-    let shifted = shift(&proof.rows, &targets, &slots);
-    refuse_at(17, shifted.iter().position(is_beyond))?;
-    refuse_at(18, shifted.iter().position(has_negative_end))?;
-    refuse_at(19, shifted.iter().position(has_large_cross))?;
-
-    let weights: Vec<[i32; 3]> = shifted.iter().map(narrow).collect();
-    let bytes = written(bytes, &weights);
-    Ok(Accepted { floor: claim.floor, scale: proof.scale, weights, bytes })
+/// The verdict where there is no limits sheet and no variable is limited.
+pub fn check_unlimited(claim: &[u8], proof: &[u8], room: usize) -> Verdict {
+    Sheets::read(claim, proof, None, room)?.judge()
 }
 
-/// The target at each point of g, which is f with the floor taken from its constant.
-fn targets(claim: &Claim, scale: u32) -> BTreeMap<Point, Integer> {
-    let mut g: BTreeMap<Point, Integer> = BTreeMap::new();
-    for (point, coefficient) in &claim.terms {
-        g.insert(point.clone(), Integer::from(*coefficient));
+/// Sheets that passed the checks 1 to 15, 24 and 25, with the bytes of the proof.
+pub struct Sheets<'a> {
+    pub claim: Claim,
+    scale: u32,
+    rows: Vec<Row>,
+    proof: &'a [u8],
+    limits: Limits,
+}
+
+impl<'a> Sheets<'a> {
+    /// The sheets in the order of their checks: 1 to 10, 24, 25, 11, 12 to 15.
+    pub fn read(
+        claim: &[u8],
+        proof: &'a [u8],
+        limits: Option<&[u8]>,
+        room: usize,
+    ) -> Result<Sheets<'a>, Refusal> {
+        let claim = claim::read(claim)?;
+        let n = claim.variables;
+        let (k, scale) = proof::header(proof, n)?;
+        let limits =
+            limits.map_or_else(|| Ok(Limits::default()), |sheet| limits::read(sheet, n))?;
+        refuse_if(11, room < proof.len())?;
+        let rows = proof::rows(proof, n, k)?;
+        Ok(Sheets { claim, scale, rows, proof, limits })
     }
-    let constant = g.entry(claim.origin()).or_default();
-    *constant = &*constant - &Integer::from(claim.floor);
 
-    let scale = Integer::from(scale);
-    let target = |(point, coefficient): (Point, Integer)| {
-        let worst = if claim.keeps_sign(&point) { coefficient } else { -&coefficient.abs() };
-        (point, &scale * &worst)
-    };
-    g.into_iter().map(target).collect()
+    /// The verdict by 16 to 19.
+    pub fn judge(&self) -> Verdict {
+        let targets = self.targets();
+        let slots = slots(&self.rows);
+        refuse_at(16, self.without_slot(&targets, &slots))?;
+
+        let shifted = shift(&self.rows, &targets, &slots);
+        refuse_at(17, shifted.iter().position(is_beyond))?;
+        refuse_at(18, shifted.iter().position(has_negative_end))?;
+        refuse_at(19, shifted.iter().position(has_large_cross))?;
+
+        let weights: Vec<[i32; 3]> = shifted.iter().map(narrow).collect();
+        let bytes = written(self.proof, &weights);
+        Ok(Accepted { floor: self.claim.floor, scale: self.scale, weights, bytes })
+    }
+
+    /// The target at each point of g, which is f with the floor taken from its constant, and at
+    /// those that the limits add.
+    fn targets(&self) -> Targets {
+        let mut targets = Targets::new();
+        for (point, coefficient) in &self.claim.terms {
+            targets.insert(point.clone(), Integer::from(*coefficient));
+        }
+        let constant = targets.entry(self.claim.origin()).or_default();
+        *constant = &*constant - &Integer::from(self.claim.floor);
+
+        let scale = Integer::from(self.scale);
+        for (point, target) in &mut targets {
+            let worst = if self.claim.keeps_sign(point) { target.clone() } else { -&target.abs() };
+            *target = &scale * &worst;
+        }
+        for added in self.limits.added() {
+            let constant = targets.entry(self.claim.origin()).or_default();
+            *constant = &*constant - &added.fall;
+            let target = targets.entry(added.pure_power).or_default();
+            *target = &*target + &added.rise;
+        }
+        targets
+    }
+
+    /// The index of the first point whose target is not zero and that no row holds: claim terms,
+    /// then the constant, then the points that the limits add, by variable. Where the claim has one
+    /// of the latter, it was met among the terms.
+    fn without_slot(&self, targets: &Targets, slots: &Slots) -> Option<usize> {
+        let t = self.claim.terms.len();
+        let terms = self.claim.terms.iter().map(|(point, _)| point.clone()).enumerate();
+        let constant = once((t, self.claim.origin()));
+        let added = self.limits.added().map(|added| (t + 1 + added.variable, added.pure_power));
+        let mut points = terms.chain(constant).chain(added);
+        let first =
+            points.find(|(_, point)| !targets[point].is_zero() && !slots.contains_key(point));
+        first.map(|(index, _)| index)
+    }
 }
 
 fn slots(rows: &[Row]) -> Slots {
@@ -63,16 +120,8 @@ fn slots(rows: &[Row]) -> Slots {
     slots
 }
 
-/// The first claim term whose target is not zero and that no row holds, then the constant: where
-/// the claim has a constant, it was met among the terms.
-fn without_slot(claim: &Claim, targets: &BTreeMap<Point, Integer>, slots: &Slots) -> Option<usize> {
-    let origin = claim.origin();
-    let mut points = claim.terms.iter().map(|(point, _)| point).chain(once(&origin));
-    points.position(|point| !targets[point].is_zero() && !slots.contains_key(point))
-}
-
 /// The rows' weights with the error at each held point shared among its slots.
-fn shift(rows: &[Row], targets: &BTreeMap<Point, Integer>, slots: &Slots) -> Vec<Shifted> {
+fn shift(rows: &[Row], targets: &Targets, slots: &Slots) -> Vec<Shifted> {
     let mut shifted: Vec<Shifted> = rows.iter().map(|row| row.weights.map(Integer::from)).collect();
     for (point, slots) in slots {
         let mut error = targets.get(point).cloned().unwrap_or_default();

@@ -40,6 +40,6 @@ fn monomial(point: &[u8], numbers: &[Integer]) -> Integer {
 }
 
 /// A power with exponent 0 is one, also at zero.
-fn power(base: &Integer, exponent: u8) -> Integer {
+pub fn power(base: &Integer, exponent: u8) -> Integer {
     (0..exponent).fold(Integer::from(1), |power, _| base * &power)
 }

@@ -3,18 +3,19 @@
 //! Sheets are parsed into structures, targets and slots are kept in maps by point, and every
 //! number that is computed is an [`Integer`]. One module a section: `claim`, `proof`, `check`
 //! (targets, sharing, judging), `evaluate`, `text` (what the program prints). Of document 02,
-//! note 1 is `search`, and the mask of note 3 is in `claim`.
+//! note 1 is `search`, note 4 `limits`, and the mask of note 3 is in `claim`.
 
 mod check;
 mod claim;
 mod evaluate;
 mod integer;
+mod limits;
 mod proof;
 mod search;
 mod text;
 mod verdict;
 
-pub use check::check;
+pub use check::{check, check_unlimited};
 pub use evaluate::{evaluate, value};
 pub use integer::Integer;
 pub use search::{search, Found};

@@ -1,4 +1,4 @@
-//! The proof sheet: refusals 8 to 15, the output's length among them.
+//! The proof sheet: refusals 8 to 10 and 12 to 15.
 
 use crate::verdict::{refuse_at, refuse_if, Refusal};
 use crate::{beyond, points, too_high, words, Point};
@@ -8,12 +8,6 @@ pub struct Row {
     v: Point,
     w: Point,
     pub weights: [i32; 3],
-}
-
-/// A proof: the scale and the rows.
-pub struct Proof {
-    pub scale: u32,
-    pub rows: Vec<Row>,
 }
 
 impl Row {
@@ -37,8 +31,8 @@ impl Row {
     }
 }
 
-/// The proof in the sheet, for a claim of `n` variables and an output of `room` bytes.
-pub fn read(bytes: &[u8], n: usize, room: usize) -> Result<Proof, Refusal> {
+/// The number of rows and the scale, for a claim of `n` variables: refusals 8 to 10.
+pub fn header(bytes: &[u8], n: usize) -> Result<(usize, u32), Refusal> {
     refuse_if(8, bytes.len() < 8)?;
     let k = usize::from(u16::from_le_bytes([bytes[2], bytes[3]]));
     let scale = u32::from_le_bytes([bytes[4], bytes[5], bytes[6], bytes[7]]);
@@ -46,18 +40,21 @@ pub fn read(bytes: &[u8], n: usize, room: usize) -> Result<Proof, Refusal> {
         usize::from(bytes[0]) == n && bytes[1] == 0 && k <= 256 && (1..=1 << 20).contains(&scale);
     refuse_if(9, !header_is_right)?;
     refuse_if(10, bytes.len() != 8 + k * (2 * n + 12))?;
-    refuse_if(11, room < bytes.len())?;
+    Ok((k, scale))
+}
 
-    let rows = rows(&bytes[8..], n, k);
+/// The `k` rows of a sheet whose header is right: refusals 12 to 15.
+pub fn rows(bytes: &[u8], n: usize, k: usize) -> Result<Vec<Row>, Refusal> {
+    let rows = read_rows(&bytes[8..], n, k);
     refuse_at(12, rows.iter().position(|row| too_high(&row.v) || too_high(&row.w)))?;
     refuse_at(13, rows.iter().position(|row| row.midpoint().is_none()))?;
     refuse_at(14, rows.iter().position(|row| row.is_lone() && row.weights[1..] != [0, 0]))?;
     refuse_at(15, rows.iter().position(|row| row.weights.iter().any(|&weight| beyond(weight))))?;
-    Ok(Proof { scale, rows })
+    Ok(rows)
 }
 
 /// The rows as they stand in the sheet behind its header: all points first, then all weights.
-fn rows(body: &[u8], n: usize, k: usize) -> Vec<Row> {
+fn read_rows(body: &[u8], n: usize, k: usize) -> Vec<Row> {
     let (ends, weights) = body.split_at(2 * n * k);
     let (ends, weights) = (points(ends, n), words(weights));
     let row = |(ends, weights): (&[Point], &[i32])| Row {

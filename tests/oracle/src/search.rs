@@ -1,8 +1,9 @@
-//! The search for the highest floor that the rows carry: refusals 1 to 15, 22 and 23.
+//! The search for the highest floor that the rows carry: refusals 1 to 15 with 24 and
+//! 25 among them, 22 and 23.
 
-use crate::check::judge;
+use crate::check::Sheets;
 use crate::verdict::{refuse_if, Accepted, Refusal};
-use crate::{claim, proof, Integer};
+use crate::Integer;
 
 /// A floor that was found: the acceptance of the claim with it, and the number of floors tried.
 #[derive(Clone, Debug, PartialEq, Eq)]
@@ -11,15 +12,22 @@ pub struct Found {
     pub tried: u32,
 }
 
-/// The highest floor from `lo` to `hi` whose check is accepted, with an output of `room` bytes.
-/// Every floor is tried from `hi` down; the claim's own floor has to be valid and is not used.
-pub fn search(claim: &[u8], proof: &[u8], room: usize, lo: i64, hi: i64) -> Result<Found, Refusal> {
-    let mut polynomial = claim::read(claim)?;
-    let squares = proof::read(proof, polynomial.variables, room)?;
+/// The highest floor from `lo` to `hi` whose check is accepted, with limits and an output of `room`
+/// bytes. Every floor is tried from `hi` down; the claim's own floor has to be valid and is not
+/// used.
+pub fn search(
+    claim: &[u8],
+    proof: &[u8],
+    limits: &[u8],
+    room: usize,
+    lo: i64,
+    hi: i64,
+) -> Result<Found, Refusal> {
+    let mut sheets = Sheets::read(claim, proof, Some(limits), room)?;
     refuse_if(22, is_wrong(lo, hi))?;
     for (tried, floor) in (1..).zip((lo..=hi).rev()) {
-        polynomial.floor = floor as i32;
-        if let Ok(accepted) = judge(&polynomial, &squares, proof) {
+        sheets.claim.floor = floor as i32;
+        if let Ok(accepted) = sheets.judge() {
             return Ok(Found { accepted, tried });
         }
     }

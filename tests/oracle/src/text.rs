@@ -1,6 +1,6 @@
 //! What the program makes of its standard input, and what it prints.
 
-use crate::check::check;
+use crate::check::check_unlimited;
 use crate::claim;
 use crate::verdict::Verdict;
 use std::fmt::Write;
@@ -13,11 +13,11 @@ pub fn text(input: &[u8]) -> String {
     printed(&verdict(input))
 }
 
-/// The verdict on the input: the claim as long as its header says, directly after it the proof, an
-/// output as long as the proof.
+/// The verdict on the input: the claim as long as its header says, directly after it the proof, no
+/// variable limited, an output as long as the proof.
 pub fn verdict(input: &[u8]) -> Verdict {
     let (claim, proof) = split(&input[..input.len().min(MOST_INPUT)]);
-    check(claim, proof, proof.len())
+    check_unlimited(claim, proof, proof.len())
 }
 
 /// The lines that the program prints for a verdict.

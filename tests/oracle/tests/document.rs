@@ -1,9 +1,9 @@
 //! The oracle against documents 01 and 02: the examples, the table of refusals, the program's
-//! input, masks, evaluations and searches.
+//! input, masks, evaluations and searches. Limits have a file of their own.
 
 mod common;
 
-use oracle::{check, evaluate, search, text, Integer, Refusal};
+use oracle::{check_unlimited, evaluate, search, text, Integer, Refusal};
 use refusals::{rule, said_by, EntryPoint, Sheet, RULES};
 use sheets::masked::{b_claim, cube, product_claim};
 use sheets::worked::{
@@ -21,7 +21,8 @@ fn examples_print_their_text() {
 
 #[test]
 fn the_exact_proof_is_the_proof_with_shifted_weights() {
-    let accepted = check(&square_claim(-1, -2).bytes(), &square_proof().bytes(), 22).unwrap();
+    let (claim, proof) = (square_claim(-1, -2).bytes(), square_proof().bytes());
+    let accepted = check_unlimited(&claim, &proof, 22).unwrap();
     let exact = Proof::new(1, &[([0], [2], [2, 1, -2])]);
     assert_eq!(accepted.bytes, exact.bytes());
     assert_eq!((accepted.floor, accepted.scale), (-1, 1));
@@ -50,6 +51,7 @@ fn refusals_blame_a_sheet() {
         (Sheet::Output, vec![11]),
         (Sheet::Offsets, vec![20]),
         (Sheet::Range, vec![22, 23]),
+        (Sheet::Limits, vec![24, 25]),
     ];
     for (sheet, numbers) in blamed {
         for number in numbers {
@@ -60,13 +62,14 @@ fn refusals_blame_a_sheet() {
     assert_eq!(third_row.code(), (2 << 32) + (19 << 16) + 2);
 }
 
-/// Of the numbers that document 01 and note 1 of document 02 define, up to 23.
+/// Of the numbers that document 01 and notes 1 to 4 of document 02 define, up to 25.
 #[test]
 fn entry_points_say_their_numbers_in_the_order_of_checks() {
-    let said = |entry_point| said_by(entry_point).filter(|&number| number <= 23);
-    assert!(said(EntryPoint::Check).eq(1..=19));
+    let said = |entry_point| said_by(entry_point).filter(|&number| number <= 25);
+    let to_15 = || (1..=10).chain([24, 25]).chain(11..=15);
+    assert!(said(EntryPoint::Check).eq(to_15().chain(16..=19)));
     assert!(said(EntryPoint::Evaluation).eq((1..=7).chain([20, 21])));
-    assert!(said(EntryPoint::Search).eq((1..=15).chain([22, 23])));
+    assert!(said(EntryPoint::Search).eq(to_15().chain([22, 23])));
     assert!(said(EntryPoint::Program).eq((1..=10).chain(12..=19)));
 }
 
@@ -85,13 +88,13 @@ fn the_input_is_split_by_the_header_of_the_claim() {
 fn an_absent_constant_has_the_index_after_the_terms() {
     let claim = Claim::new(5, &[([2], 1), ([4], 1)]);
     let proof = Proof::new(1, &[([2], [2], [1, 0, 0]), ([4], [4], [1, 0, 0])]);
-    assert_eq!(check(&claim.bytes(), &proof.bytes(), 100), Err(Refusal { number: 16, index: 2 }));
+    assert_eq!(shifted(claim, &proof), Err(Refusal { number: 16, index: 2 }));
 }
 
-/// The shifted weights of an accepted proof.
+/// The shifted weights of an accepted proof, where no variable is limited.
 fn shifted(claim: Claim, proof: &Proof) -> Result<Vec<[i32; 3]>, Refusal> {
     let proof = proof.bytes();
-    check(&claim.bytes(), &proof, proof.len()).map(|accepted| accepted.weights)
+    check_unlimited(&claim.bytes(), &proof, proof.len()).map(|accepted| accepted.weights)
 }
 
 const NEGATIVE_END: Refusal = Refusal { number: 18, index: 0 };
@@ -199,8 +202,8 @@ fn a_zero_offset_makes_its_term_zero_however_large_the_rest() {
 #[test]
 fn searches_come_to_their_outcomes() {
     for searches::Search { name, case, outcome } in searches::searches() {
-        let Case { claim, proof, room, lo, hi, .. } = case;
-        let found = search(&claim, &proof, room, lo, hi).map(|found| searches::Found {
+        let Case { claim, proof, limits, room, lo, hi, .. } = case;
+        let found = search(&claim, &proof, &limits, room, lo, hi).map(|found| searches::Found {
             floor: found.accepted.floor.into(),
             tried: found.tried,
             exact: found.accepted.bytes,

@@ -2,18 +2,22 @@
 
 mod common;
 
-use oracle::{check, evaluate, search, Integer, Refusal, Verdict};
+use oracle::{check, check_unlimited, evaluate, search, Integer, Refusal, Verdict};
 use refusals::LIBRARY;
 use sheets::random::{Kind, Plan, Rng, Shape};
-use sheets::{Case, MOST};
+use sheets::{Case, Limits, MOST};
+use std::collections::BTreeSet;
+
+/// The kinds of accepted cases.
+const ACCEPTED: [Kind; 3] = [Kind::Accepted, Kind::Extreme, Kind::Found];
 
 #[test]
 fn shifted_weights_are_the_planned_ones() {
     let mut rng = Rng::new(1);
     for _ in 0..2000 {
         let plan = Plan::random(&mut rng, Shape::random, &[]);
-        let (claim, proof) = (plan.claim.bytes(), plan.proof.bytes());
-        let accepted = check(&claim, &proof, proof.len()).expect("planned rows hold");
+        let case = Case::new(&plan.claim, &plan.proof).limited(&plan.limits);
+        let accepted = verdict(&case).expect("planned rows hold");
         let shifted: Vec<[i64; 3]> =
             accepted.weights.iter().map(|weights| weights.map(i64::from)).collect();
         assert_eq!(shifted, plan.shifted);
@@ -35,11 +39,21 @@ fn every_kind_comes_to_what_it_was_made_for() {
     }
 }
 
+/// The verdict on the case.
+fn verdict(case: &Case) -> Verdict {
+    check(&case.claim, &case.proof, &case.limits, case.room)
+}
+
 /// The verdict on the case with another mask.
 fn with_mask(case: &Case, mask: u8) -> Verdict {
     let mut claim = case.claim.clone();
     claim[2] = mask;
-    check(&claim, &case.proof, case.room)
+    verdict(&Case { claim, ..case.clone() })
+}
+
+/// The verdict on the case without its limits.
+fn without_limits(case: &Case) -> Verdict {
+    check_unlimited(&case.claim, &case.proof, case.room)
 }
 
 /// Many accepted claims have a plus sign at an odd point that their mask keeps: without the mask
@@ -47,11 +61,11 @@ fn with_mask(case: &Case, mask: u8) -> Verdict {
 #[test]
 fn masks_count_among_the_accepted() {
     let (mut kept, mut partly) = (0, 0);
-    for kind in [Kind::Accepted, Kind::Extreme, Kind::Found] {
+    for kind in ACCEPTED {
         let mut rng = Rng::new(6);
         for _ in 0..1000 {
             let case = kind.case(&mut rng);
-            let verdict = check(&case.claim, &case.proof, case.room);
+            let verdict = verdict(&case);
             let all = u8::MAX >> (8 - case.claim[0]);
             assert!(verdict.is_ok(), "{kind}");
             let counts = with_mask(&case, 0) != verdict;
@@ -63,6 +77,64 @@ fn masks_count_among_the_accepted() {
     assert!(partly > 10, "{partly} of them do not keep every sign");
 }
 
+/// Where no variable is limited, a check says what it says without a limits sheet.
+#[test]
+fn unlimited_cases_are_judged_as_before() {
+    for kind in Kind::all() {
+        let mut rng = Rng::new(7);
+        for _ in 0..100 {
+            let case = kind.case(&mut rng);
+            let n = case.claim.first().copied().unwrap_or(0);
+            let unlimited = case.limited(&Limits::none(n));
+            assert_eq!(verdict(&unlimited), without_limits(&unlimited), "{kind}");
+        }
+    }
+}
+
+/// Of the accepted cases with limits most have another verdict without them. Of the pure powers some
+/// are claim terms and some are not; at some of them, and at some constants, the claim makes up for
+/// what the limits change, so that the target is 0 and needs no slot.
+#[test]
+fn limits_count_among_the_accepted() {
+    let (mut limited, mut counting, mut cancelled, mut added) = (0, 0, [0, 0], 0);
+    for shape in [Shape::random, Shape::extreme, Shape::low] {
+        let mut rng = Rng::new(8);
+        for _ in 0..1000 {
+            let plan = Plan::random(&mut rng, shape, &[]);
+            let case = Case::new(&plan.claim, &plan.proof).limited(&plan.limits);
+            limited += usize::from(plan.limits.limited().count() > 0);
+            counting += usize::from(without_limits(&case) != verdict(&case));
+            let points: BTreeSet<_> = plan.claim.terms.iter().map(|(point, _)| point).collect();
+            for (point, change) in plan.limits.added() {
+                let is_constant = point.iter().all(|&exponent| exponent == 0);
+                if change != 0 && !plan.holds(&point) {
+                    cancelled[usize::from(is_constant)] += 1;
+                }
+                added += usize::from(change > 0 && !points.contains(&point));
+            }
+        }
+    }
+    assert!(limited > 1000, "{limited} plans have limits");
+    assert!(3 * counting > limited, "{counting} of {limited} have another verdict without them");
+    let [pure_powers, constants] = cancelled;
+    assert!(pure_powers > 100, "{pure_powers} pure powers have no slot and the target 0");
+    assert!(constants > 50, "{constants} constants have no slot and the target 0");
+    assert!(added > 100, "{added} pure powers are no claim terms");
+}
+
+/// Points that limits add are named behind the constant.
+#[test]
+fn added_points_without_a_slot_are_met() {
+    let mut rng = Rng::new(9);
+    let mut named = BTreeSet::new();
+    for _ in 0..4000 {
+        let case = Kind::Refused(16).case(&mut rng);
+        let refusal = verdict(&case).expect_err("a target has no slot");
+        named.extend(refusal.index.checked_sub(usize::from(case.claim[1]) + 1));
+    }
+    assert_eq!(named, (0..8).collect());
+}
+
 /// A search finds the highest of the carried floors, and none past the lowest.
 #[test]
 fn carried_floors_are_found() {
@@ -71,8 +143,8 @@ fn carried_floors_are_found() {
     let mut lowest = 0;
     for _ in 0..1000 {
         let plan = Plan::random(&mut rng, Shape::random, &[]);
-        let (claim, proof) = (plan.claim.bytes(), plan.proof.bytes());
-        let found = |lo, hi| search(&claim, &proof, proof.len(), lo, hi);
+        let (claim, proof, limits) = (plan.claim.bytes(), plan.proof.bytes(), plan.limits.bytes());
+        let found = |lo, hi| search(&claim, &proof, &limits, proof.len(), lo, hi);
         let (low, high) = plan.carried().into_inner();
         let highest = found((high - 2).max(-TOP), (high + 2).min(TOP)).expect("one is carried");
         let tried = (high + 2).min(TOP) - high + 1;

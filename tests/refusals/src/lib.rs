@@ -2,7 +2,7 @@
 //! the order of checks. A request that adds a number adds a row here.
 
 use EntryPoint::{Check, Evaluation, Program, Search};
-use Sheet::{Claim, Offsets, Output, Proof, Range};
+use Sheet::{Claim, Limits, Offsets, Output, Proof, Range};
 
 /// The sheet at fault, numbered as the library's answers have it.
 #[derive(Clone, Copy, Debug, PartialEq, Eq)]
@@ -55,13 +55,16 @@ const CLAIM_READERS: &[EntryPoint] = &[Check, Evaluation, Search, Program];
 /// What reads a proof.
 const PROOF_READERS: &[EntryPoint] = &[Check, Search, Program];
 
+/// What is handed limits and an output too: the library's checks, of one floor or of several.
+const LIBRARY_CHECKS: &[EntryPoint] = &[Check, Search];
+
 /// What judges a proof of one floor. A search says none of why a floor is refused.
 const JUDGES: &[EntryPoint] = &[Check, Program];
 
 /// The rules in the order of their checks: the place in this list is the place in that order, and
-/// the number says nothing of it: 22 stands after 15. Later requests put 38, 26 and 27 before 1,
-/// then 39, 24 and 25 between 10 and 11, and 34 between 12 and 13. The program never says 11, since
-/// its output is as long as the proof.
+/// the number says nothing of it: 24 and 25 stand after 10, and 22 after 15. Later requests put 38,
+/// 26 and 27 before 1, 39 between 10 and 24, and 34 between 12 and 13. The program never says 11,
+/// since its output is as long as the proof, nor 24 and 25, since it limits no variable.
 pub const RULES: &[Rule] = &[
     Rule::new(1, Claim, CLAIM_READERS),
     Rule::new(2, Claim, CLAIM_READERS),
@@ -73,7 +76,9 @@ pub const RULES: &[Rule] = &[
     Rule::new(8, Proof, PROOF_READERS),
     Rule::new(9, Proof, PROOF_READERS),
     Rule::new(10, Proof, PROOF_READERS),
-    Rule::new(11, Output, &[Check, Search]),
+    Rule::new(24, Limits, LIBRARY_CHECKS),
+    Rule::new(25, Limits, LIBRARY_CHECKS),
+    Rule::new(11, Output, LIBRARY_CHECKS),
     Rule::new(12, Proof, PROOF_READERS),
     Rule::new(13, Proof, PROOF_READERS),
     Rule::new(14, Proof, PROOF_READERS),

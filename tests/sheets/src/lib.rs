@@ -1,9 +1,11 @@
-//! Builder of claims and proofs in bytes, and the sheets that tests are made of.
+//! Builder of claims, proofs and limits in bytes, and the sheets that tests are made of.
 //!
 //! `worked`, `masked`, `posts` and `papers` hold sheets with the text the program prints for them,
-//! `table` the examples of the table of refusals, `searches` searches with what they find, `random`
-//! the generators.
+//! `limited` those with limits and what a check says of them, `table` the examples of the table of
+//! refusals, `searches` searches with what they find, `random` the generators.
 
+pub mod limited;
+pub mod limits;
 pub mod masked;
 pub mod papers;
 pub mod posts;
@@ -11,6 +13,8 @@ pub mod random;
 pub mod searches;
 pub mod table;
 pub mod worked;
+
+pub use limits::{Limit, Limits};
 
 /// A point: its exponents.
 pub type Point = Vec<u8>;
@@ -65,12 +69,14 @@ pub struct Example {
     pub text: &'static str,
 }
 
-/// What one test hands to the check (both sheets and an output of `room` bytes), to an evaluation
-/// (the claim and the offsets) and to a search (as to the check, and floors from `lo` to `hi`).
+/// What one test hands to the check (three sheets and an output of `room` bytes), to an evaluation
+/// (the claim and the offsets) and to a search (as to the check, and floors from `lo` to `hi`). The
+/// program is given the claim and the proof alone.
 #[derive(Clone, Debug)]
 pub struct Case {
     pub claim: Vec<u8>,
     pub proof: Vec<u8>,
+    pub limits: Vec<u8>,
     pub room: usize,
     pub offsets: Vec<i32>,
     pub lo: i64,
@@ -140,7 +146,7 @@ impl Proof {
     }
 }
 
-/// Every example: the worked sheets, those with masks, the posts, the papers.
+/// Every example that the program reads: the worked sheets, those with masks, the posts, the papers.
 pub fn examples() -> Vec<Example> {
     let all = [worked::examples(), masked::examples(), posts::examples(), papers::examples()];
     all.into_iter().flatten().collect()
@@ -154,12 +160,18 @@ impl Example {
 }
 
 impl Case {
-    /// A check with an output as long as the proof, an evaluation at zeros, and a search among the
-    /// claim's own floor alone.
+    /// A check with no variable limited and an output as long as the proof, an evaluation at zeros,
+    /// and a search among the claim's own floor alone.
     pub fn new(claim: &Claim, proof: &Proof) -> Case {
         let (floor, offsets) = (claim.floor.into(), vec![0; claim.n.into()]);
+        let limits = Limits::none(claim.n).bytes();
         let (claim, proof) = (claim.bytes(), proof.bytes());
-        Case { room: proof.len(), claim, proof, offsets, lo: floor, hi: floor }
+        Case { room: proof.len(), claim, proof, limits, offsets, lo: floor, hi: floor }
+    }
+
+    /// The case with limits.
+    pub fn limited(self, limits: &Limits) -> Case {
+        Case { limits: limits.bytes(), ..self }
     }
 
     /// The program's input: the claim and directly after it the proof.

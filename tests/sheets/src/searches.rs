@@ -1,8 +1,9 @@
 //! Searches for the highest floor that the rows carry, with what they find.
 
+use crate::limited::{line, minus_square};
 use crate::masked::b_claim;
 use crate::worked::{motzkin_claim, motzkin_proof, square_claim, square_proof};
-use crate::{papers, Case, Claim, Proof, MOST};
+use crate::{papers, Case, Claim, Limit, Limits, Proof, MOST};
 
 /// A search and what it comes to: a floor, or the number of a refusal at index 0.
 pub struct Search {
@@ -38,7 +39,7 @@ fn search(name: &'static str, case: &Case, lo: i64, hi: i64, outcome: Outcome) -
 
 /// Every named search.
 pub fn searches() -> Vec<Search> {
-    [worked(), masked(), bounds(), orders(), gaps()].into_iter().flatten().collect()
+    [worked(), masked(), limited(), bounds(), orders(), gaps()].into_iter().flatten().collect()
 }
 
 /// Square with a floor of its own.
@@ -81,7 +82,21 @@ fn masked() -> Vec<Search> {
     ]
 }
 
-/// Floors at the limits and past them, and as many floors as there may be.
+/// Limited claims: −x² without rows carries the one floor at which the limit takes all of the
+/// constant, and x one that it does not carry unlimited.
+fn limited() -> Vec<Search> {
+    let (square, line) = (minus_square().case(), line().case());
+    let unlimited = line.clone().limited(&Limits::none(1));
+    vec![
+        search("-x² limited", &square, -20, 0, Ok((-9, 10, &[]))),
+        search("-x² limited, under its floor", &square, -20, -10, Err(23)),
+        search("x limited", &line, -20, 20, Ok((-5, 26, &[[25, 1, -10]]))),
+        search("x limited, under its floor", &line, -7, -6, Ok((-6, 1, &[[35, 1, -10]]))),
+        search("x unlimited", &unlimited, -20, 20, Err(23)),
+    ]
+}
+
+/// Floors at the ends of what they may be and past them, and as many floors as there may be.
 fn bounds() -> Vec<Search> {
     let a = square(0);
     let as_proposed = [[1, 1, -2]];
@@ -108,11 +123,15 @@ fn bounds() -> Vec<Search> {
 /// What is checked before 22: the own floor is unused and has to be valid all the same.
 fn orders() -> Vec<Search> {
     let short = Case { room: 21, ..square(0) };
+    let no_limits = Case { limits: vec![], ..short.clone() };
+    let third_power = short.clone().limited(&Limits::new(&[Limit::new(3, 1, 1)]));
     let far = square(MOST + 1);
     let heavy = Case::new(&square_claim(0, -2), &Proof::new(1, &[([0], [2], [1, 1, MOST + 1])]));
     vec![
         search("output too short", &short, -3, 3, Err(11)),
         search("output too short, lo over hi", &short, 3, -3, Err(11)),
+        search("no limits sheet, output too short, lo over hi", &no_limits, 3, -3, Err(24)),
+        search("third power, output too short, lo over hi", &third_power, 3, -3, Err(25)),
         search("own floor beyond", &far, -3, 3, Err(4)),
         search("weight beyond, lo over hi", &heavy, 3, -3, Err(15)),
     ]

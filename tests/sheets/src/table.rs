@@ -1,7 +1,7 @@
 //! The examples in document 01's table of refusals, and those of the numbers that requests added.
 
 use crate::worked::{power_claim, square_claim, square_proof};
-use crate::{Case, Claim, Proof, MOST};
+use crate::{Case, Claim, Limit, Limits, Proof, MOST};
 use refusals::{rule, EntryPoint};
 
 /// An example of the table: what is refused, and the number and index it is refused by.
@@ -81,6 +81,8 @@ pub fn entries() -> Vec<Entry> {
         (21, 0, Case { claim: power_claim(57).bytes(), offsets: vec![2], ..square() }),
         (22, 0, Case { lo: 1, hi: 0, ..square() }),
         (23, 0, Case { lo: -4, hi: -1, ..lone(0, MOST, 1) }),
+        (24, 0, Case { limits: vec![], room: 21, ..square() }),
+        (25, 0, square().limited(&Limits::new(&[Limit::new(3, 1, 1)]))),
     ];
     cases.into_iter().map(|(number, index, case)| Entry { number, index, case }).collect()
 }

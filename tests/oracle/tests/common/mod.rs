@@ -6,11 +6,11 @@ use sheets::Case;
 
 /// The refusal that an entry point answers to a case, where it refuses.
 pub fn refusal(entry_point: EntryPoint, case: &Case) -> Option<Refusal> {
-    let Case { claim, proof, room, offsets, lo, hi } = case;
+    let Case { claim, proof, limits, room, offsets, lo, hi } = case;
     match entry_point {
-        EntryPoint::Check => check(claim, proof, *room).err(),
+        EntryPoint::Check => check(claim, proof, limits, *room).err(),
         EntryPoint::Evaluation => evaluate(claim, offsets).err(),
-        EntryPoint::Search => search(claim, proof, *room, *lo, *hi).err(),
+        EntryPoint::Search => search(claim, proof, limits, *room, *lo, *hi).err(),
         EntryPoint::Program => verdict(&case.input()).err(),
     }
 }

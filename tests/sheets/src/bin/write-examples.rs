@@ -1,12 +1,27 @@
-//! Writes the project's `examples/`: each sheet and beside it the text the program prints for it.
+//! Writes the project's `examples/`: each sheet, beside it the text the program prints for it, and of
+//! those with limits the limits sheet and the text of a check with them.
 
-use std::{fs, io, path::Path};
+use sheets::{limited, Example};
+use std::path::{Path, PathBuf};
+use std::{fs, io};
 
 fn main() -> io::Result<()> {
-    let folder = Path::new(env!("CARGO_MANIFEST_DIR")).join("../../examples");
     for example in sheets::examples() {
-        fs::write(folder.join(example.name).with_extension("sheet"), example.input())?;
-        fs::write(folder.join(example.name).with_extension("txt"), example.text)?;
+        write(&example)?;
+    }
+    for limited in limited::examples() {
+        write(&limited.example)?;
+        fs::write(path(limited.example.name, "limits"), limited.limits.bytes())?;
     }
     Ok(())
+}
+
+fn write(example: &Example) -> io::Result<()> {
+    fs::write(path(example.name, "sheet"), example.input())?;
+    fs::write(path(example.name, "txt"), example.text)
+}
+
+fn path(name: &str, extension: &str) -> PathBuf {
+    let folder = Path::new(env!("CARGO_MANIFEST_DIR")).join("../../examples");
+    folder.join(name).with_extension(extension)
 }

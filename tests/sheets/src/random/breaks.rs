@@ -1,7 +1,7 @@
 //! Faults put into well-formed sheets, one for each number that the bytes of a single sheet, the
 //! output's length, the ends of a range or the count of offsets can break.
 
-use super::{ranges, Rng};
+use super::{limits, ranges, Rng};
 use crate::Case;
 use std::ops::{Range, RangeInclusive};
 
@@ -26,6 +26,8 @@ const BREAKS: &[(u32, Break)] = &[
     (13, |rng, case| spoil_midpoint(rng, &mut case.proof)),
     (14, |rng, case| spoil_lone_row(rng, &mut case.proof)),
     (15, |rng, case| spoil_weight(rng, &mut case.proof)),
+    (24, |rng, case| spoil_limits_length(rng, &mut case.limits)),
+    (25, |rng, case| spoil_limits(rng, &mut case.limits)),
     (20, |rng, case| spoil_count(rng, &mut case.offsets)),
     (22, |rng, case| (case.lo, case.hi) = ranges::wrong(rng)),
 ];
@@ -198,6 +200,30 @@ fn spoil_weight(rng: &mut Rng, proof: &mut [u8]) {
     let (v, w) = places.row(proof, row);
     let weight = if v == w { 0 } else { rng.below(3) };
     put_word(proof, places.weights + 12 * row + 4 * weight, beyond(rng));
+}
+
+/// Makes the sheet shorter or longer, changes n, or puts a right sheet of another n.
+fn spoil_limits_length(rng: &mut Rng, sheet: &mut Vec<u8>) {
+    let (other, past, more) = (sheet[0] % 8 + 1, past_byte(rng, 9), 1 + rng.below(20));
+    match rng.below(5) {
+        0 => sheet.clear(),
+        1 => sheet.truncate(rng.below(sheet.len())),
+        2 => sheet.extend(rng.bytes(more)),
+        3 => sheet[0] = rng.pick(&[0, other, past]),
+        _ => *sheet = limits::right(rng, other.into()).bytes(),
+    }
+}
+
+/// Puts wrong limits for a variable or two.
+fn spoil_limits(rng: &mut Rng, sheet: &mut [u8]) {
+    let n = usize::from(sheet[0]);
+    for _ in 0..1 + rng.below(2) {
+        let (variable, wrong) = (rng.below(n), limits::wrong(rng));
+        let entry = 1 + 3 * variable;
+        sheet[entry] = wrong.power;
+        sheet[entry + 1..entry + 3].copy_from_slice(&wrong.limit.to_le_bytes());
+        put_word(sheet, 1 + 3 * n + 4 * variable, wrong.multiplier as i32);
+    }
 }
 
 fn spoil_count(rng: &mut Rng, offsets: &mut Vec<i32>) {

@@ -1,12 +1,13 @@
 //! The kinds of random cases.
 
 use super::breaks::{self, Break};
+use super::limits::right;
 use super::offsets::{largest_terms, offsets, over_largest_term};
 use super::ranges::{around, down_to, outside, wrong, Floors};
 use super::rows::JUDGED;
 use super::shape::mask;
 use super::{Plan, Rng, Shape};
-use crate::{Case, Claim, Proof, MOST_TERMS};
+use crate::{Case, Claim, Limit, Limits, Point, Proof, MOST_TERMS};
 use refusals::EntryPoint::{self, Check, Evaluation, Program, Search};
 use std::fmt;
 
@@ -89,12 +90,23 @@ impl fmt::Display for Kind {
 fn planned(rng: &mut Rng, shape: fn(&mut Rng) -> Shape, faults: &[u32]) -> Case {
     let plan = Plan::random(rng, shape, faults);
     let floors = around(rng, &plan.carried(), plan.proof.rows.len());
-    case_of(rng, &plan.claim, &plan.proof, floors)
+    case_of(rng, &plan, floors)
+}
+
+/// The plan's case.
+fn case_of(rng: &mut Rng, plan: &Plan, floors: Floors) -> Case {
+    sheets_case(rng, &plan.claim, &plan.proof, &plan.limits, floors)
 }
 
 /// A case with an output as long as the proof or longer.
-fn case_of(rng: &mut Rng, claim: &Claim, proof: &Proof, floors: Floors) -> Case {
-    let case = Case::new(claim, proof);
+fn sheets_case(
+    rng: &mut Rng,
+    claim: &Claim,
+    proof: &Proof,
+    limits: &Limits,
+    floors: Floors,
+) -> Case {
+    let case = Case::new(claim, proof).limited(limits);
     let longer = if rng.once_in(2) { 0 } else { rng.below(40) };
     let offsets = offsets(rng, claim.n.into());
     let (lo, hi) = floors.into_inner();
@@ -105,8 +117,9 @@ fn case_of(rng: &mut Rng, claim: &Claim, proof: &Proof, floors: Floors) -> Case 
 fn evaluated(rng: &mut Rng, terms: fn(&mut Rng) -> (Claim, Vec<i32>)) -> Case {
     let (claim, offsets) = terms(rng);
     let proof = Proof { n: claim.n, scale: 1, rows: vec![] };
+    let limits = right(rng, claim.n.into());
     let floors = around(rng, &(0..=0), 0);
-    Case { offsets, ..case_of(rng, &claim, &proof, floors) }
+    Case { offsets, ..sheets_case(rng, &claim, &proof, &limits, floors) }
 }
 
 /// Shapes at the limits once in eight.
@@ -131,37 +144,58 @@ fn some_faults(rng: &mut Rng, number: u32) -> Vec<u32> {
     faults.filter(|_| rng.once_in(4)).collect()
 }
 
-/// A case whose constant no row holds although the floor differs from it, or with a term more at
-/// a point that no row holds; often with a faulty row as well.
+/// A case with a target that no row holds; often with a faulty row as well.
 fn without_slot(rng: &mut Rng) -> Case {
     loop {
         let faults = some_faults(rng, 16);
-        let plan = Plan::random(rng, Shape::random, &faults);
+        let mut plan = Plan::random(rng, Shape::random, &faults);
         let floors = around(rng, &plan.carried(), plan.proof.rows.len());
-        let Plan { mut claim, proof, .. } = plan;
-        let held = |point: &[u8]| {
-            proof.rows.iter().flat_map(|row| row.slots()).any(|(slot, _)| slot == point)
-        };
-        let origin = vec![0; claim.n.into()];
-        let point: Vec<u8> = origin.iter().map(|_| rng.below(121) as u8).collect();
-        if !held(&origin) && rng.once_in(2) {
-            claim.floor += if claim.floor > 0 { -1 } else { 1 };
-            return case_of(rng, &claim, &proof, floors);
-        }
-        if !held(&point) && point != origin && claim.terms.len() < MOST_TERMS {
-            claim.terms.retain(|(other, _)| *other != point);
-            claim.terms.push((point, rng.pick(&[1, -1, 1 << 30])));
-            claim.terms.sort();
-            return case_of(rng, &claim, &proof, floors);
+        let part: fn(&mut Rng, &mut Plan) -> bool =
+            rng.pick(&[move_floor as _, add_term as _, move_multiplier as _]);
+        if part(rng, &mut plan) {
+            return case_of(rng, &plan, floors);
         }
     }
+}
+
+/// Moves the floor where no row holds the constant.
+fn move_floor(_: &mut Rng, plan: &mut Plan) -> bool {
+    let origin = vec![0; plan.claim.n.into()];
+    let floor = &mut plan.claim.floor;
+    *floor += if *floor > 0 { -1 } else { 1 };
+    !plan.holds(&origin)
+}
+
+/// Puts a term at a point that no row holds and that the limits leave alone.
+fn add_term(rng: &mut Rng, plan: &mut Plan) -> bool {
+    let point: Point = (0..plan.claim.n).map(|_| rng.below(121) as u8).collect();
+    let is_constant = point.iter().all(|&exponent| exponent == 0);
+    let is_free = !is_constant && !plan.holds(&point) && !plan.limits.added().contains_key(&point);
+    let terms = &mut plan.claim.terms;
+    terms.push((point, rng.pick(&[1, -1, 1 << 30])));
+    terms.sort();
+    is_free && terms.len() <= MOST_TERMS
+}
+
+/// Moves a multiplier, or limits a variable, where no row holds the pure power.
+fn move_multiplier(rng: &mut Rng, plan: &mut Plan) -> bool {
+    let variable = rng.below(plan.claim.n.into());
+    let Limit { power, limit, multiplier } = plan.limits.entries[variable];
+    let power = if power > 0 { power } else { rng.pick(&[2, 4]) };
+    let moved = if multiplier == 0 || multiplier < 65_536 && rng.once_in(2) {
+        multiplier + 1
+    } else {
+        multiplier - 1
+    };
+    plan.limits.entries[variable] = Limit::new(power, limit.max(1), moved);
+    !plan.holds(&plan.limits.pure_power(variable, power))
 }
 
 /// A case with a search that finds the highest of the carried floors.
 fn found(rng: &mut Rng) -> Case {
     let plan = Plan::random(rng, Shape::low, &[]);
     let floors = down_to(rng, &plan.carried());
-    case_of(rng, &plan.claim, &plan.proof, floors)
+    case_of(rng, &plan, floors)
 }
 
 /// A case with a search among floors none of which is accepted, often with faulty rows as well.
@@ -170,7 +204,7 @@ fn without_floor(rng: &mut Rng) -> Case {
         let faults = some_faults(rng, 16);
         let plan = Plan::random(rng, any_shape, &faults);
         if let Some(floors) = outside(rng, &plan.carried(), plan.proof.rows.len()) {
-            return case_of(rng, &plan.claim, &plan.proof, floors);
+            return case_of(rng, &plan, floors);
         }
     }
 }
@@ -199,14 +233,21 @@ fn with_terms_and_rows(rng: &mut Rng, number: u32) -> Case {
     }
 }
 
-/// A case of another kind, with one to three damages, an output of any length, and sometimes a
-/// wrong range.
+/// A case of another kind, with one to three damages, an output of any length, and sometimes other
+/// limits or a wrong range.
 fn damaged(rng: &mut Rng) -> Case {
     let kind = rng.pick(&[Kind::Accepted, Kind::Accepted, Kind::Extreme, Kind::Largest]);
     let mut case = kind.case(rng);
+    if rng.once_in(8) {
+        case.limits = right(rng, case.claim[0].into()).bytes();
+    }
     for _ in 0..1 + rng.below(3) {
-        let of_proof = rng.once_in(2);
-        damage(rng, if of_proof { &mut case.proof } else { &mut case.claim });
+        let sheet = match rng.below(8) {
+            0 => &mut case.limits,
+            1..=4 => &mut case.proof,
+            _ => &mut case.claim,
+        };
+        damage(rng, sheet);
     }
     if rng.once_in(8) {
         let count = rng.below(10);
@@ -240,13 +281,15 @@ fn noise(rng: &mut Rng) -> Case {
     let (t, k) = (rng.below(3), rng.below(3));
     let mut claim = vec![n as u8, t as u8, mask(rng, n), 0, 0, 0, 0, 0];
     let mut proof = vec![n as u8, 0, k as u8, 0, 1, 0, 0, 0];
+    let mut limits = vec![n as u8];
     let most = rng.pick(&[1, 2, 4, 255]);
     let mut body = |length: usize| -> Vec<u8> {
         (0..length).map(|_| if rng.once_in(3) { rng.below(most) as u8 } else { 0 }).collect()
     };
     claim.extend(body(t * (n + 4)));
     proof.extend(body(k * (2 * n + 12)));
-    for sheet in [&mut claim, &mut proof] {
+    limits.extend(body(7 * n));
+    for sheet in [&mut claim, &mut proof, &mut limits] {
         if rng.once_in(8) {
             let length = rng.below(30);
             *sheet = rng.bytes(length);
@@ -254,5 +297,5 @@ fn noise(rng: &mut Rng) -> Case {
     }
     let offsets = offsets(rng, n);
     let (lo, hi) = around(rng, &(0..=0), k).into_inner();
-    Case { room: proof.len(), claim, proof, offsets, lo, hi }
+    Case { room: proof.len(), claim, proof, limits, offsets, lo, hi }
 }

@@ -1,11 +1,12 @@
 //! Generators of random sheets.
 //!
 //! `plan` makes sheets backwards, from the weights they are to have after the shift, by a `shape`
-//! and `rows`; `breaks` puts faults into their bytes; `offsets` has evaluations and 21, `ranges`
-//! the floors of searches; `kinds` lists what is generated.
+//! and `rows`; `breaks` puts faults into their bytes; `limits` has limits sheets, `offsets`
+//! evaluations and 21, `ranges` the floors of searches; `kinds` lists what is generated.
 
 mod breaks;
 mod kinds;
+mod limits;
 mod offsets;
 mod plan;
 mod ranges;

@@ -1,16 +1,17 @@
 //! Sheets made backwards. First come rows with the weights they are to have after the shift, then
-//! the claim whose targets these weights add up to, last the proposed weights from which the
-//! shares of a chosen error lead there.
+//! the claim whose targets these weights add up to within the limits, last the proposed weights
+//! from which the shares of a chosen error lead there.
 
-use super::rows::{faulty_row, filling_row, holding_row};
+use super::rows::{faulty_row, filling_row, holding_row, limit_row};
 use super::{Rng, Shape};
-use crate::{keeps_sign, Claim, Point, Proof, Row, MOST, MOST_TERMS};
+use crate::{keeps_sign, Claim, Limits, Point, Proof, Row, MOST, MOST_TERMS};
 use std::collections::BTreeMap;
 
 /// Sheets and the weights that the shift must give them.
 pub struct Plan {
     pub claim: Claim,
     pub proof: Proof,
+    pub limits: Limits,
     pub shifted: Vec<[i64; 3]>,
 }
 
@@ -18,6 +19,7 @@ pub struct Plan {
 struct Draft {
     n: usize,
     mask: u8,
+    limits: Limits,
     scale: i64,
     rows: Vec<Row<i64>>,
 }
@@ -39,17 +41,28 @@ impl Plan {
         let claim = draft.claim(rng)?;
         let proof = draft.proof(rng)?;
         let shifted = draft.rows.iter().map(|row| row.weights).collect();
-        Some(Plan { claim, proof, shifted })
+        Some(Plan { claim, proof, limits: draft.limits, shifted })
+    }
+
+    /// Some row has a slot at the point.
+    pub fn holds(&self, point: &Point) -> bool {
+        self.proof.rows.iter().flat_map(Row::slots).any(|(slot, _)| slot == *point)
     }
 }
 
 impl Draft {
     fn new(rng: &mut Rng, shape: &Shape, faults: &[u32]) -> Option<Draft> {
         let (n, scale) = (shape.pool[0].len(), i64::from(shape.scale));
-        let mut draft = Draft { n, mask: shape.mask, scale, rows: Vec::new() };
+        let limits = shape.limits.clone();
+        let mut draft = Draft { n, mask: shape.mask, limits, scale, rows: Vec::new() };
         for _ in 0..shape.rows {
             let row = holding_row(rng, shape, &draft.rows);
             draft.rows.push(row);
+        }
+        for (variable, limit) in shape.limits.limited() {
+            if rng.once_in(2) {
+                draft.rows.push(limit_row(rng, shape, variable, limit));
+            }
         }
         for &fault in faults {
             draft.rows.push(faulty_row(rng, shape, fault)?);
@@ -64,8 +77,10 @@ impl Draft {
         (draft.rows.len() <= 256).then_some(draft)
     }
 
+    /// What the claim has to come to at each point: the sum of the weights less what the limits add.
     fn sums(&self) -> BTreeMap<Point, i64> {
-        let mut sums = BTreeMap::new();
+        let added = self.limits.added().into_iter();
+        let mut sums: BTreeMap<Point, i64> = added.map(|(point, added)| (point, -added)).collect();
         for (point, weight) in self.rows.iter().flat_map(Row::slots) {
             *sums.entry(point).or_default() += weight;
         }
@@ -102,7 +117,8 @@ impl Draft {
         }
     }
 
-    /// The claim whose targets are the sums of the weights, none where it does not fit.
+    /// The claim whose targets within the limits are the sums of the weights, none where it does not
+    /// fit.
     fn claim(&self, rng: &mut Rng) -> Option<Claim> {
         let mut coefficients: BTreeMap<Point, i64> = BTreeMap::new();
         for (point, sum) in self.sums() {

@@ -2,7 +2,7 @@
 //! and around them.
 
 use super::{Rng, Shape};
-use crate::{keeps_sign, Row, MOST};
+use crate::{keeps_sign, Limit, Row, MOST};
 
 /// The numbers that judge single rows after the shift.
 pub const JUDGED: [u32; 3] = [17, 18, 19];
@@ -25,6 +25,19 @@ pub fn holding_row(rng: &mut Rng, shape: &Shape, earlier: &[Row<i64>]) -> Row<i6
         [0, 0, 0]
     };
     Row { v, w, weights }
+}
+
+/// A row that holds and has as its weight at the variable's pure power what the limit adds there.
+pub fn limit_row(rng: &mut Rng, shape: &Shape, variable: usize, limit: &Limit) -> Row<i64> {
+    let pure_power = |power| shape.limits.pure_power(variable, power);
+    let multiplier = i64::from(limit.multiplier);
+    if shape.closed || rng.once_in(2) {
+        let point = pure_power(limit.power);
+        return Row { v: point.clone(), w: point, weights: [multiplier, 0, 0] };
+    }
+    let p = end_weight(rng, shape.weight);
+    let weights = [p, multiplier, cross_weight(rng, p, multiplier)];
+    Row { v: pure_power(0), w: pure_power(limit.power), weights }
 }
 
 /// A row that holds and leaves every sum as good as it was: its weights are multiples of the scale
@@ -98,9 +111,17 @@ fn crossed_weights(rng: &mut Rng, most: i64) -> [i64; 3] {
 fn holding_weights(rng: &mut Rng, most: i64) -> [i64; 3] {
     let (p, q) = (end_weight(rng, most), end_weight(rng, most));
     let q = if rng.once_in(4) { p } else { q };
+    [p, q, cross_weight(rng, p, q)]
+}
+
+/// A weight between ends with the given ones.
+fn cross_weight(rng: &mut Rng, p: i64, q: i64) -> i64 {
     let cross = (4 * p * q).isqrt().min(i64::from(MOST));
-    let r = if rng.once_in(3) { rng.signed(cross) } else { rng.within(-cross..=cross) };
-    [p, q, r]
+    if rng.once_in(3) {
+        rng.signed(cross)
+    } else {
+        rng.within(-cross..=cross)
+    }
 }
 
 /// A weight from 0 up to `most`, of any size, and each end of that more often.

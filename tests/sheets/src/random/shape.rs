@@ -1,13 +1,16 @@
 //! How large plans are, and the points of their rows.
 
+use super::limits::planned;
 use super::Rng;
-use crate::{is_masked, Point, Row, MOST};
+use crate::{is_masked, Limits, Point, Row, MOST};
 
 /// How large a plan is to be.
 #[derive(Clone, Debug)]
 pub struct Shape {
     /// The variables that are never negative.
     pub mask: u8,
+    /// How the variables are limited.
+    pub limits: Limits,
     /// The points that rows are drawn from, in order.
     pub pool: Vec<Point>,
     /// Midpoints are of the pool too.
@@ -30,14 +33,16 @@ impl Shape {
         let sides = [1 + rng.below(8), 1 + rng.below(8)];
         let step = rng.pick(&[1, 1, 1, 2]);
         let top = rng.once_in(4);
+        let scale = rng.pick(&[1, 1, 2, 3, 10, 1000, 65_537, 1 << 20]);
         Shape {
             mask: mask(rng, n),
+            limits: planned(rng, n, scale),
             pool: grid(rng, &vec![step; n], sides, top),
             closed: rng.once_in(2),
             only_pairs: false,
             rows: rng.pick(&[0, 1, 2, 3, 5, 8, 13, 40]),
             least_rows: 0,
-            scale: rng.pick(&[1, 1, 2, 3, 10, 1000, 65_537, 1 << 20]),
+            scale,
             weight: i64::from(MOST) >> rng.below(30),
         }
     }
@@ -50,14 +55,16 @@ impl Shape {
         let many = rng.once_in(2);
         let top = rng.once_in(2);
         let mask = mask(rng, n);
+        let scale = rng.pick(&[(1 << 20) - 1, 1 << 20]);
         Shape {
             mask,
+            limits: planned(rng, n, scale),
             pool: grid(rng, &steps(mask, n), sides, top),
             closed: true,
             only_pairs: false,
             rows: if many { 150 } else { 2 },
             least_rows: if many { 256 } else { 0 },
-            scale: rng.pick(&[(1 << 20) - 1, 1 << 20]),
+            scale,
             weight: i64::from(MOST),
         }
     }
@@ -67,22 +74,26 @@ impl Shape {
         let n = rng.pick(&[1, 2, 3]);
         let sides = [1 + rng.below(4), 1 + rng.below(3)];
         let mask = mask(rng, n);
+        let scale = rng.pick(&[1, 1, 2, 7, 1 << 20]);
         Shape {
             mask,
+            limits: planned(rng, n, scale),
             pool: grid(rng, &steps(mask, n), sides, false),
             closed: rng.once_in(2),
             only_pairs: false,
             rows: 1 + rng.below(12),
             least_rows: 0,
-            scale: rng.pick(&[1, 1, 2, 7, 1 << 20]),
+            scale,
             weight: rng.pick(&[9, 99, 999]),
         }
     }
 
-    /// A shape of so many pairs of 8 variables, none of them masked, with terms at up to 64 points.
+    /// A shape of so many pairs of 8 variables, none of them masked or limited, with terms at up to 64
+    /// points.
     pub fn pairs(rng: &mut Rng, rows: usize) -> Shape {
         Shape {
             mask: 0,
+            limits: Limits::none(8),
             pool: grid(rng, &[2; 8], [8, 8], false),
             closed: true,
             only_pairs: true,
