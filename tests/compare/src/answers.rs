@@ -56,9 +56,10 @@ impl Output {
 
 /// Compares a check by the library: its answer and every byte of the output.
 pub fn check(case: &Case, rng: &mut Rng) -> Compared<Accepted> {
-    let verdict = oracle::check(&case.claim, &case.proof, case.room);
-    let mut output = Output::new(rng, case.room);
-    let answer = library::check(&case.claim, &case.proof, output.lent());
+    let Case { claim, proof, limits, room, .. } = case;
+    let verdict = oracle::check(claim, proof, limits, *room);
+    let mut output = Output::new(rng, *room);
+    let answer = library::check(claim, proof, limits, output.lent());
 
     same("check", &code(verdict.as_ref(), rows), &answer, case)?;
     output.compare(verdict.as_ref().ok(), case)?;
@@ -71,12 +72,14 @@ pub fn check(case: &Case, rng: &mut Rng) -> Compared<Accepted> {
 /// Compares a search by the library: its answer, the floor and the number of floors tried, which
 /// are random before, and every byte of the output.
 pub fn search(case: &Case, rng: &mut Rng) -> Compared<Found> {
-    let Case { claim, proof, room, lo, hi, .. } = case;
-    let found = oracle::search(claim, proof, *room, *lo, *hi);
+    let Case { claim, proof, limits, room, lo, hi, .. } = case;
+    let (lo, hi) = (*lo, *hi);
+    let found = oracle::search(claim, proof, limits, *room, lo, hi);
     let mut output = Output::new(rng, *room);
     let (mut floor, mut tried) = (rng.bits() as i64, rng.bits() as u32);
     let before = (floor, tried);
-    let answer = library::search(claim, proof, *lo, *hi, output.lent(), &mut floor, &mut tried);
+    let lent = output.lent();
+    let answer = library::search(claim, proof, limits, lo, hi, lent, &mut floor, &mut tried);
 
     let verdict = found.as_ref().map(|found| &found.accepted);
     let stored = found.as_ref().map(|found| (found.accepted.floor.into(), found.tried));
@@ -96,7 +99,7 @@ fn is_checked(case: &Case, accepted: &Accepted) -> Outcome {
     let mut claim = case.claim.clone();
     claim[4..8].copy_from_slice(&accepted.floor.to_le_bytes());
     let mut output = vec![0; case.proof.len()];
-    let answer = library::check(&claim, &case.proof, &mut output);
+    let answer = library::check(&claim, &case.proof, &case.limits, &mut output);
     same("check of the floor that was found", &rows(accepted), &answer, case)?;
     same("output of that check", &Hex(&accepted.bytes), &Hex(&output), case)
 }
@@ -104,7 +107,7 @@ fn is_checked(case: &Case, accepted: &Accepted) -> Outcome {
 /// An exact proof, whose weights add up, is accepted again and written as it is.
 fn keeps_exact(case: &Case, exact: &[u8]) -> Outcome {
     let mut output = vec![0; exact.len()];
-    let answer = library::check(&case.claim, exact, &mut output);
+    let answer = library::check(&case.claim, exact, &case.limits, &mut output);
     same("acceptance of the exact proof", &true, &(answer < 1 << 16), case)?;
     same("output for the exact proof", &Hex(exact), &Hex(&output), case)
 }
@@ -121,7 +124,7 @@ fn evaluate(case: &Case, rng: &mut Rng) -> Compared<Integer> {
     Ok(exact)
 }
 
-/// Compares the text that the program prints.
+/// Compares the text that the program prints. It is not given the limits.
 fn text(case: &Case) -> Compared<Accepted> {
     let input = case.input();
     let verdict = oracle::verdict(&input);
@@ -135,9 +138,10 @@ fn same<T: PartialEq + Display>(what: &str, oracle: &T, other: &T, case: &Case) 
     }
     Err(format!(
         "{what} differs\noracle   {oracle}\nanswered {other}\nclaim    {}\nproof    {}\n\
-         output   of {} bytes\noffsets  {:?}\nfloors   from {} to {}",
+         limits   {}\noutput   of {} bytes\noffsets  {:?}\nfloors   from {} to {}",
         Hex(&case.claim),
         Hex(&case.proof),
+        Hex(&case.limits),
         case.room,
         case.offsets,
         case.lo,

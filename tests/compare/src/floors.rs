@@ -1,9 +1,11 @@
-//! What a floor means: where no masked variable is negative, the polynomial is nowhere under it.
-//! Two posts show what trials cannot tell, and a masked cube what a floor leaves open.
+//! What a floor means: where no masked variable is negative and each limited one within its limit,
+//! the polynomial is nowhere under it. Two posts show what trials cannot tell, a masked cube and a
+//! limited square what a floor leaves open.
 
 use crate::answers;
 use crate::report::{equal, Outcome, Report};
 use oracle::Integer;
+use sheets::limited::minus_square;
 use sheets::masked::cube;
 use sheets::posts::{post_4, post_9};
 use sheets::random::{offsets, Kind, Rng};
@@ -33,11 +35,17 @@ pub fn run(report: &mut Report) {
         report.add(&format!("{name} within ±{MOST_READING}"), has_no_low_reading(&post));
         report.add(&format!("{name} at {LOW_PLACE:?}"), has_value(&post, &LOW_PLACE, low_value));
     }
-    report.add("cube-masked at -2", is_under_its_floor());
+    for (example, case, offset, value) in open_places() {
+        let name = example.name;
+        report.add(
+            &format!("{name} at {offset}"),
+            is_under_its_floor(&example, &case, offset, value),
+        );
+    }
 }
 
-/// Claims evaluated exactly at numbers of any size that their masks admit; some of the values are
-/// the floor.
+/// Claims evaluated exactly at numbers that their masks and limits admit, of any size where nothing
+/// limits them; some of the values are the floor.
 fn are_at_least(name: &str, floor_of: FloorOf) -> Outcome {
     let mut rng = Rng::new(1);
     let mut are_floors = Vec::new();
@@ -46,7 +54,8 @@ fn are_at_least(name: &str, floor_of: FloorOf) -> Outcome {
             let case = kind.case(&mut rng);
             let Some(floor) = floor_of(&case, &mut rng)? else { continue };
             for _ in 0..PLACES {
-                let numbers = admitted(&case.claim, numbers(&mut rng, case.offsets.len()));
+                let numbers = numbers(&mut rng, case.offsets.len());
+                let numbers = admitted(&case, &mut rng, numbers);
                 are_floors.push(is_floor(&floor.into(), &case.claim, &numbers)?);
             }
         }
@@ -84,14 +93,28 @@ fn numbers(rng: &mut Rng, count: usize) -> Vec<Integer> {
     offsets(rng, count).into_iter().map(Integer::from).collect()
 }
 
-/// The numbers, those of the claim's masked variables without their signs.
-fn admitted(claim: &[u8], mut numbers: Vec<Integer>) -> Vec<Integer> {
+/// The numbers brought within the limits, at their ends once in four, and those of masked variables
+/// without their signs.
+fn admitted(case: &Case, rng: &mut Rng, mut numbers: Vec<Integer>) -> Vec<Integer> {
     for (variable, number) in numbers.iter_mut().enumerate() {
-        if is_masked(claim[2], variable) {
+        if let Some(limit) = limit_of(case, variable) {
+            let is_beyond = number.abs() > Integer::from(limit);
+            if is_beyond || rng.once_in(4) {
+                let within = rng.within(-i64::from(limit)..=limit.into());
+                *number = Integer::from(rng.pick(&[within, -i64::from(limit), limit.into()]));
+            }
+        }
+        if is_masked(case.claim[2], variable) {
             *number = number.abs();
         }
     }
     numbers
+}
+
+/// The limit of a variable in an accepted case's limits sheet, where its power is not 0.
+fn limit_of(case: &Case, variable: usize) -> Option<u32> {
+    let [power, low, high] = case.limits[1 + 3 * variable..][..3] else { return None };
+    (power > 0).then_some(u16::from_le_bytes([low, high]).into())
 }
 
 /// No reading gives a value under the floor.
@@ -112,13 +135,20 @@ fn has_value(example: &Example, offsets: &[i32], expected: i64) -> Outcome {
     equal("the value", &expected, &value(&example.claim.bytes(), offsets)?)
 }
 
-/// The masked cube is accepted with the floor 0, and has its exact value under it at an offset that
-/// the mask does not admit.
-fn is_under_its_floor() -> Outcome {
-    let cube = cube();
-    let case = Case::new(&cube.claim, &cube.proof);
-    equal("the floor", &Some(0), &accepted_floor(&case, &mut Rng::new(0))?)?;
-    has_value(&cube, &[-2], -8)
+/// Accepted claims with an offset that mask or limits do not admit, and the value there.
+fn open_places() -> [(Example, Case, i32, i64); 2] {
+    let (cube, square) = (cube(), minus_square());
+    let cube_case = Case::new(&cube.claim, &cube.proof);
+    let square_case = square.case();
+    [(cube, cube_case, -2, -8), (square.example, square_case, 4, -16)]
+}
+
+/// The claim is accepted with its floor, and has its exact value under it at the offset.
+fn is_under_its_floor(example: &Example, case: &Case, offset: i32, value: i64) -> Outcome {
+    let floor = example.claim.floor;
+    equal("the floor", &Some(floor), &accepted_floor(case, &mut Rng::new(0))?)?;
+    equal("under the floor", &true, &(value < floor.into()))?;
+    has_value(example, &[offset], value)
 }
 
 /// The value that the library gives.

@@ -1,9 +1,11 @@
-//! Tests of single sheets: the examples, the table of refusals, masks, searches, the program's
-//! input, C.
+//! Tests of single sheets: the examples, the table of refusals, masks, limits, searches, the
+//! program's input, C.
 
 use crate::report::{equal, Outcome, Report};
 use crate::{answers, files, program};
 use oracle::Refusal;
+use refusals::EntryPoint;
+use sheets::limited::{self, LimitedExample};
 use sheets::random::Rng;
 use sheets::searches::{searches, Found, Search};
 use sheets::worked::{power_claim, square_input, SQUARE_CUTS};
@@ -44,7 +46,12 @@ pub fn run(report: &mut Report) {
     for example in &examples {
         report.add(&format!("example {}", example.name), shows(example));
     }
-    report.add("no other examples", are_all(&examples));
+    let limited = limited::examples();
+    for example in &limited {
+        report.add(&format!("example {}", example.example.name), shows_limited(example));
+    }
+    report.add("no other examples", are_all("sheet", examples.len() + limited.len()));
+    report.add("no other examples with limits", are_all("limits", limited.len()));
     for entry in table::entries() {
         report.add(&format!("table {}", entry.number), refuses(&entry));
     }
@@ -68,21 +75,39 @@ pub fn run(report: &mut Report) {
 /// The files of an example are what the builder makes, the program prints the text beside the
 /// sheet, and the library agrees.
 fn shows(example: &Example) -> Outcome {
-    let sheet = files::read(&format!("examples/{}.sheet", example.name))?;
-    let text = files::read(&format!("examples/{}.txt", example.name))?;
-    equal("the sheet's file", &example.input(), &sheet)?;
-    equal("the text's file", &example.text.as_bytes(), &&text[..])?;
-    equal("the text", &example.text, &&program::print(&sheet)?[..])?;
+    has_files(example)?;
+    equal("the text", &example.text, &&program::print(&example.input())?[..])?;
     let case = Case::new(&example.claim, &example.proof);
     answers::check(&case, &mut Rng::new(0)).map(|_| ())
 }
 
-/// Every sheet among the files is one of the examples.
-fn are_all(examples: &[Example]) -> Outcome {
+/// The files of an example with limits are what the builder makes, the library's check with these
+/// limits comes to the text beside the sheet, and the program says what it says without them.
+fn shows_limited(limited: &LimitedExample) -> Outcome {
+    let (example, case) = (&limited.example, limited.case());
+    has_files(example)?;
+    equal("the limits' file", &case.limits, &file_of(example, "limits")?)?;
+    let verdict = answers::check(&case, &mut Rng::new(0))?;
+    equal("the text", &example.text, &&oracle::printed(&verdict)[..])?;
+    answers::compare(EntryPoint::Program, &case, &mut Rng::new(0)).map(|_| ())
+}
+
+/// The sheet and the text among the files are the example's.
+fn has_files(example: &Example) -> Outcome {
+    equal("the sheet's file", &example.input(), &file_of(example, "sheet")?)?;
+    equal("the text's file", &example.text.as_bytes(), &&file_of(example, "txt")?[..])
+}
+
+fn file_of(example: &Example, extension: &str) -> Result<Vec<u8>, String> {
+    files::read(&format!("examples/{}.{extension}", example.name))
+}
+
+/// There are as many files of the kind as examples.
+fn are_all(extension: &str, examples: usize) -> Outcome {
     let files = fs::read_dir(files::path("examples")).map_err(|error| error.to_string())?;
     let paths = files.filter_map(|file| file.ok()).map(|file| file.path());
-    let sheets = paths.filter(|path| path.extension().is_some_and(|end| end == "sheet"));
-    equal("the number of sheets", &examples.len(), &sheets.count())
+    let alike = paths.filter(|path| path.extension().is_some_and(|end| end == extension));
+    equal("the number of files", &examples, &alike.count())
 }
 
 /// The table's example is refused by its number at its index: by the library, and by the program

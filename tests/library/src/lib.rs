@@ -9,6 +9,8 @@ extern "C" {
         claim_len: usize,
         proof: *const u8,
         proof_len: usize,
+        limits: *const u8,
+        limits_len: usize,
         output: *mut u8,
         output_len: usize,
     ) -> u64;
@@ -26,6 +28,8 @@ extern "C" {
         claim_len: usize,
         proof: *const u8,
         proof_len: usize,
+        limits: *const u8,
+        limits_len: usize,
         lo: i64,
         hi: i64,
         output: *mut u8,
@@ -35,9 +39,9 @@ extern "C" {
     ) -> u64;
 }
 
-/// Checks a proof of a claim. Answers the number of rows where it is accepted, and the first bytes
+/// Checks a proof of a claim within limits. Answers the number of rows where it is accepted, and the first bytes
 /// of the output are then the exact proof; else the refusal: sheet × 2^32 + number × 2^16 + index.
-pub fn check(claim: &[u8], proof: &[u8], output: &mut [u8]) -> u64 {
+pub fn check(claim: &[u8], proof: &[u8], limits: &[u8], output: &mut [u8]) -> u64 {
     // SAFETY: each pointer comes with the length of its slice.
     unsafe {
         burmelox_check(
@@ -45,6 +49,8 @@ pub fn check(claim: &[u8], proof: &[u8], output: &mut [u8]) -> u64 {
             claim.len(),
             proof.as_ptr(),
             proof.len(),
+            limits.as_ptr(),
+            limits.len(),
             output.as_mut_ptr(),
             output.len(),
         )
@@ -66,6 +72,7 @@ pub fn evaluate(claim: &[u8], offsets: &[i32], value: &mut i64) -> u64 {
 pub fn search(
     claim: &[u8],
     proof: &[u8],
+    limits: &[u8],
     lo: i64,
     hi: i64,
     output: &mut [u8],
@@ -80,6 +87,8 @@ pub fn search(
             claim.len(),
             proof.as_ptr(),
             proof.len(),
+            limits.as_ptr(),
+            limits.len(),
             lo,
             hi,
             output.as_mut_ptr(),
