@@ -2,6 +2,13 @@
 
 use crate::fields::{refuse_at, Refusal, Sheets, MOST};
 
+/// What a check is given.
+pub struct Given {
+    pub claim: Vec<u8>,
+    pub proof: Vec<u8>,
+    pub limits: Vec<u8>,
+}
+
 /// A method of finding the sums of weights by point.
 pub trait Method {
     fn new(sheets: &Sheets) -> Self;
@@ -14,17 +21,17 @@ pub trait Method {
 }
 
 /// The check: answers the number of rows, or a refusal.
-pub fn check<M: Method>(claim: &[u8], proof: &[u8], output: &mut [u8]) -> u64 {
-    accept::<M>(claim, proof, output).unwrap_or_else(|refusal| refusal)
+pub fn check<M: Method>(given: &Given, output: &mut [u8]) -> u64 {
+    accept::<M>(given, output).unwrap_or_else(|refusal| refusal)
 }
 
 /// Judges all rows, then goes over them once more to write them.
-fn accept<M: Method>(claim: &[u8], proof: &[u8], output: &mut [u8]) -> Result<u64, Refusal> {
-    let sheets = Sheets::of(claim, proof, output.len())?;
+fn accept<M: Method>(given: &Given, output: &mut [u8]) -> Result<u64, Refusal> {
+    let sheets = Sheets::of(&given.claim, &given.proof, &given.limits, output.len())?;
     let method = M::new(&sheets);
-    refuse_at(16, (0..=sheets.t).find(|&place| misses(&sheets, &method, place)))?;
+    refuse_at(16, (0..places(&sheets)).find(|&place| misses(&sheets, &method, place)))?;
     judge(&sheets, &method)?;
-    write(&sheets, &method, proof, output);
+    write(&sheets, &method, &given.proof, output);
     Ok(sheets.k as u64)
 }
 
@@ -40,10 +47,20 @@ pub fn write<M: Method>(sheets: &Sheets, method: &M, proof: &[u8], output: &mut 
     }
 }
 
-/// No row has a slot for the target of a term, or of the constant, which is the place after them.
+/// How many places there may be whose target needs a slot: the terms, the constant, and the pure
+/// power of each variable.
+pub fn places(sheets: &Sheets) -> usize {
+    sheets.t + 1 + sheets.n
+}
+
+/// No row has a slot for the target at the place.
 pub fn misses<M: Method>(sheets: &Sheets, method: &M, place: usize) -> bool {
-    let point = if place < sheets.t { sheets.point(place) } else { &[0; 8][..sheets.n] };
-    sheets.target(point) != 0 && !method.holds(sheets, point)
+    let misses = |point: &[u8]| sheets.target(point) != 0 && !method.holds(sheets, point);
+    match place.checked_sub(sheets.t) {
+        None => misses(sheets.point(place)),
+        Some(0) => misses(&[0; 8][..sheets.n]),
+        Some(after) => sheets.pure_power(after - 1).is_some_and(|point| misses(&point[..sheets.n])),
+    }
 }
 
 /// The first row beyond ±2^30, else the first with a negative end, else the first with too large

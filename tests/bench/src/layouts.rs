@@ -2,16 +2,20 @@
 //! are accepted.
 
 use sheets::random::{Floors, Plan, Rng, Shape};
-use sheets::{Claim, Point, Proof, Row, MOST_TERMS};
+use sheets::{Claim, Limit, Limits, Point, Proof, Row, MOST_TERMS};
 
-/// A way to lay out `k` pairs, by name.
-pub type Layout = (&'static str, fn(usize) -> (Claim, Proof));
+/// A way to lay out `k` pairs, by name, and the limit of every variable.
+pub type Layout = (&'static str, fn(usize) -> (Claim, Proof), Limit);
 
-pub const LAYOUTS: [Layout; 3] = [
-    ("points shared", points_shared),
-    ("points all different", points_all_different),
-    ("rows all alike", rows_all_alike),
+pub const LAYOUTS: [Layout; 4] = [
+    ("points shared", points_shared, Limit::UNLIMITED),
+    ("points all different", points_all_different, Limit::UNLIMITED),
+    ("rows all alike", rows_all_alike, Limit::UNLIMITED),
+    ("the same, limited", rows_alike_limited, LIMIT),
 ];
+
+/// Every variable is −1, 0 or 1.
+const LIMIT: Limit = Limit::new(2, 1, 1);
 
 /// The greatest hi − lo of a search, which then has 4,096 floors.
 const SPAN: i64 = 4095;
@@ -59,6 +63,20 @@ fn rows_all_alike(k: usize) -> (Claim, Proof) {
     let sum = k as i32;
     let terms = vec![(v.clone(), sum), (u, -2 * sum), (w.clone(), sum)];
     sheets(terms, vec![(v, w); k])
+}
+
+/// The same with terms and a floor that make up for the limits.
+fn rows_alike_limited(k: usize) -> (Claim, Proof) {
+    let (mut claim, proof) = rows_all_alike(k);
+    for (point, added) in Limits::new(&[LIMIT; 8]).added() {
+        if point == [0; 8] {
+            claim.floor = added as i32;
+        } else {
+            claim.terms.push((point, -added as i32));
+        }
+    }
+    claim.terms.sort();
+    (claim, proof)
 }
 
 fn sheets(mut terms: Vec<(Point, i32)>, ends: Vec<(Point, Point)>) -> (Claim, Proof) {

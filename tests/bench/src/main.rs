@@ -18,14 +18,15 @@ mod searching;
 mod timing;
 
 use hashed::Hashed;
+use judging::Given;
 use layouts::{Layout, SearchLayout, LAYOUTS, SEARCH_LAYOUTS};
 use scanning::Scanning;
 use searching::{by_checks, by_library, by_same_method, Found, Search};
 use sheets::random::Floors;
-use sheets::{Claim, Proof};
+use sheets::{Claim, Limits, Proof};
 use timing::{times, Function, Times, SAMPLES};
 
-type Check = Function<(Vec<u8>, Vec<u8>), Vec<u8>>;
+type Check = Function<Given, Vec<u8>>;
 type Evaluate<'a> = Function<(&'a [u8], &'a [i32]), i64>;
 
 fn main() {
@@ -47,11 +48,12 @@ fn main() {
 }
 
 /// Accepted proofs, judged and written.
-fn time_checks((name, sheets): &Layout) {
+fn time_checks((name, sheets, limit): &Layout) {
     let mut former: Option<f64> = None;
+    let limits = Limits::new(&[*limit; 8]);
     for k in [4, 16, 64, 256] {
         let (claim, proof) = sheets(k);
-        let [library, same, hash] = check_times(&claim, &proof);
+        let [library, same, hash] = check_times(&claim, &proof, &limits);
         let growth = former.map_or(String::new(), |time| format!("{:.1}", library.minimum / time));
         former = Some(library.minimum);
         println!(
@@ -64,15 +66,19 @@ fn time_checks((name, sheets): &Layout) {
 }
 
 /// The times of the library, of the same method and of the hash map, which write the proof.
-fn check_times(claim: &Claim, proof: &Proof) -> [Times; 3] {
-    let sheets = (claim.bytes(), proof.bytes());
-    let output = vec![0; sheets.1.len()];
+fn check_times(claim: &Claim, proof: &Proof, limits: &Limits) -> [Times; 3] {
+    let given = given(claim, proof, limits);
+    let output = vec![0; given.proof.len()];
     let checks: [Check; 3] = [
-        |(claim, proof), output| library::check(claim, proof, output),
-        |(claim, proof), output| judging::check::<Scanning>(claim, proof, output),
-        |(claim, proof), output| judging::check::<Hashed>(claim, proof, output),
+        |given, output| library::check(&given.claim, &given.proof, &given.limits, output),
+        |given, output| judging::check::<Scanning>(given, output),
+        |given, output| judging::check::<Hashed>(given, output),
     ];
-    times(checks, &sheets, output, proof.rows.len() as u64)
+    times(checks, &given, output, proof.rows.len() as u64)
+}
+
+fn given(claim: &Claim, proof: &Proof, limits: &Limits) -> Given {
+    Given { claim: claim.bytes(), proof: proof.bytes(), limits: limits.bytes() }
 }
 
 /// Searches that find the last floor or none.
@@ -94,8 +100,8 @@ fn time_searches((name, sheets): &SearchLayout) {
 /// The times of the library, of the same method and of a naive walk, which try every floor.
 fn search_times(claim: &Claim, proof: &Proof, floors: Floors) -> [Times; 3] {
     let (lo, hi) = floors.into_inner();
-    let search = Search { claim: claim.bytes(), proof: proof.bytes(), lo, hi };
-    let unfound = Found { output: vec![0; search.proof.len()], floor: hi, tried: 0 };
+    let search = Search { sheets: given(claim, proof, &Limits::none(8)), lo, hi };
+    let unfound = Found { output: vec![0; search.sheets.proof.len()], floor: hi, tried: 0 };
     let mut found = unfound.clone();
     let answer = by_same_method(&search, &mut found);
     assert!(found.floor == lo || answer == refusals::code(23, 0), "every floor is tried");

@@ -1,16 +1,16 @@
 //! The search: by the library's method in Rust, and by a naive walk over the library's checks.
 //!
-//! A floor has a test for each term, one for the constant and one for each row. The method begins
-//! with the test that refused the floor before, and a floor is found where none refuses it.
+//! A floor has a test for each term, one for the constant, one for each variable's limit and one for
+//! each row. The method begins with the test that refused the floor before, and a floor is found
+//! where none refuses it.
 
 use crate::fields::{refuse_if, Refusal, Sheets, MOST};
-use crate::judging::{fault, misses, write, Method};
+use crate::judging::{fault, misses, places, write, Given, Method};
 use crate::scanning::Scanning;
 
 /// What a search is given.
 pub struct Search {
-    pub claim: Vec<u8>,
-    pub proof: Vec<u8>,
+    pub sheets: Given,
     pub lo: i64,
     pub hi: i64,
 }
@@ -24,9 +24,9 @@ pub struct Found {
 }
 
 pub fn by_library(search: &Search, found: &mut Found) -> u64 {
-    let Search { claim, proof, lo, hi } = search;
+    let Search { sheets: Given { claim, proof, limits }, lo, hi } = search;
     let Found { output, floor, tried } = found;
-    library::search(claim, proof, *lo, *hi, output, floor, tried)
+    library::search(claim, proof, limits, *lo, *hi, output, floor, tried)
 }
 
 /// The library's method in Rust with i64.
@@ -35,8 +35,8 @@ pub fn by_same_method(search: &Search, found: &mut Found) -> u64 {
 }
 
 fn find(search: &Search, found: &mut Found) -> Result<u64, Refusal> {
-    let Search { claim, proof, lo, hi } = search;
-    let mut sheets = Sheets::of(claim, proof, found.output.len())?;
+    let Search { sheets: Given { claim, proof, limits }, lo, hi } = search;
+    let mut sheets = Sheets::of(claim, proof, limits, found.output.len())?;
     refuse_if(22, lo > hi || *lo < -MOST || *hi > MOST || hi - lo > 4095)?;
     let mut last = 0;
     for floor in (*lo..=*hi).rev() {
@@ -55,7 +55,7 @@ fn find(search: &Search, found: &mut Found) -> Result<u64, Refusal> {
 
 /// The first test that refuses the floor, from the given one on and round to those before it.
 fn refusing_test(sheets: &Sheets, first: usize) -> Option<usize> {
-    let places = sheets.t + 1;
+    let places = places(sheets);
     let refuses = |&test: &usize| match test.checked_sub(places) {
         None => misses(sheets, &Scanning, test),
         Some(row) => fault(Scanning.shifted(sheets, row)).is_some(),
@@ -65,10 +65,11 @@ fn refusing_test(sheets: &Sheets, first: usize) -> Option<usize> {
 
 /// A check for each floor, which is written into the claim.
 pub fn by_checks(search: &Search, found: &mut Found) -> u64 {
-    let mut claim = search.claim.clone();
+    let Given { claim, proof, limits } = &search.sheets;
+    let mut claim = claim.clone();
     for floor in (search.lo..=search.hi).rev() {
         claim[4..8].copy_from_slice(&(floor as i32).to_le_bytes());
-        let answer = library::check(&claim, &search.proof, &mut found.output);
+        let answer = library::check(&claim, proof, limits, &mut found.output);
         if answer < 1 << 16 {
             (found.floor, found.tried) = (floor, (search.hi - floor + 1) as u32);
             return answer;
