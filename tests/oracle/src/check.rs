@@ -7,7 +7,6 @@ use crate::proof::{self, Row};
 use crate::verdict::{refuse_at, refuse_if, Accepted, Refusal, Verdict};
 use crate::{Integer, Point};
 use std::collections::BTreeMap;
-use std::iter::once;
 
 /// A row's weights p, q, r after the shift.
 type Shifted = [Integer; 3];
@@ -48,8 +47,10 @@ impl<'a> Sheets<'a> {
         let claim = claim::read(claim)?;
         let n = claim.variables;
         let (k, scale) = proof::header(proof, n)?;
-        let limits =
-            limits.map_or_else(|| Ok(Limits::default()), |sheet| limits::read(sheet, n))?;
+        let limits = match limits {
+            Some(sheet) => limits::read(sheet, n)?,
+            None => Limits::default(),
+        };
         refuse_if(11, room < proof.len())?;
         let rows = proof::rows(proof, n, k)?;
         Ok(Sheets { claim, scale, rows, proof, limits })
@@ -95,18 +96,19 @@ impl<'a> Sheets<'a> {
         targets
     }
 
-    /// The index of the first point whose target is not zero and that no row holds: claim terms,
-    /// then the constant, then the points that the limits add, by variable. Where the claim has one
-    /// of the latter, it was met among the terms.
+    /// The first claim term whose target is not zero and that no row holds, then the constant, then
+    /// the points that the limits add, by variable: where the claim has one of the latter, it was met
+    /// among the terms.
     fn without_slot(&self, targets: &Targets, slots: &Slots) -> Option<usize> {
+        let misses = |point: &Point| !targets[point].is_zero() && !slots.contains_key(point);
         let t = self.claim.terms.len();
-        let terms = self.claim.terms.iter().map(|(point, _)| point.clone()).enumerate();
-        let constant = once((t, self.claim.origin()));
-        let added = self.limits.added().map(|added| (t + 1 + added.variable, added.pure_power));
-        let mut points = terms.chain(constant).chain(added);
-        let first =
-            points.find(|(_, point)| !targets[point].is_zero() && !slots.contains_key(point));
-        first.map(|(index, _)| index)
+        let term = self.claim.terms.iter().position(|(point, _)| misses(point));
+        let constant = || misses(&self.claim.origin()).then_some(t);
+        let added = || {
+            let missed = self.limits.added().find(|added| misses(&added.pure_power))?;
+            Some(t + 1 + missed.variable)
+        };
+        term.or_else(constant).or_else(added)
     }
 }
 
