@@ -1,9 +1,13 @@
 /*
  * Burmelox: floors under polynomials, checked and searched, and the polynomials evaluated.
- * docs/FORMAT.md has the layout of both sheets, what each refusal means and what to do about it.
+ * docs/FORMAT.md has the layout of the sheets, what each refusal means and what to do about it.
  *
  * Byte 2 of a claim is its mask: bit i, of value 2^i, says that variable i is never negative. The
  * mask admits the integers at which each of these variables is at least 0; mask 0 admits all.
+ *
+ * A limits sheet says of each variable whether it is limited, and then that it stays within plus and
+ * minus L. It admits the integers at which each limited variable does; n and 7 * n zero bytes limit
+ * no variable and admit all.
  *
  * Sheets, outputs and offsets may be of any length and content: what is wrong is refused, and a
  * refusal writes nothing. The functions keep no state and allocate nothing, so any thread may call
@@ -24,9 +28,9 @@ extern "C" {
 #endif
 
 #define BURMELOX_VERSION_MAJOR 0
-#define BURMELOX_VERSION_MINOR 3
+#define BURMELOX_VERSION_MINOR 4
 #define BURMELOX_VERSION_PATCH 0
-#define BURMELOX_VERSION "0.3.0"
+#define BURMELOX_VERSION "0.4.0"
 
 /*
  * An answer is one number. It is under 65,536 where nothing is refused: the number of rows of an
@@ -43,10 +47,14 @@ enum burmelox_sheet {
     BURMELOX_PROOF = 2,
     BURMELOX_OUTPUT = 3,
     BURMELOX_OFFSETS = 4,
-    BURMELOX_RANGE = 5
+    BURMELOX_RANGE = 5,
+    BURMELOX_LIMITS = 6
 };
 
-/* The number of a refusal; its index is that of a term or a row where the comment says so. */
+/*
+ * The number of a refusal; its index is that of a term, a row or a variable where the comment says
+ * so.
+ */
 enum burmelox_refusal {
     BURMELOX_CLAIM_TOO_SHORT = 1,       /* under 8 bytes */
     BURMELOX_CLAIM_HEADER = 2,          /* n, t, a mask bit at or above n, or byte 3 */
@@ -63,19 +71,23 @@ enum burmelox_refusal {
     BURMELOX_NO_MIDPOINT = 13,          /* no whole one; row */
     BURMELOX_LONE_ROW_WEIGHTS = 14,     /* q or r of a lone row is not zero; row */
     BURMELOX_WEIGHT_BEYOND = 15,        /* a proposed one; row */
-    BURMELOX_NO_SLOT = 16,              /* for a target that is not zero; term, t for an absent constant */
+    BURMELOX_NO_SLOT = 16,              /* for a target that is not zero; term, t for an absent constant,
+                                           t + 1 + i for a point that the limit of variable i adds */
     BURMELOX_SHIFTED_BEYOND = 17,       /* row */
     BURMELOX_SHIFTED_NEGATIVE = 18,     /* p or q; row */
     BURMELOX_CROSS_TOO_LARGE = 19,      /* r * r over 4 * p * q; row */
     BURMELOX_OFFSETS_COUNT = 20,        /* not n */
     BURMELOX_TERM_TOO_LARGE = 21,       /* over 2^56; term */
     BURMELOX_RANGE_WRONG = 22,          /* lo over hi, either beyond the limit, or too many floors */
-    BURMELOX_NO_FLOOR = 23              /* from lo to hi none is accepted */
+    BURMELOX_NO_FLOOR = 23,             /* from lo to hi none is accepted */
+    BURMELOX_LIMITS_LENGTH_WRONG = 24,  /* or n not the claim's */
+    BURMELOX_LIMIT_WRONG = 25           /* power, L or m; variable */
 };
 
 /*
- * Limits; floors, coefficients and weights are within plus and minus the greatest weight, and the
- * greatest span is that of hi - lo in a search.
+ * Greatest values; floors, coefficients and weights are within plus and minus the greatest weight,
+ * the greatest span is that of hi - lo in a search, and the greatest limit and multiplier are those
+ * of L and m in a limits sheet.
  */
 #define BURMELOX_MOST_VARIABLES 8
 #define BURMELOX_MOST_TERMS 64
@@ -85,48 +97,58 @@ enum burmelox_refusal {
 #define BURMELOX_GREATEST_WEIGHT 1073741824
 #define BURMELOX_GREATEST_VALUE 72057594037927936
 #define BURMELOX_GREATEST_SPAN 4095
+#define BURMELOX_GREATEST_LIMIT 1023
+#define BURMELOX_GREATEST_MULTIPLIER 65536
 
-/* The length of a claim of n variables and t terms, and of a proof of n variables and k rows. */
+/*
+ * The length of a claim of n variables and t terms, of a proof of n variables and k rows, and of the
+ * limits of n variables.
+ */
 #define BURMELOX_CLAIM_LENGTH(n, t) ((size_t)8 + (size_t)(t) * ((size_t)(n) + 4))
 #define BURMELOX_PROOF_LENGTH(n, k) ((size_t)8 + (size_t)(k) * (2 * (size_t)(n) + 12))
+#define BURMELOX_LIMITS_LENGTH(n) ((size_t)1 + 7 * (size_t)(n))
 
 /* The greatest lengths. */
 #define BURMELOX_MOST_CLAIM BURMELOX_CLAIM_LENGTH(BURMELOX_MOST_VARIABLES, BURMELOX_MOST_TERMS)
 #define BURMELOX_MOST_PROOF BURMELOX_PROOF_LENGTH(BURMELOX_MOST_VARIABLES, BURMELOX_MOST_ROWS)
+#define BURMELOX_MOST_LIMITS BURMELOX_LIMITS_LENGTH(BURMELOX_MOST_VARIABLES)
 
 /*
- * Checks whether the proof shows the claim's floor. Where it does, the answer is the number of
- * rows, the output's first proof_len bytes are the exact proof and later ones keep their values;
- * the polynomial is then at least its floor at all integers that the mask admits. Any other answer
- * is a refusal. The output may not be the proof's own buffer.
+ * Checks whether the proof shows the claim's floor within the limits. Where it does, the answer is
+ * the number of rows, the output's first proof_len bytes are the exact proof and later ones keep
+ * their values; the polynomial is then at least its floor at all integers that the mask and the
+ * limits admit. Any other answer is a refusal. The output may not be the proof's own buffer.
  */
 uint64_t burmelox_check(const uint8_t *claim, size_t claim_len,
                         const uint8_t *proof, size_t proof_len,
+                        const uint8_t *limits, size_t limits_len,
                         uint8_t *output, size_t output_len);
 
 /*
  * Evaluates the claim's polynomial at the offsets, one for each variable, whether the mask admits
- * them or not. Answers 0 and stores the exact value, which is at least the floor if the mask admits
- * the offsets and the claim is accepted with any proof; any other answer is a refusal, and the
- * value stays as it was.
+ * them or not. Answers 0 and stores the exact value, which is at least the floor if the claim is
+ * accepted with some limits and any proof, and the mask and these limits admit the offsets; any
+ * other answer is a refusal, and the value stays as it was.
  */
 uint64_t burmelox_evaluate(const uint8_t *claim, size_t claim_len,
                            const int32_t *offsets, size_t offsets_len,
                            int64_t *value);
 
 /*
- * Searches the floors from hi down to lo for the highest that the proof shows; lo is at most hi,
- * both are within plus and minus the greatest weight, and at most the greatest span apart. The
- * claim's own floor is not used, though it has to be within its limits. Where a floor is found, the
- * answer is the number of rows, the floor is stored, and as `tried` the number of floors tried,
- * hi - floor + 1; the output's first proof_len bytes are the exact proof of this floor and later
- * ones keep their values. The polynomial is then at least that floor at all integers that the mask
- * admits, and a check of any higher floor up to hi is refused. The claim is not changed: write the
- * floor into its bytes 4 to 7 before it is checked with that proof. Any other answer is a refusal;
- * the output, the floor and `tried` then stay as they were.
+ * Searches the floors from hi down to lo for the highest that the proof shows within the limits; lo
+ * is at most hi, both are within plus and minus the greatest weight, and at most the greatest span
+ * apart. The claim's own floor is not used, though it has to be right, as for a check. Where a floor
+ * is found, the answer is the number of rows, the floor is stored, and as `tried` the number of
+ * floors tried, hi - floor + 1; the output's first proof_len bytes are the exact proof of this floor
+ * and later ones keep their values. The polynomial is then at least that floor at all integers that
+ * the mask and the limits admit, and a check of any higher floor up to hi with these limits is
+ * refused. The claim is not changed: write the floor into its bytes 4 to 7 before it is checked with
+ * that proof and these limits. Any other answer is a refusal; the output, the floor and `tried` then
+ * stay as they were.
  */
 uint64_t burmelox_search(const uint8_t *claim, size_t claim_len,
                          const uint8_t *proof, size_t proof_len,
+                         const uint8_t *limits, size_t limits_len,
                          int64_t lo, int64_t hi,
                          uint8_t *output, size_t output_len,
                          int64_t *floor, uint32_t *tried);

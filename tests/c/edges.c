@@ -17,12 +17,19 @@ static void print(const char *call, uint64_t answer) {
 
 static const uint8_t claim[BURMELOX_CLAIM_LENGTH(1, 0)] = {1, 0, 0, 0, 0, 0, 0, 0};
 static const uint8_t proof[BURMELOX_PROOF_LENGTH(1, 0)] = {1, 0, 0, 0, 1, 0, 0, 0};
+static const uint8_t limits[BURMELOX_LIMITS_LENGTH(1)] = {1, 0, 0, 0, 0, 0, 0, 0};
+static const uint8_t third_power[BURMELOX_LIMITS_LENGTH(1)] = {1, 3, 1, 0, 1, 0, 0, 0};
 static uint8_t output[sizeof proof];
 static int64_t found = 8;
 static uint32_t tried = 9;
 
+static uint64_t check(const uint8_t *sheet, size_t sheet_len) {
+    return burmelox_check(claim, sizeof claim, proof, sizeof proof, sheet, sheet_len, output, sizeof output);
+}
+
 static uint64_t search(int64_t lo, int64_t hi) {
-    return burmelox_search(claim, sizeof claim, proof, sizeof proof, lo, hi, output, sizeof output, &found, &tried);
+    return burmelox_search(claim, sizeof claim, proof, sizeof proof, limits, sizeof limits, lo, hi,
+                           output, sizeof output, &found, &tried);
 }
 
 static void print_found(void) {
@@ -32,17 +39,23 @@ static void print_found(void) {
 int main(void) {
     int64_t value = 7;
 
-    print("no claim", burmelox_check(NULL, 0, NULL, 0, NULL, 0));
-    print("no proof", burmelox_check(claim, sizeof claim, NULL, 0, NULL, 0));
-    print("no output", burmelox_check(claim, sizeof claim, proof, sizeof proof, NULL, 0));
-    print("no row", burmelox_check(claim, sizeof claim, proof, sizeof proof, output, sizeof output));
+    print("no claim", burmelox_check(NULL, 0, NULL, 0, NULL, 0, NULL, 0));
+    print("no proof", burmelox_check(claim, sizeof claim, NULL, 0, NULL, 0, NULL, 0));
+    print("no limits", check(NULL, 0));
+    print("third power", check(third_power, sizeof third_power));
+    print("no output", burmelox_check(claim, sizeof claim, proof, sizeof proof, limits, sizeof limits, NULL, 0));
+    print("no row", check(limits, sizeof limits));
     print("no claim to evaluate", burmelox_evaluate(NULL, 0, NULL, 0, &value));
     print("no offsets", burmelox_evaluate(claim, sizeof claim, NULL, 0, &value));
     printf("value %" PRId64 "\n", value);
-    print("no claim to search", burmelox_search(NULL, 0, NULL, 0, 0, 0, NULL, 0, &found, &tried));
-    print("no proof to search", burmelox_search(claim, sizeof claim, NULL, 0, 0, 0, NULL, 0, &found, &tried));
+    print("no claim to search", burmelox_search(NULL, 0, NULL, 0, NULL, 0, 0, 0, NULL, 0, &found, &tried));
+    print("no proof to search",
+          burmelox_search(claim, sizeof claim, NULL, 0, NULL, 0, 0, 0, NULL, 0, &found, &tried));
+    print("no limits to search",
+          burmelox_search(claim, sizeof claim, proof, sizeof proof, NULL, 0, 0, 0, NULL, 0, &found, &tried));
     print("no output to search",
-          burmelox_search(claim, sizeof claim, proof, sizeof proof, 0, 0, NULL, 0, &found, &tried));
+          burmelox_search(claim, sizeof claim, proof, sizeof proof, limits, sizeof limits, 0, 0, NULL, 0,
+                          &found, &tried));
     print("lo over hi", search(1, 0));
     print("one floor too many", search(0, BURMELOX_GREATEST_SPAN + 1));
     print("all numbers", search(INT64_MIN, INT64_MAX));
@@ -50,7 +63,8 @@ int main(void) {
     print_found();
     print("last floor", search(0, BURMELOX_GREATEST_SPAN));
     print_found();
-    printf("greatest lengths %zu and %zu\n", BURMELOX_MOST_CLAIM, BURMELOX_MOST_PROOF);
+    printf("greatest lengths %zu, %zu and %zu\n", BURMELOX_MOST_CLAIM, BURMELOX_MOST_PROOF,
+           BURMELOX_MOST_LIMITS);
     print("last row", (uint64_t)BURMELOX_PROOF << 32 | BURMELOX_CROSS_TOO_LARGE << 16 | 255);
     print("most rows", BURMELOX_MOST_ROWS);
     return 0;

@@ -18,6 +18,12 @@ static const uint8_t proof[BURMELOX_PROOF_LENGTH(1, 1)] = {
     1, 0, 0, 0, 1, 0, 0, 0, 254, 255, 255, 255,         /* its weights 1, 1, -2 */
 };
 
+static const uint8_t limits[BURMELOX_LIMITS_LENGTH(1)] = {
+    1,                                                  /* one variable */
+    0, 0, 0,                                            /* power 0, so x is not limited, and L is 0 */
+    0, 0, 0, 0,                                         /* its multiplier is then 0 too */
+};
+
 /* Prints a refusal, and answers the program's status. */
 static int refused(uint64_t answer) {
     printf("refused %u at %u, sheet %u\n", BURMELOX_NUMBER(answer), BURMELOX_INDEX(answer),
@@ -32,7 +38,8 @@ int main(void) {
     int64_t floor = 0;
     uint32_t tried = 0;
 
-    uint64_t answer = burmelox_check(claim, sizeof claim, proof, sizeof proof, output, sizeof output);
+    uint64_t answer = burmelox_check(claim, sizeof claim, proof, sizeof proof, limits, sizeof limits,
+                                     output, sizeof output);
     if (!BURMELOX_ACCEPTED(answer)) {
         return refused(answer);
     }
@@ -44,8 +51,8 @@ int main(void) {
     }
     printf("value %" PRId64 "\n", value);
 
-    answer = burmelox_search(claim, sizeof claim, proof, sizeof proof, -3, 3, output, sizeof output,
-                             &floor, &tried);
+    answer = burmelox_search(claim, sizeof claim, proof, sizeof proof, limits, sizeof limits, -3, 3,
+                             output, sizeof output, &floor, &tried);
     if (!BURMELOX_ACCEPTED(answer)) {
         return refused(answer);
     }

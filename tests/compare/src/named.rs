@@ -1,5 +1,5 @@
-//! Tests of single sheets: the examples, the table of refusals, masks, limits, searches, the
-//! program's input, C.
+//! Tests of single sheets: the examples, the table of refusals, masks, searches, the program's
+//! input, C.
 
 use crate::report::{equal, Outcome, Report};
 use crate::{answers, files, program};
@@ -20,6 +20,8 @@ const C_PROGRAMS: [(&str, &str); 2] = [
         "edges",
         "no claim: refused 1 at 0, sheet 1\n\
          no proof: refused 8 at 0, sheet 2\n\
+         no limits: refused 24 at 0, sheet 6\n\
+         third power: refused 25 at 0, sheet 6\n\
          no output: refused 11 at 0, sheet 3\n\
          no row: 0\n\
          no claim to evaluate: refused 1 at 0, sheet 1\n\
@@ -27,6 +29,7 @@ const C_PROGRAMS: [(&str, &str); 2] = [
          value 7\n\
          no claim to search: refused 1 at 0, sheet 1\n\
          no proof to search: refused 8 at 0, sheet 2\n\
+         no limits to search: refused 24 at 0, sheet 6\n\
          no output to search: refused 11 at 0, sheet 3\n\
          lo over hi: refused 22 at 0, sheet 5\n\
          one floor too many: refused 22 at 0, sheet 5\n\
@@ -35,7 +38,7 @@ const C_PROGRAMS: [(&str, &str); 2] = [
          floor 8, tried 9\n\
          last floor: 0\n\
          floor 0, tried 4096\n\
-         greatest lengths 776 and 7176\n\
+         greatest lengths 776, 7176 and 57\n\
          last row: refused 19 at 255, sheet 2\n\
          most rows: 256\n",
     ),
