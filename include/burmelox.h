@@ -5,9 +5,9 @@
  * Byte 2 of a claim is its mask: bit i, of value 2^i, says that variable i is never negative. The
  * mask admits the integers at which each of these variables is at least 0; mask 0 admits all.
  *
- * A limits sheet says of each variable whether it is limited, and then that it stays within plus and
- * minus L. It admits the integers at which each limited variable does; n and 7 * n zero bytes limit
- * no variable and admit all.
+ * A limits sheet says of each variable whether it is limited, and then that it stays within plus
+ * and minus L. It admits the integers at which each limited variable does; n and 7 * n zero bytes
+ * limit no variable and admit all.
  *
  * Sheets, outputs and offsets may be of any length and content: what is wrong is refused, and a
  * refusal writes nothing. The functions keep no state and allocate nothing, so any thread may call
@@ -60,7 +60,7 @@ enum burmelox_refusal {
     BURMELOX_CLAIM_HEADER = 2,          /* n, t, a mask bit at or above n, or byte 3 */
     BURMELOX_CLAIM_LENGTH_WRONG = 3,
     BURMELOX_FLOOR_BEYOND = 4,
-    BURMELOX_COEFFICIENT_WRONG = 5,     /* zero or beyond the limit; term */
+    BURMELOX_COEFFICIENT_WRONG = 5,     /* zero or beyond 2^30; term */
     BURMELOX_CLAIM_EXPONENT = 6,        /* over 120; term */
     BURMELOX_POINT_NOT_RISING = 7,      /* the later term */
     BURMELOX_PROOF_TOO_SHORT = 8,       /* under 8 bytes */
@@ -71,14 +71,15 @@ enum burmelox_refusal {
     BURMELOX_NO_MIDPOINT = 13,          /* no whole one; row */
     BURMELOX_LONE_ROW_WEIGHTS = 14,     /* q or r of a lone row is not zero; row */
     BURMELOX_WEIGHT_BEYOND = 15,        /* a proposed one; row */
-    BURMELOX_NO_SLOT = 16,              /* for a target that is not zero; term, t for an absent constant,
-                                           t + 1 + i for a point that the limit of variable i adds */
+    BURMELOX_NO_SLOT = 16,              /* for a target that is not zero; term, t for an absent
+                                           constant, t + 1 + i for a point that the limit of
+                                           variable i adds */
     BURMELOX_SHIFTED_BEYOND = 17,       /* row */
     BURMELOX_SHIFTED_NEGATIVE = 18,     /* p or q; row */
     BURMELOX_CROSS_TOO_LARGE = 19,      /* r * r over 4 * p * q; row */
     BURMELOX_OFFSETS_COUNT = 20,        /* not n */
     BURMELOX_TERM_TOO_LARGE = 21,       /* over 2^56; term */
-    BURMELOX_RANGE_WRONG = 22,          /* lo over hi, either beyond the limit, or too many floors */
+    BURMELOX_RANGE_WRONG = 22,          /* lo over hi, either beyond 2^30, or too many floors */
     BURMELOX_NO_FLOOR = 23,             /* from lo to hi none is accepted */
     BURMELOX_LIMITS_LENGTH_WRONG = 24,  /* or n not the claim's */
     BURMELOX_LIMIT_WRONG = 25           /* power, L or m; variable */
@@ -101,8 +102,8 @@ enum burmelox_refusal {
 #define BURMELOX_GREATEST_MULTIPLIER 65536
 
 /*
- * The length of a claim of n variables and t terms, of a proof of n variables and k rows, and of the
- * limits of n variables.
+ * The length of a claim of n variables and t terms, of a proof of n variables and k rows, and of
+ * the limits of n variables.
  */
 #define BURMELOX_CLAIM_LENGTH(n, t) ((size_t)8 + (size_t)(t) * ((size_t)(n) + 4))
 #define BURMELOX_PROOF_LENGTH(n, k) ((size_t)8 + (size_t)(k) * (2 * (size_t)(n) + 12))
@@ -135,15 +136,15 @@ uint64_t burmelox_evaluate(const uint8_t *claim, size_t claim_len,
                            int64_t *value);
 
 /*
- * Searches the floors from hi down to lo for the highest that the proof shows within the limits; lo
- * is at most hi, both are within plus and minus the greatest weight, and at most the greatest span
- * apart. The claim's own floor is not used, though it has to be right, as for a check. Where a floor
- * is found, the answer is the number of rows, the floor is stored, and as `tried` the number of
- * floors tried, hi - floor + 1; the output's first proof_len bytes are the exact proof of this floor
- * and later ones keep their values. The polynomial is then at least that floor at all integers that
- * the mask and the limits admit, and a check of any higher floor up to hi with these limits is
- * refused. The claim is not changed: write the floor into its bytes 4 to 7 before it is checked with
- * that proof and these limits. Any other answer is a refusal; the output, the floor and `tried` then
+ * Searches the floors from hi down to lo for the highest that the proof shows within the limits;
+ * lo is at most hi, both are within plus and minus the greatest weight, and at most the greatest
+ * span apart. The claim's own floor is not used, though 4 has to let it pass. Where a floor is
+ * found, the answer is the number of rows, the floor is stored, and as `tried` the number of floors
+ * tried, hi - floor + 1; the output's first proof_len bytes are the exact proof of this floor and
+ * later ones keep their values. The polynomial is then at least that floor at all integers that the
+ * mask and the limits admit, and a check of any higher floor up to hi is refused with these limits.
+ * The claim is not changed: write the floor into its bytes 4 to 7 before it is checked with that
+ * proof and these limits. Any other answer is a refusal; the output, the floor and `tried` then
  * stay as they were.
  */
 uint64_t burmelox_search(const uint8_t *claim, size_t claim_len,
