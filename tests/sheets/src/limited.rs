@@ -21,93 +21,87 @@ pub fn examples() -> Vec<LimitedExample> {
     vec![minus_square(), line(), line_by_fourth_power(), cube(), product(), added_point()]
 }
 
+fn limited(
+    name: &'static str,
+    claim: Claim,
+    limits: &[Limit],
+    proof: Proof,
+    text: &'static str,
+) -> LimitedExample {
+    LimitedExample { example: Example { name, claim, proof, text }, limits: Limits::new(limits) }
+}
+
 /// −x² with the floor −9.
 pub fn minus_square_claim() -> Claim {
     Claim::new(-9, &[([2], -1)])
 }
 
-/// −x² where x is within ±3: 9 − x² is the limit itself, and no row is needed. At 4 the value is
-/// −16, which the floor does not rule out.
+/// −x² where x is within ±3: what the limit takes off is −x² + 9 itself, and no row is needed. At 4
+/// the value is −16, which the floor does not rule out.
 pub fn minus_square() -> LimitedExample {
-    LimitedExample {
-        example: Example {
-            name: "minus-square-limited",
-            claim: minus_square_claim(),
-            proof: Proof::new::<1>(1, &[]),
-            text: "accepted rows 0 scale 1 floor -9\n",
-        },
-        limits: Limits::new(&[Limit::new(2, 3, 1)]),
-    }
+    limited(
+        "minus-square-limited",
+        minus_square_claim(),
+        &[Limit::new(2, 3, 1)],
+        Proof::new::<1>(1, &[]),
+        "accepted rows 0 scale 1 floor -9\n",
+    )
 }
 
 /// x where x is within ±5: 10 × (x + 5) is at least (25 − x²) + (5 − |x|)².
 pub fn line() -> LimitedExample {
-    LimitedExample {
-        example: Example {
-            name: "line-limited",
-            claim: Claim::new(-5, &[([1], 1)]),
-            proof: Proof::new(10, &[([0], [2], [25, 1, -10])]),
-            text: "accepted rows 1 scale 10 floor -5\nrow 0 p 25 q 1 r -10\n",
-        },
-        limits: Limits::new(&[Limit::new(2, 5, 1)]),
-    }
+    limited(
+        "line-limited",
+        Claim::new(-5, &[([1], 1)]),
+        &[Limit::new(2, 5, 1)],
+        Proof::new(10, &[([0], [2], [25, 1, -10])]),
+        "accepted rows 1 scale 10 floor -5\nrow 0 p 25 q 1 r -10\n",
+    )
 }
 
 /// x where x is within ±2, by the fourth power: 32 × (x + 2) is at least
 /// (16 − x⁴) + 8 × (2 − |x|)² + (4 − x²)².
 fn line_by_fourth_power() -> LimitedExample {
-    LimitedExample {
-        example: Example {
-            name: "line-limited-4",
-            claim: Claim::new(-2, &[([1], 1)]),
-            proof: Proof::new(32, &[([0], [2], [32, 8, -32]), ([0], [4], [16, 1, -8])]),
-            text: "accepted rows 2 scale 32 floor -2\n\
-                row 0 p 32 q 8 r -32\n\
-                row 1 p 16 q 1 r -8\n",
-        },
-        limits: Limits::new(&[Limit::new(4, 2, 1)]),
-    }
+    limited(
+        "line-limited-4",
+        Claim::new(-2, &[([1], 1)]),
+        &[Limit::new(4, 2, 1)],
+        Proof::new(32, &[([0], [2], [32, 8, -32]), ([0], [4], [16, 1, -8])]),
+        "accepted rows 2 scale 32 floor -2\nrow 0 p 32 q 8 r -32\nrow 1 p 16 q 1 r -8\n",
+    )
 }
 
 /// x³ where x is within ±2: 8 × (x³ + 8) is at least
 /// 3 × (16 − x⁴) + 2 × (2|x| − x²)² + (4 − x²)². The first row's q is proposed one too small.
 fn cube() -> LimitedExample {
-    LimitedExample {
-        example: Example {
-            name: "cube-limited",
-            claim: Claim::new(-8, &[([3], 1)]),
-            proof: Proof::new(8, &[([2], [4], [8, 1, -8]), ([0], [4], [16, 1, -8])]),
-            text: "accepted rows 2 scale 8 floor -8\n\
-                row 0 p 8 q 2 r -8\n\
-                row 1 p 16 q 1 r -8\n",
-        },
-        limits: Limits::new(&[Limit::new(4, 2, 3)]),
-    }
+    limited(
+        "cube-limited",
+        Claim::new(-8, &[([3], 1)]),
+        &[Limit::new(4, 2, 3)],
+        Proof::new(8, &[([2], [4], [8, 1, -8]), ([0], [4], [16, 1, -8])]),
+        "accepted rows 2 scale 8 floor -8\nrow 0 p 8 q 2 r -8\nrow 1 p 16 q 1 r -8\n",
+    )
 }
 
 /// xy where both are within ±10: 2 × (xy + 100) is at least (100 − x²) + (100 − y²) + (|x| − |y|)².
 /// The limits take all of the constant's target, which needs no slot.
 fn product() -> LimitedExample {
-    LimitedExample {
-        example: Example {
-            name: "product-limited",
-            claim: Claim::new(-100, &[([1, 1], 1)]),
-            proof: Proof::new(2, &[([0, 2], [2, 0], [1, 1, -2])]),
-            text: "accepted rows 1 scale 2 floor -100\nrow 0 p 1 q 1 r -2\n",
-        },
-        limits: Limits::new(&[Limit::new(2, 10, 1); 2]),
-    }
+    limited(
+        "product-limited",
+        Claim::new(-100, &[([1, 1], 1)]),
+        &[Limit::new(2, 10, 1); 2],
+        Proof::new(2, &[([0, 2], [2, 0], [1, 1, -2])]),
+        "accepted rows 1 scale 2 floor -100\nrow 0 p 1 q 1 r -2\n",
+    )
 }
 
 /// No terms, and the second variable within ±1: its limit adds a target at y², which no row holds.
 fn added_point() -> LimitedExample {
-    LimitedExample {
-        example: Example {
-            name: "added-point-limited",
-            claim: Claim::new::<2>(0, &[]),
-            proof: lone_proof([0, 0]),
-            text: "refused 16 at 2\n",
-        },
-        limits: Limits::new(&[Limit::UNLIMITED, Limit::new(2, 1, 1)]),
-    }
+    limited(
+        "added-point-limited",
+        Claim::new::<2>(0, &[]),
+        &[Limit::UNLIMITED, Limit::new(2, 1, 1)],
+        lone_proof([0, 0]),
+        "refused 16 at 2\n",
+    )
 }
