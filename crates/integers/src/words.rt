@@ -18,7 +18,7 @@ pub fn read_u16(s: &[u8], at: usize) -> u64
     requires { ⌜ at + 2 ≤ length (now s) ⌝ }
     ensures { λ r. ⌜ (r ≡ u16At (now (s .entry)) at) × (r < 2 ^ 16) ⌝ }
 {
-    wide(s[at]) + wide(s[at + 1]) * 256
+    wide(s[at]) + 256 * wide(s[at + 1])
 }
 
 // The unsigned word of 32 bits at a place.

@@ -142,14 +142,8 @@ pub fn target_at(claim: &[u8], aim: Aim, p: Point, key: u64) -> i64
 {
     let n = variables(claim);
     let t = term_count(claim);
-    target_with(
-        n,
-        mask(claim),
-        aim,
-        p,
-        key,
-        coefficient_with(claim, n, t, key),
-    )
+    let found = coefficient_with(claim, n, t, key);
+    target_with(n, mask(claim), aim, p, key, found)
 }
 
 // The target at the point of term i, with its key.
@@ -160,5 +154,6 @@ pub fn term_target(claim: &[u8], aim: Aim, i: usize, p: Point, key: u64) -> i64
 {
     let n = variables(claim);
     let t = term_count(claim);
-    target_with(n, mask(claim), aim, p, key, coefficient(claim, n, t, i))
+    let own = coefficient(claim, n, t, i);
+    target_with(n, mask(claim), aim, p, key, own)
 }

@@ -17,5 +17,5 @@ returns c = search (target-made, back-small, toZ-ofZ)
 pub target-at-spec : {M : Type 1} → statement M
 target-at-spec =
     tie.close
-    (tie.spec (λ c κs. search needs) (λ c κs. search needs) (λ c κs. search needs) coefficient-with-requires
+    (tie.spec (λ c κs. search needs) (λ c κs. search needs) coefficient-with-requires (λ c κs. search needs)
     target-with-requires returns)

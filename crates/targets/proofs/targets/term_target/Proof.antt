@@ -17,5 +17,5 @@ returns c = search (term-made, back-small, toZ-ofZ)
 pub term-target-spec : {M : Type 1} → statement M
 term-target-spec =
     tie.close
-    (tie.spec (λ c κs. search needs) (λ c κs. search needs) (λ c κs. search needs) coefficient-requires
+    (tie.spec (λ c κs. search needs) (λ c κs. search needs) coefficient-requires (λ c κs. search needs)
     target-with-requires returns)
