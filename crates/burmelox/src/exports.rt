@@ -70,8 +70,8 @@ pub extern "C" fn burmelox_evaluate(claim: &[u8], offsets: &[i32], value: &mut i
     }
 }
 
-// Searches for the highest floor from hi down to lo that is accepted within limits, and writes its exact proof into the output: the
-// number of rows, the floor and the number of floors tried, or the refusal's code and both as they were.
+// Searches for the highest floor from hi down to lo that is accepted within limits, and writes its exact proof into the
+// output: the number of rows, the floor and the number of floors tried, or the refusal's code and both as they were.
 #[no_mangle]
 pub extern "C" fn burmelox_search(
     claim: &[u8],

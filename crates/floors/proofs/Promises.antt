@@ -73,7 +73,8 @@ module _ (c s ls : List ℕ) (lo hi : ℤ) (room : ℕ) where
       → A
   unfolding searchOf toldAfter
   told-cases {A} early some none =
-      passes-or-fails (rangeAnswer c s ls lo hi room) (λ h. go h (refusedBefore c s ls lo hi room) refl) (λ h. early h (rw h))
+      passes-or-fails (rangeAnswer c s ls lo hi room) (λ h. go h (refusedBefore c s ls lo hi room) refl)
+      (λ h. early h (rw h))
     where
       go : Passes (rangeAnswer c s ls lo hi room) → (f : Index.Found) → refusedBefore c s ls lo hi room ≡ f → A
       go h (At i) e = some h i e (rw (h, e))
@@ -132,7 +133,12 @@ module _ (c s ls : List ℕ) (lo hi : ℤ) (room : ℕ) where
     found-floors =
         let long = claim-eight c s _ (searchable c s ls lo hi room (w .ready) .sheets) in
         let fits = fits-within b greatestWeight found-small (lit< tt) in
-        rw (floored-floor c b long fits, floored-terms c b, floored-before c b 0 (omega arith), floored-before c b 2 (omega arith))
+        rw (
+          floored-floor c b long fits,
+          floored-terms c b,
+          floored-before c b 0 (omega arith),
+          floored-before c b 2 (omega arith),
+        )
         at (floor-kept (withFloor c b) s ls room found-passes)
 
   -- ---- 23, and that a floor is found where there is one
@@ -225,8 +231,8 @@ found-promises c s ls lo hi out bs b tried k e o eo = record {
 
 module _ (c s ls : List ℕ) (lo hi : ℤ) (out : List ℕ) (Finds : ℤ → ℕ → ℕ → Type 0) (FindsNone : Type 0)
     (meant : (b : ℤ) (tried k : ℕ) → Finds b tried k ↔ (searchOf c s ls lo hi (length out) ≡ found b tried k))
-    (none-meant : FindsNone ↔ (searchOf c s ls lo hi (length out) ≡ refusal (refused 23 0))) (bc : Bytes c) (bs : Bytes s)
-    (o : List ℕ) (eo : o ≡ searchOutput c s ls lo hi out) where
+    (none-meant : FindsNone ↔ (searchOf c s ls lo hi (length out) ≡ refusal (refused 23 0))) (bc : Bytes c)
+    (bs : Bytes s) (o : List ℕ) (eo : o ≡ searchOutput c s ls lo hi out) where
   found-output : (b : ℤ) (tried k : ℕ) → Finds b tried k → o ≡ outputOf (withFloor c b) s ls out
   unfolding searchOutput outputBy
   found-output b tried k f = eo ∙ rw (meant b tried k .0 f)

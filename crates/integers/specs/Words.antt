@@ -1,4 +1,5 @@
--- Words: numbers of 16 and 32 bits in a list of bytes. "Multi-byte fields are little-endian; signed ones are two's complement."
+-- Words: numbers of 16 and 32 bits in a list of bytes. "Multi-byte fields are little-endian; signed ones are two's
+-- complement."
 use mathlib.Core.List.{List, [], _∷_}
 use Prim.Native.Nat.{ℕ, _+_, _*_, _/_, _%_}
 use lib.IntN.{ℤ}

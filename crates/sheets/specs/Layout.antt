@@ -58,8 +58,8 @@ tripleAt shape i = place (place 8 (shape .k) (2 * shape .n)) i 12
 abbrev pub proofLength : Shape → ℕ
 proofLength shape = place 8 (shape .k) (2 * shape .n + 12)
 
--- ---- the limits: "n in one byte", "n entries of power (one byte ..) and limit L (two bytes ..), then n multipliers m of
--- four bytes"
+-- ---- the limits: "n in one byte", "n entries of power (one byte ..) and limit L (two bytes ..), then n multipliers m
+-- of four bytes"
 
 abbrev pub powerAt : ℕ → ℕ
 powerAt i = place 1 i 3

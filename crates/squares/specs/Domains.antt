@@ -37,7 +37,8 @@ pub record Admits (D : Domain) (x : List ℤ) : Type 0 where
   -- "with each limited variable within ±L"
   pub within : (i : ℕ) → i < D .n → WithinLimit (D .limits i) (variable x i)
 
--- "The constant target falls by m × L^power; the target at that pure power rises by m": what the limit of variable i adds
+-- "The constant target falls by m × L^power; the target at that pure power rises by m": what the limit of variable i
+-- adds
 unfoldable pub limitAt : ℕ → ℕ → Limit → Sum
 limitAt n i l =
     (replicate n 0, negℤ (pos (l .multiplier * l .bound ^ l .power)))

@@ -1,4 +1,5 @@
--- Points that a sheet can hold: the terms', the constant and low pure powers; two of them are the same where their keys are.
+-- Points that a sheet can hold: the terms', the constant and low pure powers; two of them are the same where their keys
+-- are.
 use mathlib.Core.Path.{_≡_, sym, _∙_}
 use mathlib.Core.List.{List}
 use Prim.Native.Nat.{ℕ, _*_, _^_, _<_, _≤_}

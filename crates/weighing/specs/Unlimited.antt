@@ -25,7 +25,8 @@ plainPoint c n t i = cond (ltb i t) (termPoint c n i) (replicate n 0)
 -- 16: "the first claim term .., then the constant if it is absent from the claim", which "has index t"
 unfoldable pub plainUnheld : (Exponents → ℤ) → List ℕ → List ℕ → Answer
 plainUnheld τ c s =
-    refuseAt (first (λ i. unheldAt τ s (plainPoint c (variables c) (termCount c) i)) (suc (termCount c))) 16 (accepted 0)
+    refuseAt (first (λ i. unheldAt τ s (plainPoint c (variables c) (termCount c) i)) (suc (termCount c))) 16
+    (accepted 0)
 
 -- 16 to 19
 unfoldable pub plainWeighed : (Exponents → ℤ) → List ℕ → List ℕ → Answer

@@ -31,7 +31,8 @@ use Rattle.checks.specs.declared.proof_checks.RowRule.the-variants as R
 use Rattle.worked.specs.Sheets.{joined, word, words, claimOf, proofOf, squareWith, square, squareProof, twoTerms, oneRow, masked, limit, unlimited, limitsWith, oneLimit}
 use Rattle.worked.specs.Checks.{Case, claims, proves, limits, eight, full, manyPoints, manyRows, small, cases, Worked}
 
-small-worked : map (λ (c : Case). formedAnswer (c .claim) (c .proof) (c .limits)) small ≡ map (λ (c : Case). c .answer) small
+small-worked : map (λ (c : Case). formedAnswer (c .claim) (c .proof) (c .limits)) small
+    ≡ map (λ (c : Case). c .answer) small
 unfolding
     u32At i32At table bytesAt every everyPair samePoint risesTo evenSum hasMidpoint exponentsWithin accepted
     refused refuseIf refuseAt blameless andThen kept first beyond floorOf termPoint coefficientOf C.countsRight

@@ -38,20 +38,21 @@ use Rattle.worked.specs.Searches as S
 
 computed : Worked × S.Worked × Targets
 unfolding
-    u32At i32At withBits withI32 floorDiv floorMod share table bytesAt every everyPair samePoint risesTo
-    midpointOf evenSum hasMidpoint exponentsWithin keepsSign gathered coefficient slotsAt lowered worst target
-    floorOf termPoint coefficientOf termOf termsOf scaleOf vOf wOf wordsAt tripleOf weightsOf rowOf rowsOf
-    tripleFor withTriple withWeights withRows accepted refused refuseIf refuseAt blameless andThen kept first
-    beyond C.countsRight C.maskRight C.claimHeaderRight C.termBreaks C.termsAnswer C.claimAnswer
-    P.proofHeaderRight P.headerAnswer P.qOrR P.anyBeyond P.rowBreaks P.rowsAnswer joined word words claimOf
-    proofOf squareWith square squareProof oneRow count errorAt shiftedWeight aimOf targetOf slotsTo rankOf
-    shiftedWeights shiftRow slotsBefore shiftedRow shiftedRows headAnswer roomAnswer bodyAnswer restAnswer inputAnswer padded pureAt limitAt limitsTo limitOf limitsOf limitIn noLimits
-    limitsShaped powerRight limitRight limitBreaks limitsAnswer rowsJudged limit unlimited limitsWith oneLimit minusSquare line
-    bareProof lineProof atZero acceptsIn refusesIn withLimits cases S.findsIn S.refusesIn pointFor unheldAt unheld unheldAnswer negative indefinite judgePair judgeLone judgementOf numberOf judgedAs
-    firstsTo judgedAnswer weightsFor exactProof weighedAnswer targetsOf checkAnswer outputOf bare noRows motzkin
-    motzkinProof motzkinExchanged motzkinBytes motzkinProofBytes oneTerm masked maskedSquare maskedProduct
-    productProof maskedCube cubeProof spare accepts refuses motzkinExact marked tabled withMask worked withFloor
-    F.rangeWrong F.rangeAnswer F.floorCount F.floorAfter F.accepts F.refusedBefore F.toldAfter F.searchOf
+    u32At i32At withBits withI32 floorDiv floorMod share table bytesAt every everyPair samePoint risesTo midpointOf
+    evenSum hasMidpoint exponentsWithin keepsSign gathered coefficient slotsAt lowered worst target floorOf
+    termPoint coefficientOf termOf termsOf scaleOf vOf wOf wordsAt tripleOf weightsOf rowOf rowsOf tripleFor
+    withTriple withWeights withRows accepted refused refuseIf refuseAt blameless andThen kept first beyond
+    C.countsRight C.maskRight C.claimHeaderRight C.termBreaks C.termsAnswer C.claimAnswer P.proofHeaderRight
+    P.headerAnswer P.qOrR P.anyBeyond P.rowBreaks P.rowsAnswer joined word words claimOf proofOf squareWith square
+    squareProof oneRow count errorAt shiftedWeight aimOf targetOf slotsTo rankOf shiftedWeights shiftRow slotsBefore
+    shiftedRow shiftedRows headAnswer roomAnswer bodyAnswer restAnswer inputAnswer padded pureAt limitAt limitsTo
+    limitOf limitsOf limitIn noLimits limitsShaped powerRight limitRight limitBreaks limitsAnswer rowsJudged limit
+    unlimited limitsWith oneLimit minusSquare line bareProof lineProof atZero acceptsIn refusesIn withLimits cases
+    S.findsIn S.refusesIn pointFor unheldAt unheld unheldAnswer negative indefinite judgePair judgeLone judgementOf
+    numberOf judgedAs firstsTo judgedAnswer weightsFor exactProof weighedAnswer targetsOf checkAnswer outputOf bare
+    noRows motzkin motzkinProof motzkinExchanged motzkinBytes motzkinProofBytes oneTerm masked maskedSquare
+    maskedProduct productProof maskedCube cubeProof spare accepts refuses motzkinExact marked tabled withMask worked
+    withFloor F.rangeWrong F.rangeAnswer F.floorCount F.floorAfter F.accepts F.refusedBefore F.toldAfter F.searchOf
     F.outputBy F.searchOutput S.finds S.refuses S.heavy S.loneZero S.cases S.ranges S.worked
 computed = (refl, (refl, refl), (refl, refl, refl, refl))
 

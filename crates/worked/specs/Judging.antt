@@ -139,15 +139,16 @@ withMask =
 -- document 02, note 4
 unfoldable pub withLimits : List Case
 withLimits =
-    -- −x² is at least −9 within ±3: "The constant target falls by m × L^power; the target at that pure power rises by m",
-    -- and neither is multiplied by S
+    -- −x² is at least −9 within ±3: "The constant target falls by m × L^power; the target at that pure power rises by
+    -- m", and neither is multiplied by S
     acceptsIn (minusSquare (negsuc 8)) (bareProof 1) (oneLimit 2 3 1) [] 0 (bareProof 1)
     ∷ refusesIn (minusSquare (negsuc 8)) (bareProof 2) (oneLimit 2 3 1) [] (refused 16 0)
     ∷ acceptsIn (minusSquare (negsuc 8)) (bareProof 2) (oneLimit 2 3 2) [] 0 (bareProof 2)
     -- a limit without a multiplier changes no target; L of two bytes; power 4
     ∷ refusesIn (minusSquare (negsuc 8)) (bareProof 1) (oneLimit 2 3 0) [] (refused 16 0)
     ∷ acceptsIn (minusSquare (negsuc 65535)) (bareProof 1) (oneLimit 2 256 1) [] 0 (bareProof 1)
-    ∷ acceptsIn (claimOf 1 (negsuc 80) ((4 ∷ []) ∷ []) (negsuc 0 ∷ [])) (bareProof 1) (oneLimit 4 3 1) [] 0 (bareProof 1)
+    ∷ acceptsIn (claimOf 1 (negsuc 80) ((4 ∷ []) ∷ []) (negsuc 0 ∷ [])) (bareProof 1) (oneLimit 4 3 1) [] 0
+    (bareProof 1)
     -- x is at least −5 within ±5
     ∷ acceptsIn line lineProof (oneLimit 2 5 1) (Pair (pos 25) (pos 1) (negsuc 9) ∷ []) 1 lineProof
     -- 16: "points the limits add are searched after the constant, by variable, with indices t + 1 + i"

@@ -267,6 +267,6 @@ module _ (c s ls : List ℕ) (lo hi : ℤ) (out : List ℕ) where
         let floor-kept = kept b₀ b (λ a e. eb ∙ rw e) in
         let tried-kept = kept m₀ m (λ a e. em ∙ rw e) in
         let promises =
-        search-promises c s ls lo hi out _ _ (λ f j k. (found-seen f j k, seen-found f j k)) (none-seen, seen-none) bc bs
-        o eo in
+        search-promises c s ls lo hi out _ _ (λ f j k. (found-seen f j k, seen-found f j k)) (none-seen, seen-none)
+        bc bs o eo in
         (er, (search-coded, (eo, (eb, (em, ((floor-kept, tried-kept), promises))))))

@@ -43,8 +43,7 @@ pub none-said : (c : List ℕ) → length c ≡ 0 → 0 ≡ variables c
 none-said [] e = refl
 none-said (b ∷ c) e = absurd (omega arith)
 
--- ---- print_sheets: n is the number of variables that was read, r the bytes of the limits; v is the verdict, o the output
--- afterwards
+-- ---- print_sheets: n is the number of variables that was read, v the verdict, o the output afterwards
 
 module _ (c : List ℕ) (n : ℕ) (en : n ≡ variables c) where
   unlimited-is : n < 256 → take (1 + 7 * n) (set (replicate 1786 0) 0 n) ≡ noLimits (variables c)
@@ -133,8 +132,9 @@ module _ (c s : List ℕ) where
     accepted-text : sheetsText c s (zeros (length s)) ≡ acceptedLines c s
     unfolding sheetsText acceptedLines
     accepted-text =
-        rw (← (as-unlimited c s .output (zeros (length s))), ← (answers (length (zeros (length s)))), ← (plain-targets c s))
-        (rw (accepted-exact c s ls (zeros (length s)) as-long (rw as-long h), as-long, accepted-rows c s ls (length s) h)
+        let out = zeros (length s) in
+        rw (← (as-unlimited c s .output out), ← (answers (length out)), ← (plain-targets c s))
+        (rw (accepted-exact c s ls out as-long (rw as-long h), as-long, accepted-rows c s ls (length s) h)
         (accepted-lines c exact (rowCount s) (scaleOf s) (λ i. tripleFor (weightsFor τ s i))
         (omega (arith, own .claim .sized)) room (exact-scale τ s) weights))
 

@@ -134,7 +134,8 @@ module _ (c s ls : List ℕ) (lo hi : ℤ) (room : ℕ) (h : Passes (rangeAnswer
 
 -- they pass where the sheets are well-formed, the output is long enough and the range is right; no answer is 23
 module _ (c s ls : List ℕ) (lo hi : ℤ) (room : ℕ) where
-  pub range-passes : WellFormed c s ls → length s ≤ room → rangeWrong lo hi ≡ false → Passes (rangeAnswer c s ls lo hi room)
+  pub range-passes : WellFormed c s ls → length s ≤ room → rangeWrong lo hi ≡ false
+      → Passes (rangeAnswer c s ls lo hi room)
   unfolding rangeAnswer
   range-passes f l r =
       then-passes _ _ (input-passes c s ls room f l)

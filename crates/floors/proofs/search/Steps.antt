@@ -363,8 +363,8 @@ module _ (c s ls : List ℕ) (lo hi : ℤ) (out : List ℕ) (bc : Bytes c) (bs :
       → o ≡ searchOutput c s ls lo hi out → Promised r o
   promised r o e eo =
       let promises =
-      search-promises c s ls lo hi out _ _ (λ b tried k. (λ q. sym e ∙ q, λ q. e ∙ q)) (λ q. sym e ∙ q, λ q. e ∙ q) bc bs
-      o eo in
+      search-promises c s ls lo hi out _ _ (λ b tried k. (λ q. sym e ∙ q, λ q. e ∙ q)) (λ q. sym e ∙ q, λ q. e ∙ q)
+      bc bs o eo in
       (e, (eo, promises))
 
   pub unwritten : (x : Sheet) → tells (Refused x) ≡ searchOf c s ls lo hi (length out) → Promised (Refused x) out

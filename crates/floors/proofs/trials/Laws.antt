@@ -52,7 +52,8 @@ module _ (n from : ℕ) (inside : from < n) where
 
 pub tests-few : (c s : List ℕ) (n : ℕ) → n ≡ testCount c s → (a : Aim) → CheckedSheets c s a → n ≤ 65536
 unfolding testCount
-tests-few c s n e a given = omega (arith, e, given .claim .room .few, given .claim .room .terms, given .proof .header .room .rows)
+tests-few c s n e a given =
+    omega (arith, e, given .claim .room .few, given .claim .room .terms, given .proof .header .room .rows)
 
 module _ (c s : List ℕ) (a : Aim) where
   pub fails-point : (i : ℕ) → i < points c → fails c s a i ≡ unheld c s a i

@@ -114,11 +114,17 @@ module _ (n : ℕ) (α : Exponents) (sized : length α ≡ n) (low : Below 256 �
   unfolding limitAdds
   limited-is l i h k =
       let p = power-some l h in
-      rw (ne-eqb (l .power) 0 (λ z. omega arith), constant-tested, pure-tested i (l .power) k (p .1), limit-coefficient n α i l)
+      rw (
+        ne-eqb (l .power) 0 (λ z. omega arith),
+        constant-tested,
+        pure-tested i (l .power) k (p .1),
+        limit-coefficient n α i l,
+      )
       (go (samePoint α (replicate n 0)) (samePoint α (pureAt n i (l .power))) _ _
       (pure-apart i (l .power) k (p .0) (p .1)))
     where
-      go : (s t : Bool) (a m : ℤ) → (s ≡ true → t ≡ false) → cond s a (cond t m (pos 0)) ≡ cond s a (pos 0) +ℤ cond t m (pos 0)
+      go : (s t : Bool) (a m : ℤ) → (s ≡ true → t ≡ false)
+          → cond s a (cond t m (pos 0)) ≡ cond s a (pos 0) +ℤ cond t m (pos 0)
       go true t a m f = rw (f refl) (sym (+ℤ-idr a))
       go false t a m f = sym (+ℤ-idl (cond t m (pos 0)))
 

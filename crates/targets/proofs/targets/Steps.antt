@@ -128,7 +128,8 @@ module _ (c l : List ℕ) (n : ℕ) (en : n ≡ variables c) where
   unfolding aimOf
   aim-is s b b′ S r eb eS er e = rw (e, eb, eS, er, en)
 
-pub at-floor-is : (a : Aim) (b b′ : ℤ) → b′ ≡ b → record { floor = b′; scale = a .scale; limits = a .limits } ≡ atFloor a b
+pub at-floor-is : (a : Aim) (b b′ : ℤ) → b′ ≡ b
+    → record { floor = b′; scale = a .scale; limits = a .limits } ≡ atFloor a b
 unfolding atFloor
 at-floor-is a b b′ e = rw e
 
@@ -244,8 +245,8 @@ module _ (c : List ℕ) (n t : ℕ) (facts : ClaimFacts c n t) (α : Exponents) 
       go true e = rw (constant-there, e) (sym (lowered-constant n (a .floor) f α e))
       go false e = rw (constant-there, e) (sym (lowered-other n (a .floor) f α e))
 
--- ---- target_with: x is the coefficient, y the same with the floor taken from it, z with the worst sign, r that times the
--- scale, s what the limits add
+-- ---- target_with: x is the coefficient, y the same with the floor taken from it, z with the worst sign, r that times
+-- the scale, s what the limits add
 
 module _ (n key : ℕ) (a : Aim) (r r′ s s′ : ℤ) (es : s ≡ limitsAdd (a .limits) key n) (br : r′ ≡ r) (bs : s′ ≡ s)
     (small : natAbs r ≤ 2 ^ 51) (few : n ≤ mostVariables) (within : AimWithin a) where

@@ -62,8 +62,8 @@ module _ (c : List ℕ) (limits : Limits) (n t i : ℕ) where
   unfolding pointFor
   point-each P term constant pure = go (ltb i t) (ltb t i) refl
     where
-      go : (b d : Bool) → ltb i t ≡ b
-          → P (cond b (termPoint c n i) (cond d (pureAt n (i - suc t) (limitIn limits (i - suc t) .power)) (replicate n 0)))
+      go : (b d : Bool) → ltb i t ≡ b → P (cond b (termPoint c n i)
+          (cond d (pureAt n (i - suc t) (limitIn limits (i - suc t) .power)) (replicate n 0)))
       go true d e = term (ltb-true i t e)
       go false true e = pure (i - suc t)
       go false false e = constant

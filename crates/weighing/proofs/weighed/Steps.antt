@@ -25,6 +25,7 @@ module _ (c s : List ℕ) (a : Aim) (f : Found) (e : f ≡ first (unheld c s a) 
     weighed-unheld i h =
         then-refused _ _ (refused-at _ f _ 16 _ e i h (refused-says _ 16 i refl)) (Proof 16 i) refl _
 
-    pub weighed-judged : (v : Verdict) → f ≡ Nothing → says v ≡ rowsJudged (targetOf c a) s → says v ≡ weighedAnswer c s a
+    pub weighed-judged : (v : Verdict) → f ≡ Nothing → says v ≡ rowsJudged (targetOf c a) s
+        → says v ≡ weighedAnswer c s a
     unfolding weighedAnswer unheldAnswer
     weighed-judged v h ev = then-passed (Accepted 0) _ (passed-at _ f _ 16 _ e h (accepted-says 0)) 0 refl v _ ev

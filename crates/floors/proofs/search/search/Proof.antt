@@ -14,7 +14,9 @@ search-checked-requires : tie.Need-search-checked-requires
 search-checked-requires c κs = (search (search-ready, toZ-ofZ), search (search-room, toZ-ofZ))
 
 returns-2 : tie.Need-returns-2
-returns-2 c = promised _ _ _ _ _ _ (search needs) (search needs) _ _ (search (search-told, toZ-ofZ)) (search (search-written, toZ-ofZ))
+returns-2 c =
+    promised _ _ _ _ _ _ (search needs) (search needs) _ _ (search (search-told, toZ-ofZ))
+    (search (search-written, toZ-ofZ))
 
 pub search-spec : {M : Type 1} → statement M
 search-spec =

@@ -14,7 +14,8 @@ use Rattle.floors.proofs.search.walk.Statement.{statement}
 use Rattle.floors.proofs.search.walk.Tie as tie
 
 abbrev Inv-loop : tie.InvT-loop
-Inv-loop claim proof aim lo hi tests floors last₀ i₀ last i = (i ≤ floors) × (last < tests) × (first (passesAfter claim proof aim (toZ w64 hi)) i ≡ Nothing)
+Inv-loop claim proof aim lo hi tests floors last₀ i₀ last i =
+    (i ≤ floors) × (last < tests) × (first (passesAfter claim proof aim (toZ w64 hi)) i ≡ Nothing)
 
 abbrev μ-loop : tie.MeasureT-loop
 μ-loop claim proof aim lo hi tests floors last₀ i₀ last i = floors - i

@@ -13,13 +13,15 @@ weigh-requires : tie.Need-weigh-requires
 weigh-requires c κs = search sheets-read
 
 returns-2 : tie.Need-returns-2
-returns-2 c = (search check-weighed, (search (refused-output, check-weighed), search (promises, refused-output, check-weighed)))
+returns-2 c =
+    (search check-weighed, (search (refused-output, check-weighed), search (promises, refused-output, check-weighed)))
 
 write-exact-requires : tie.Need-write-exact-requires
 write-exact-requires c κs = search (writable, check-weighed)
 
 returns-3 : tie.Need-returns-3
-returns-3 c = (search check-weighed, (search (accepted-output, check-weighed), search (promises, accepted-output, check-weighed)))
+returns-3 c =
+    (search check-weighed, (search (accepted-output, check-weighed), search (promises, accepted-output, check-weighed)))
 
 pub check-spec : {M : Type 1} → statement M
 check-spec =
