@@ -1,8 +1,8 @@
 //! The search: by the library's method in Rust, and by a naive walk over the library's checks.
 //!
-//! A floor has a test for each term, one for the constant, one for each variable's limit and one for
-//! each row. The method begins with the test that refused the floor before, and a floor is found
-//! where none refuses it.
+//! A floor has a test for each term, one for the constant, one for each variable's limit and one
+//! for each row. The method begins with the test that refused the floor before, and a floor is
+//! found where none refuses it.
 
 use crate::fields::{refuse_if, Refusal, Sheets, MOST};
 use crate::judging::{fault, misses, places, write, Given, Method};

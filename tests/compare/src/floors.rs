@@ -93,8 +93,8 @@ fn numbers(rng: &mut Rng, count: usize) -> Vec<Integer> {
     offsets(rng, count).into_iter().map(Integer::from).collect()
 }
 
-/// The numbers brought within the limits, often to their ends, and those of masked variables without
-/// their signs.
+/// The numbers brought within the limits, often to their ends, and those of masked variables
+/// without their signs.
 fn admitted(case: &Case, rng: &mut Rng, mut numbers: Vec<Integer>) -> Vec<Integer> {
     for (variable, number) in numbers.iter_mut().enumerate() {
         if let Some(limit) = limit_of(case, variable) {

@@ -28,8 +28,8 @@ fn are_read(n: u8) -> Outcome {
 }
 
 /// A floor for a claim without terms, and the number and index that refuse it with the limits: 25
-/// where the variable's are wrong, nothing where the floor makes up for them, and 17 at the constant's
-/// row where none can.
+/// where the variable's are wrong, nothing where the floor makes up for them, and 17 at the
+/// constant's row where none can.
 fn expected(limits: &Limits, variable: usize) -> (i32, Option<(u32, usize)>) {
     if !is_right(&limits.entries[variable]) {
         return (0, Some((25, variable)));

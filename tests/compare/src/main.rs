@@ -3,10 +3,11 @@
 //!
 //!     cargo run --bin compare [-- --seed N --cases N --library]
 //!
-//! `named` has the tests of single sheets, `limits` those of all fields of limits sheets, `documents`
-//! those of the tables in other files, `floors` what a floor means, `random` each kind of random
-//! cases, `answers` the comparison itself. The program is the one that `rt check burmelox_check`
-//! writes, or that BURMELOX_PROGRAM names. `--library` leaves it out of the random cases.
+//! `named` has the tests of single sheets, `limits` those of all fields of limits sheets,
+//! `documents` those of the tables in other files, `floors` what a floor means, `random` each kind
+//! of random cases, `answers` the comparison itself. The program is the one that `rt check
+//! burmelox_check` writes, or that BURMELOX_PROGRAM names. `--library` leaves it out of the random
+//! cases.
 
 mod answers;
 mod documents;

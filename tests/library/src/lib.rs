@@ -39,8 +39,9 @@ extern "C" {
     ) -> u64;
 }
 
-/// Checks a proof of a claim within limits. Answers the number of rows where it is accepted, and the first bytes
-/// of the output are then the exact proof; else the refusal: sheet × 2^32 + number × 2^16 + index.
+/// Checks a proof of a claim within limits. Answers the number of rows where it is accepted, and
+/// the first bytes of the output are then the exact proof; else the refusal: sheet × 2^32 + number
+/// × 2^16 + index.
 pub fn check(claim: &[u8], proof: &[u8], limits: &[u8], output: &mut [u8]) -> u64 {
     // SAFETY: each pointer comes with the length of its slice.
     unsafe {

@@ -1,5 +1,5 @@
-//! The check: the order of its sheets, the output's length (11), targets, sharing the error, judging
-//! (16 to 19) and the exact proof.
+//! The check: the order of its sheets, the output's length (11), targets, sharing the error,
+//! judging (16 to 19) and the exact proof.
 
 use crate::claim::{self, Claim};
 use crate::limits::{self, Limits};
@@ -96,9 +96,9 @@ impl<'a> Sheets<'a> {
         targets
     }
 
-    /// The first claim term whose target is not zero and that no row holds, then the constant, then
-    /// the points that the limits add, by variable: where the claim has one of the latter, it was met
-    /// among the terms.
+    /// The first claim term whose target is not zero and that no row holds, then the constant,
+    /// then the points that the limits add, by variable: where the claim has one of the latter, it
+    /// was met among the terms.
     fn without_slot(&self, targets: &Targets, slots: &Slots) -> Option<usize> {
         let misses = |point: &Point| !targets[point].is_zero() && !slots.contains_key(point);
         let t = self.claim.terms.len();

@@ -91,9 +91,9 @@ fn unlimited_cases_are_judged_as_before() {
     }
 }
 
-/// Of the accepted cases with limits most have another verdict without them. Of the pure powers some
-/// are claim terms and some are not; at some of them, and at some constants, the claim makes up for
-/// what the limits change, so that the target is 0 and needs no slot.
+/// Of the accepted cases with limits most have another verdict without them. Of the pure powers
+/// some are claim terms and some are not; at some of them, and at some constants, the claim makes
+/// up for what the limits change, so that the target is 0 and needs no slot.
 #[test]
 fn limits_count_among_the_accepted() {
     let (mut limited, mut counting, mut cancelled, mut added) = (0, 0, [0, 0], 0);

@@ -146,7 +146,8 @@ impl Proof {
     }
 }
 
-/// Every example that the program reads: the worked sheets, those with masks, the posts, the papers.
+/// Every example that the program reads: the worked sheets, those with masks, the posts, the
+/// papers.
 pub fn examples() -> Vec<Example> {
     let all = [worked::examples(), masked::examples(), posts::examples(), papers::examples()];
     all.into_iter().flatten().collect()

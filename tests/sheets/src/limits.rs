@@ -68,8 +68,8 @@ impl Limits {
         point
     }
 
-    /// What right limits add to the targets: the multipliers at the pure powers, and at the constant
-    /// less than nothing.
+    /// What right limits add to the targets: the multipliers at the pure powers, and at the
+    /// constant less than nothing.
     pub fn added(&self) -> BTreeMap<Point, i64> {
         let mut added = BTreeMap::new();
         for (variable, entry) in self.limited() {

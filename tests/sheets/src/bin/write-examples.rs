@@ -1,5 +1,5 @@
-//! Writes the project's `examples/`: each sheet, beside it the text the program prints for it, and of
-//! those with limits the limits sheet and the text of a check with them.
+//! Writes the project's `examples/`: each sheet, beside it the text the program prints for it, and
+//! of those with limits the limits sheet and the text of a check with them.
 
 use sheets::{limited, Example};
 use std::path::{Path, PathBuf};

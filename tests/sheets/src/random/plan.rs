@@ -77,7 +77,8 @@ impl Draft {
         (draft.rows.len() <= 256).then_some(draft)
     }
 
-    /// What the claim has to come to at each point: the sum of the weights less what the limits add.
+    /// What the claim has to come to at each point: the sum of the weights less what the limits
+    /// add.
     fn sums(&self) -> BTreeMap<Point, i64> {
         let added = self.limits.added().into_iter();
         let mut sums: BTreeMap<Point, i64> = added.map(|(point, added)| (point, -added)).collect();
@@ -117,8 +118,8 @@ impl Draft {
         }
     }
 
-    /// The claim whose targets within the limits are the sums of the weights, none where it does not
-    /// fit.
+    /// The claim whose targets within the limits are the sums of the weights, none where it does
+    /// not fit.
     fn claim(&self, rng: &mut Rng) -> Option<Claim> {
         let mut coefficients: BTreeMap<Point, i64> = BTreeMap::new();
         for (point, sum) in self.sums() {

@@ -88,8 +88,8 @@ impl Shape {
         }
     }
 
-    /// A shape of so many pairs of 8 variables, none of them masked or limited, with terms at up to 64
-    /// points.
+    /// A shape of so many pairs of 8 variables, none of them masked or limited, with terms at up
+    /// to 64 points.
     pub fn pairs(rng: &mut Rng, rows: usize) -> Shape {
         Shape {
             mask: 0,
