@@ -21,6 +21,3 @@ pub record SearchUnlimited (c s : List ℕ) : Type 0 where
       → accepts c s (noLimits (variables c)) room b ≡ blameless (plainAnswer (withFloor c b) s room)
   pub written : (out : List ℕ) (b : ℤ)
       → outputOf (withFloor c b) s (noLimits (variables c)) out ≡ plainOutput (withFloor c b) s out
-
-abbrev pub AsUnlimited : Type 0
-AsUnlimited = (c s : List ℕ) → SearchUnlimited c s

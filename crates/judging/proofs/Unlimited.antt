@@ -9,10 +9,10 @@ use Rattle.limits.specs.LimitsSheet.{limitIn, noLimits}
 use Rattle.limits.proofs.limits_sheet.Laws.{none-unlimited}
 use Rattle.checks.proofs.input.Laws.{input-unlimited}
 use Rattle.targets.specs.Targets.{aimOf}
-use Rattle.targets.proofs.Unlimited as Targets
+use Rattle.targets.proofs.Unlimited.{targets-unlimited}
 use Rattle.weighing.proofs.Unlimited.{weighed-unlimited}
 use Rattle.judging.specs.Check.{targetsOf, checkAnswer, outputOf}
-use Rattle.judging.specs.Unlimited.{plainTargets, plainAnswer, plainOutput, AsUnlimited}
+use Rattle.judging.specs.Unlimited.{plainTargets, plainAnswer, plainOutput, CheckUnlimited}
 
 module _ (c s : List ℕ) where
   abbrev l : List ℕ
@@ -24,15 +24,15 @@ module _ (c s : List ℕ) where
 
   pub plain-targets : targetsOf c s l ≡ plainTargets c s
   unfolding targetsOf plainTargets aimOf
-  plain-targets = fun-ext (λ α. Targets.as-unlimited c .targets (aimOf c s l) unlimited α)
+  plain-targets = fun-ext (λ α. targets-unlimited c .targets (aimOf c s l) unlimited α)
 
   answer : (room : ℕ) → checkAnswer c s l room ≡ plainAnswer c s room
   unfolding checkAnswer plainAnswer plainTargets aimOf
   answer room = rw (input-unlimited c s room, weighed-unlimited c s (aimOf c s l) unlimited)
 
-pub as-unlimited : AsUnlimited
+pub check-unlimited : (c s : List ℕ) → CheckUnlimited c s
 unfolding outputOf plainOutput
-as-unlimited c s = record {
+check-unlimited c s = record {
   answer = answer c s;
   output = λ out. rw (answer c s (length out), plain-targets c s);
 }

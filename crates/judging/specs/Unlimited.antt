@@ -32,6 +32,3 @@ plainOutput c s out =
 pub record CheckUnlimited (c s : List ℕ) : Type 0 where
   pub answer : (room : ℕ) → checkAnswer c s (noLimits (variables c)) room ≡ plainAnswer c s room
   pub output : (out : List ℕ) → outputOf c s (noLimits (variables c)) out ≡ plainOutput c s out
-
-abbrev pub AsUnlimited : Type 0
-AsUnlimited = (c s : List ℕ) → CheckUnlimited c s

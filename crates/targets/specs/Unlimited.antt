@@ -23,7 +23,7 @@ unfoldable pub plainTarget : List ℕ → ℕ → ℤ → Exponents → ℤ
 plainTarget c S b α =
     pos S *ℤ worst (keepsSign (maskOf c) α) (coefficient α (lowered (variables c) b (termsOf c)))
 
-pub record WithoutLimits (c : List ℕ) : Type 0 where
+pub record TargetsUnlimited (c : List ℕ) : Type 0 where
   pub targets : (a : Aim) → Unlimited (limitIn (a .limits))
       → (α : Exponents) → targetOf c a α ≡ plainTarget c (a .scale) (a .floor) α
   -- "The floor holds at whole points with masked variables at least 0"
@@ -32,6 +32,3 @@ pub record WithoutLimits (c : List ℕ) : Type 0 where
       ↔ ((x : List ℤ) → Allowed (maskOf c) x → b ≤ℤ valueAt x (termsOf c))
   pub admits : (limits : ℕ → Limit) → Unlimited limits
       → (x : List ℤ) → Admits (domainWith c limits) x ↔ Allowed (maskOf c) x
-
-abbrev pub AsUnlimited : Type 0
-AsUnlimited = (c : List ℕ) → WithoutLimits c

@@ -19,7 +19,7 @@ use Rattle.limits.specs.LimitsSheet.{limitIn}
 use Rattle.targets.specs.Targets.{targetOf}
 use Rattle.targets.specs.Unlimited.{plainTarget}
 use Rattle.targets.specs.declared.targets.Aim.{Aim}
-use Rattle.targets.proofs.Unlimited.{as-unlimited}
+use Rattle.targets.proofs.Unlimited.{targets-unlimited}
 use Rattle.weighing.specs.Unheld.{pointFor, unheldAt, unheld, unheldAnswer}
 use Rattle.weighing.specs.Weighed.{weighedAnswer}
 use Rattle.weighing.specs.Unlimited.{plainPoint, plainUnheld, plainWeighed, WeighedUnlimited}
@@ -32,7 +32,7 @@ module _ (c s : List ℕ) (a : Aim) (u : Unlimited (limitIn (a .limits))) where
   t = termCount c
 
   targets : targetOf c a ≡ plainTarget c (a .scale) (a .floor)
-  targets = fun-ext (λ α. as-unlimited c .targets a u α)
+  targets = fun-ext (λ α. targets-unlimited c .targets a u α)
 
   -- every point that is looked at is a term's or the constant's
   points : (i : ℕ) → pointFor c (a .limits) n t i ≡ plainPoint c n t i

@@ -23,7 +23,7 @@ use Rattle.weighing.specs.Exact.{weightsFor, exactProof}
 use Rattle.weighing.proofs.exact.Laws.{exact-length, exact-variables, exact-scale, exact-weights}
 use Rattle.judging.specs.Check.{targetsOf, checkAnswer, outputOf}
 use Rattle.judging.specs.Unlimited.{plainAnswer, plainOutput}
-use Rattle.judging.proofs.Unlimited.{plain-targets, as-unlimited}
+use Rattle.judging.proofs.Unlimited.{plain-targets, check-unlimited}
 use Rattle.judging.proofs.Promises.{check-promises, accepted-formed, accepted-within, accepted-rows, accepted-exact}
 use Rattle.text.specs.Text.{Written}
 use Rattle.report.specs.Reports.{shapeWith, refusedText, reportText}
@@ -58,7 +58,7 @@ module _ (c : List ℕ) (n : ℕ) (en : n ≡ variables c) where
   module _ (s out o : List ℕ) (l : n < 256)
       (eo : o ≡ outputOf c s (take (1 + 7 * n) (set (replicate 1786 0) 0 n)) out) where
     pub sheets-output : o ≡ plainOutput c s out
-    sheets-output = eo ∙ rw (unlimited-is l) (as-unlimited c s .output out)
+    sheets-output = eo ∙ rw (unlimited-is l) (check-unlimited c s .output out)
 
     pub sheets-written : (m m′ : List ℕ) (v : Verdict) (end : ℕ) → Written m 0 (reportText c o (says v)) m′ end
         → says v ≡ checkAnswer c s (take (1 + 7 * n) (set (replicate 1786 0) 0 n)) (length out)
@@ -66,7 +66,7 @@ module _ (c : List ℕ) (n : ℕ) (en : n ≡ variables c) where
     unfolding sheetsText
     sheets-written m m′ v end w ev =
         let e : says v ≡ plainAnswer c s (length out) =
-        ev ∙ rw (unlimited-is l) (as-unlimited c s .answer (length out)) in
+        ev ∙ rw (unlimited-is l) (check-unlimited c s .answer (length out)) in
         rw (← e, ← sheets-output) w
 
 -- ---- print_input: e is where the claim ends, `most` the greatest length of an input
@@ -99,7 +99,7 @@ module _ (c s : List ℕ) where
   as-long = length-replicate {A = ℕ} (length s) 0
 
   answers : (room : ℕ) → checkAnswer c s ls room ≡ plainAnswer c s room
-  answers = as-unlimited c s .answer
+  answers = check-unlimited c s .answer
 
   module _ (p : Passes (plainAnswer c s (length s))) where
     h : Passes (checkAnswer c s ls (length s))
@@ -133,7 +133,7 @@ module _ (c s : List ℕ) where
     unfolding sheetsText acceptedLines
     accepted-text =
         let out = zeros (length s) in
-        rw (← (as-unlimited c s .output out), ← (answers (length out)), ← (plain-targets c s))
+        rw (← (check-unlimited c s .output out), ← (answers (length out)), ← (plain-targets c s))
         (rw (accepted-exact c s ls out as-long (rw as-long h), as-long, accepted-rows c s ls (length s) h)
         (accepted-lines c exact (rowCount s) (scaleOf s) (λ i. tripleFor (weightsFor τ s i))
         (omega (arith, own .claim .sized)) room (exact-scale τ s) weights))
@@ -164,7 +164,7 @@ module _ (c s : List ℕ) where
     promises =
         check-promises c s ls (zeros (length s)) _ _
         (λ h. rw (as-long, answers) (begins-passed h), λ h. passed-begins (rw (as-long, answers) at h))
-        (λ h. refl) b _ (rw (as-unlimited c s .output (zeros (length s))));
+        (λ h. refl) b _ (rw (check-unlimited c s .output (zeros (length s))));
   }
 
 -- every input has its lines
