@@ -29,7 +29,7 @@ fn shape_wrong(limits: &[u8], n: usize) -> bool
     count(limits[0]) != n
 }
 
-// Whether a power limits nothing that can be limited: it is neither 2 nor 4.
+// Whether the power of a limited variable is neither 2 nor 4.
 fn power_wrong(power: u8) -> bool
     ensures { λ r. ⌜ r ≡ not (powerRight power) ⌝ }
 {

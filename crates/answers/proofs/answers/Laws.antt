@@ -1,7 +1,7 @@
 -- Laws of answers: what it says of each check that all are passed, the ways through checks one after another, that
 -- answers are short, and the sheets' numbers.
 use mathlib.Core.Path.{_≡_, refl, sym, _∙_}
-use mathlib.Core.Bool.{Bool, true, false, false≢true}
+use mathlib.Core.Bool.{Bool, true, false, cond, false≢true}
 use Prim.Native.Nat.{ℕ, _<_, _≤_}
 use native.Mathlib.Omega.{arith}
 use borrow.Author.Tests.{eq-eqb, eqb-true}
@@ -55,10 +55,6 @@ then-passes a later h k = rw h k
 pub then-on : (a later : Answer) → Passes a → andThen a later ≡ later
 unfolding andThen
 then-on a later h = rw h
-
-pub then-off : (a later : Answer) → blameless a ≡ false → andThen a later ≡ a
-unfolding andThen
-then-off a later h = rw h
 
 pub if-on : (b : Bool) (number : ℕ) (later : Answer) → b ≡ false → refuseIf b number later ≡ later
 unfolding refuseIf
@@ -150,6 +146,32 @@ accepted-value k = refl
 pub accepted-numbers : (a : Answer) (k : ℕ) → a ≡ accepted k → (a .number ≡ 0) × (a .value ≡ k)
 unfolding accepted
 accepted-numbers a k e = rw e (refl, refl)
+
+-- a property of every number that checks can say
+module _ (P : ℕ → Type 0) where
+  pub number-accepted : (k : ℕ) → P 0 → P (accepted k .number)
+  unfolding accepted
+  number-accepted k h = h
+
+  pub number-if : (b : Bool) (number : ℕ) (later : Answer) → P number → P (later .number)
+      → P (refuseIf b number later .number)
+  unfolding refuseIf refused
+  number-if true number later h k = h
+  number-if false number later h k = k
+
+  pub number-at : (f : Found) (number : ℕ) (later : Answer) → P number → P (later .number)
+      → P (refuseAt f number later .number)
+  unfolding refuseAt refused
+  number-at (At i) number later h k = h
+  number-at Nothing number later h k = k
+
+  pub number-then : (a later : Answer) → P (a .number) → P (later .number) → P (andThen a later .number)
+  unfolding andThen
+  number-then a later h k = go (blameless a)
+    where
+      go : (b : Bool) → P (cond b later a .number)
+      go true = k
+      go false = h
 
 pub refused-number : (number index : ℕ) → refused number index .number ≡ number
 unfolding refused

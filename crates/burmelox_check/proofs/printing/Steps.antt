@@ -15,7 +15,7 @@ use Rattle.points.specs.Points.{Exponents}
 use Rattle.sheets.specs.Layout.{variables, rowCount, shapeOf, ProofRoom}
 use Rattle.rows.specs.ProofSheet.{scaleOf, tripleOf, tripleFor}
 use Rattle.limits.specs.LimitsSheet.{noLimits}
-use Rattle.limits.proofs.limits_sheet.Laws.{none-length}
+use Rattle.limits.proofs.limits_sheet.Laws.{none-bytes, none-length}
 use Rattle.targets.specs.Targets.{aimOf}
 use Rattle.sharing.specs.Shifts.{CheckedSheets}
 use Rattle.sharing.proofs.shifts.Laws.{sheets-checked}
@@ -47,10 +47,9 @@ none-said (b ∷ c) e = absurd (omega arith)
 
 module _ (c : List ℕ) (n : ℕ) (en : n ≡ variables c) where
   unlimited-is : n < 256 → take (1 + 7 * n) (set (replicate 1786 0) 0 n) ≡ noLimits (variables c)
-  unfolding noLimits
   unlimited-is l =
       let k : 1 + 7 * n ≡ suc (7 * n) = omega arith in
-      rw (k, ← en) (ap (_∷_ n) (take-zeros (7 * n) 1785 (omega arith)))
+      rw (k, ← en, none-bytes n) (ap (_∷_ n) (take-zeros (7 * n) 1785 (omega arith)))
 
   pub limits-part : n < 256 → 1 + 7 * n ≡ length (take (1 + 7 * n) (set (replicate {A = ℕ} 1786 0) 0 n))
   limits-part l = sym (ap length (unlimited-is l) ∙ none-length (variables c) ∙ rw (← en) (omega arith))

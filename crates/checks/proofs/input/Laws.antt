@@ -10,7 +10,7 @@ use Rattle.integers.proofs.words.Laws.{Bytes}
 use Rattle.bounds.specs.Bounds.{greatestWeight}
 use Rattle.answers.specs.Answers.{says, Passes, Short}
 use Rattle.answers.specs.declared.answers.Verdict.the-variants.{Accepted}
-use Rattle.answers.proofs.answers.Laws.{passes-or-fails, then-off, passed-if, accepted-says, passes-if, passes-then, then-passes, then-on, passed, short-accepted, short-if, short-then}
+use Rattle.answers.proofs.answers.Laws.{number-then, passed-if, accepted-says, passes-if, passes-then, then-passes, then-on, passed, short-accepted, short-if, short-then}
 use Rattle.sheets.specs.Layout.{variables, termCount, shapeOf, LimitsRoom}
 use Rattle.sheets.specs.ClaimSheet.{withFloor}
 use Rattle.sheets.proofs.claim_sheet.Laws.{floored-before}
@@ -134,16 +134,11 @@ input-short c s l room h bc bs =
 -- and none is 23, which a search says of its own
 pub input-other : (c s l : List ℕ) (room : ℕ) → Bytes c → Bytes s → inputAnswer c s l room .number ≡ 23 → ⊥
 unfolding inputAnswer restAnswer
-input-other c s l room bc bs n =
-    passes-or-fails (headAnswer c s)
-    (λ h.
-    let e = rw (then-on _ _ h) at n in
-    passes-or-fails (limitsAnswer (variables c) l) (λ k. body (rw (then-on _ _ k) at e))
-    (λ k. limits-other (variables c) l (rw (then-off _ _ k) at e)))
-    (λ h. let e = rw (then-off _ _ h) at n in omega (arith, head-short c s {limit = 11} (omega arith) bc .number-short))
-  where
-    body : bodyAnswer s room .number ≡ 23 → ⊥
-    body e = omega (arith, body-short s room {limit = 16} (omega arith) bs .number-short)
+input-other c s l room bc bs =
+    let Other : ℕ → Type 0 = λ m. m ≡ 23 → ⊥ in
+    number-then Other _ _ (λ e. omega (arith, head-short c s {limit = 11} (omega arith) bc .number-short))
+    (number-then Other _ _ (limits-other (variables c) l)
+    (λ e. omega (arith, body-short s room {limit = 16} (omega arith) bs .number-short)))
 
 -- ---- without limits
 

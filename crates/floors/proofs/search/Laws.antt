@@ -12,11 +12,11 @@ use Rattle.integers.proofs.Tests.{nor}
 use Rattle.integers.proofs.words.Laws.{Bytes}
 use Rattle.bounds.specs.Bounds.{greatestWeight, greatestSpan}
 use Rattle.bounds.proofs.bounds.Laws.{within-bound, bound-within}
-use Rattle.answers.specs.Answers.{Answer, accepted, says, refuseIf, blameless, Passes, Short}
+use Rattle.answers.specs.Answers.{Answer, accepted, says, blameless, Passes, Short}
 use Rattle.answers.specs.Searches.{first}
 use Rattle.answers.specs.declared.answers.Sheet.{Sheet}
 use Rattle.answers.specs.declared.answers.Verdict.the-variants as Verdicts
-use Rattle.answers.proofs.answers.Laws.{passes-or-fails, passes-then, passes-if, then-passes, then-on, then-off, passed, passed-if, accepted-says, short-accepted, short-if, short-then}
+use Rattle.answers.proofs.answers.Laws.{number-accepted, number-if, number-then, passes-then, passes-if, then-passes, passed, passed-if, accepted-says, short-accepted, short-if, short-then}
 use Rattle.answers.proofs.searches.Laws.{first-same}
 use Rattle.checks.specs.Input.{inputAnswer, WellFormed}
 use Rattle.checks.proofs.input.Laws.{input-formed, input-passes, input-short, input-other}
@@ -149,11 +149,7 @@ module _ (c s ls : List ℕ) (lo hi : ℤ) (room : ℕ) where
 
   pub range-other : Bytes c → Bytes s → rangeAnswer c s ls lo hi room .number ≡ 23 → ⊥
   unfolding rangeAnswer
-  range-other bc bs n =
-      let later = refuseIf (rangeWrong lo hi) 22 (accepted 0) in
-      let short = short-if {limit = 23} 22 (accepted 0) (omega arith) (short-accepted 0 (omega arith) (omega arith))
-      (rangeWrong lo hi) in
-      passes-or-fails (inputAnswer c s ls room)
-      (λ h. let e : later .number ≡ 23 = rw (then-on (inputAnswer c s ls room) later h) at n in
-      omega (arith, short .number-short))
-      (λ h. input-other c s ls room bc bs (rw (then-off (inputAnswer c s ls room) later h) at n))
+  range-other bc bs =
+      let Other : ℕ → Type 0 = λ m. m ≡ 23 → ⊥ in
+      number-then Other _ _ (input-other c s ls room bc bs)
+      (number-if Other _ 22 _ (λ e. omega arith) (number-accepted Other 0 (λ e. omega arith)))

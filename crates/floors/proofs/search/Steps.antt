@@ -32,7 +32,7 @@ use Rattle.checks.proofs.input.Laws.{input-formed, input-enough, room-formed}
 use Rattle.targets.specs.Targets.{aimOf, atFloor, targetOf}
 use Rattle.targets.specs.declared.targets.Aim.{Aim}
 use Rattle.sharing.specs.Shifts.{CheckedSheets}
-use Rattle.targets.proofs.targets.Laws.{floor-within-at}
+use Rattle.targets.proofs.targets.Laws.{floor-at, floor-within-at}
 use Rattle.sharing.proofs.shifts.Laws.{claim-eight, proof-eight}
 use Rattle.weighing.specs.Exact.{exactProof, Writable}
 use Rattle.weighing.proofs.weighed.Laws.{weighed-within}
@@ -285,8 +285,9 @@ module _ (c s : List ℕ) (own : Aim) (lo hi : ℤ) (given : Searchable c s own 
 
       pub found-told : (b : ℤ) (t k : ℕ) → b ≡ a .floor → t ≡ i + 1 → k ≡ rowCount s
           → tells (Found b t k) ≡ toldAfter s hi (first (passesAfter c s own hi) (floorCount lo hi))
-      unfolding tells toldAfter aimAfter atFloor
-      found-told b t k eb et ek = rw (← walked, q, eb, aim-is, et, ek, add-one)
+      unfolding tells toldAfter aimAfter
+      found-told b t k eb et ek =
+          rw (← walked, q, eb, aim-is, floor-at own (floorAfter hi i), et, ek, add-one)
 
       pub found-written : (o out : List ℕ) → o ≡ exactProof (targetOf c a) s ++ drop (length s) out
           → o ≡ outputAfter c s own hi out (first (passesAfter c s own hi) (floorCount lo hi))

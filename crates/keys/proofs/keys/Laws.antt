@@ -10,7 +10,7 @@ use lib.Pow.{pow-add, pow-mono}
 use borrow.Author.Tests.{eq-eqb, ne-eqb}
 use Rattle.bounds.specs.Bounds.{mostVariables}
 use Rattle.points.specs.Points.{Exponents, samePoint, hasMidpoint, midpointOf, pureAt, exponentsWithin}
-use Rattle.points.proofs.points.Laws.{same-eq, same-refl, within-more, midpoint-none, midpoint-more, whole-more, whole-sized}
+use Rattle.points.proofs.points.Laws.{same-eq, same-refl, pure-first, pure-later, within-more, midpoint-none, midpoint-more, whole-more, whole-sized}
 use Rattle.keys.specs.Keys.{keyOf}
 
 -- every exponent is below a bound
@@ -54,10 +54,10 @@ key-zeros (suc n) = omega (arith, key-zeros n)
 
 -- a pure power's key
 pub key-pure : (n i e : ℕ) → i < n → keyOf (pureAt n i e) ≡ e * 2 ^ (8 * i)
-unfolding keyOf pureAt
+unfolding keyOf
 key-pure zero i e l = absurd (omega arith)
-key-pure (suc n) zero e l = omega (arith, key-zeros n)
-key-pure (suc n) (suc i) e l = rw (byte-more i) (omega (arith, key-pure n i e (omega arith)))
+key-pure (suc n) zero e l = rw (pure-first n e) (omega (arith, key-zeros n))
+key-pure (suc n) (suc i) e l = rw (pure-later n i e, byte-more i) (omega (arith, key-pure n i e (omega arith)))
 
 -- a midpoint's key is half the sum of its ends' keys
 pub key-midpoint : (v w : Exponents) → hasMidpoint v w ≡ true → keyOf v + keyOf w ≡ keyOf (midpointOf v w) * 2

@@ -1,7 +1,7 @@
 -- Laws of the checks 24 and 25: the test of a limit and its words, what it says of a sheet that it passes them, and how
 -- short their answers are.
 use mathlib.Core.Path.{_≡_, refl, sym, _∙_}
-use mathlib.Core.Bool.{true, false, and-eq-true-iff, Bool, not}
+use mathlib.Core.Bool.{true, false, and-eq-true-iff}
 use mathlib.Core.List.{List}
 use mathlib.Core.Logic.{_⊎_, inl, inr, _↔_}
 use Prim.Native.Nat.{ℕ, _<_, _≤_}
@@ -10,11 +10,8 @@ use native.Mathlib.Omega.{arith}
 use lib.ListN.{length}
 use borrow.Author.Tests.{eq-eqb, ne-eqb, eqb-true, le-leb, leb-true, not-false}
 use Rattle.bounds.specs.Bounds.{mostVariables}
-use Rattle.answers.specs.Answers.{accepted, refused, refuseIf, refuseAt, Passes, Short}
-use Rattle.answers.specs.Searches.{first}
-use Rattle.answers.specs.declared.searches.Found.{Found}
-use Rattle.answers.specs.declared.searches.Found.the-variants.{At, Nothing}
-use Rattle.answers.proofs.answers.Laws.{passes-if, passes-at, if-on, at-on, accepted-passes, short-accepted, short-if, short-at}
+use Rattle.answers.specs.Answers.{Passes, Short}
+use Rattle.answers.proofs.answers.Laws.{number-accepted, number-if, number-at, passes-if, passes-at, if-on, at-on, accepted-passes, short-accepted, short-if, short-at}
 use Rattle.answers.proofs.searches.Laws.{none-wrong, all-right}
 use Rattle.squares.specs.declared.limits.Limit.{Limit}
 use Rattle.sheets.specs.Layout.{variables, limitsLength, LimitsRoom}
@@ -120,13 +117,11 @@ limits-short n l h k =
 
 -- a search says 23 of its own
 pub limits-other : (n : ℕ) (l : List ℕ) → limitsAnswer n l .number ≡ 23 → ⊥
-unfolding limitsAnswer refuseIf refuseAt refused accepted
-limits-other n l = go (not (limitsShaped n l)) (first (limitBreaks l n) n)
-  where
-    go : (b : Bool) (f : Found) → refuseIf b 24 (refuseAt f 25 (accepted 0)) .number ≡ 23 → ⊥
-    go true f e = omega arith
-    go false (At i) e = omega arith
-    go false Nothing e = omega arith
+unfolding limitsAnswer
+limits-other n l =
+    let Other : ℕ → Type 0 = λ m. m ≡ 23 → ⊥ in
+    number-if Other _ 24 _ (λ e. omega arith)
+    (number-at Other _ 25 _ (λ e. omega arith) (number-accepted Other 0 (λ e. omega arith)))
 
 -- ---- the sheet that limits no variable
 

@@ -1,12 +1,12 @@
 -- Laws of the limits sheet: each limit by value is the sheet's, and after the last variable there is none; the sheet
 -- that limits no variable.
-use mathlib.Core.Path.{_≡_, refl}
-use mathlib.Core.List.{List}
+use mathlib.Core.Path.{_≡_, refl, _∙_}
+use mathlib.Core.List.{List, _∷_}
 use Prim.Native.Nat.{ℕ, zero, suc, _+_, _*_, _<_, _≤_}
 use native.Mathlib.Decide.{decLt}
 use native.Mathlib.Omega.{arith}
-use lib.ListN.{length, getD, length-replicate}
-use Rattle.integers.specs.Words.{u32At}
+use lib.ListN.{length, getD, replicate, length-replicate}
+use Rattle.integers.proofs.words.Laws.{u32-bytes}
 use Rattle.points.proofs.points.Laws.{zeros-get, padded-get, padded-past}
 use Rattle.squares.specs.Domains.{Unlimited}
 use Rattle.sheets.specs.Layout.{variables, boundAt, multiplierAt, limitsLength}
@@ -29,6 +29,10 @@ module _ (l : List ℕ) (n i : ℕ) where
 -- ---- the sheet that limits no variable
 
 module _ (n : ℕ) where
+  pub none-bytes : noLimits n ≡ n ∷ replicate (7 * n) 0
+  unfolding noLimits
+  none-bytes = refl
+
   none-byte : (j : ℕ) → 0 < j → getD (noLimits n) j 0 ≡ 0
   unfolding noLimits
   none-byte zero l = absurd (omega arith)
@@ -43,13 +47,13 @@ module _ (n : ℕ) where
   none-variables = refl
 
   pub none-limit : (m i : ℕ) → IsUnlimited (limitOf (noLimits n) m i)
-  unfolding limitOf u32At
+  unfolding limitOf
   none-limit m i = record {
     power-none = none-byte _ (omega arith);
     bound-none = rw (none-byte (boundAt i) (omega arith), none-byte (boundAt i + 1) (omega arith));
     multiplier-none =
         let at = multiplierAt m i in
-        rw (none-byte at (omega arith), none-byte (at + 1) (omega arith))
+        u32-bytes (noLimits n) at ∙ rw (none-byte at (omega arith), none-byte (at + 1) (omega arith))
         (rw (none-byte (at + 2) (omega arith), none-byte (at + 3) (omega arith)));
   }
 

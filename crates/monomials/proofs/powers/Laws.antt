@@ -4,7 +4,7 @@ use mathlib.Core.Path.{_≡_, refl, sym, _∙_, ap}
 use mathlib.Core.Bool.{true, Bool, false, cond}
 use mathlib.Core.List.{List, [], _∷_}
 use Prim.Native.Nat.{ℕ, zero, suc, _+_, _-_, _/_, _%_, _^_, _≤_, _<_}
-use native.Mathlib.Nat.{zero-add, suc-add, zero-div}
+use native.Mathlib.Nat.{zero-add, suc-add, zero-div, pow-zero, pow-suc}
 use native.Mathlib.Decide.{ℕ-discrete}
 use native.Mathlib.Omega.{arith}
 use lib.IntN.{ℤ, pos, negsuc, _*ℤ_, natAbs, one, *ℤ-one}
@@ -12,10 +12,10 @@ use lib.ListN.{getD, replicate}
 use lib.Signed.{_≤ℤ_}
 use lib.Dec.{leb}
 use borrow.Author.Tests.{leb-true, leb-false, le-leb, lt-leb}
-use Rattle.integers.proofs.Integers.{one-*ℤ, *ℤ-assoc, *ℤ-swap, *ℤ-nonneg, pos-nonneg, square-nonneg}
+use Rattle.integers.proofs.Integers.{one-*ℤ, *ℤ-assoc, *ℤ-swap, abs-mul, *ℤ-nonneg, pos-nonneg, square-nonneg}
 use Rattle.bounds.specs.Bounds.{greatestValue}
 use Rattle.points.specs.Points.{Exponents, hasMidpoint, midpointOf, OddsMasked, keepsSign, pureAt}
-use Rattle.points.proofs.points.Laws.{pure-elsewhere, masked-more, odds-more, keeps-means, midpoint-none, midpoint-more, whole-more, whole-sized}
+use Rattle.points.proofs.points.Laws.{pure-first, pure-later, pure-elsewhere, masked-more, odds-more, keeps-means, midpoint-none, midpoint-more, whole-more, whole-sized}
 use Rattle.monomials.specs.Powers.{powerOf, monomialOf, variable, Allowed, AllowedExactly, Represents, within}
 use Rattle.monomials.specs.declared.powers.Bounded.the-variants.{Value, TooLarge}
 
@@ -49,6 +49,12 @@ power-sign x e f = go (ℕ-discrete (e % 2) 1)
     go : Dec (e % 2 ≡ 1) → pos 0 ≤ℤ powerOf x e
     go (yes h) = power-nonneg x e (f h)
     go (no h) = power-even x e (omega arith)
+
+-- its absolute value
+pub power-abs : (x : ℤ) (e : ℕ) → natAbs (powerOf x e) ≡ natAbs x ^ e
+unfolding powerOf
+power-abs x zero = sym (pow-zero (natAbs x))
+power-abs x (suc e) = abs-mul x (powerOf x e) ∙ rw (power-abs x e) (omega (arith, pow-suc (natAbs x) e))
 
 power-one : (e : ℕ) → powerOf (pos 1) e ≡ pos 1
 unfolding powerOf
@@ -84,12 +90,13 @@ monomial-constant (x ∷ xs) (suc n) = one-*ℤ (monomialOf xs (replicate n 0)) 
 
 -- that of a pure power is the power
 pub pure-value : (x : List ℤ) (n i e : ℕ) → i < n → monomialOf x (pureAt n i e) ≡ powerOf (variable x i) e
-unfolding monomialOf pureAt one powerOf
+unfolding monomialOf one powerOf
 pure-value x zero i e l = absurd (omega arith)
-pure-value [] (suc n) zero e l = sym (power-one e)
-pure-value [] (suc n) (suc i) e l = sym (power-one e)
-pure-value (x ∷ xs) (suc n) zero e l = rw (monomial-constant xs n) (*ℤ-one (powerOf x e))
-pure-value (x ∷ xs) (suc n) (suc i) e l = one-*ℤ (monomialOf xs (pureAt n i e)) ∙ pure-value xs n i e (omega arith)
+pure-value [] (suc n) zero e l = rw (pure-first n e) (sym (power-one e))
+pure-value [] (suc n) (suc i) e l = rw (pure-later n i e) (sym (power-one e))
+pure-value (x ∷ xs) (suc n) zero e l = rw (pure-first n e, monomial-constant xs n) (*ℤ-one (powerOf x e))
+pure-value (x ∷ xs) (suc n) (suc i) e l =
+    rw (pure-later n i e) (one-*ℤ (monomialOf xs (pureAt n i e)) ∙ pure-value xs n i e (omega arith))
 
 -- never negative where every odd exponent belongs to a variable that is not
 odds-sign : (mask : ℕ) (x : List ℤ) (α : Exponents) → Allowed mask x → OddsMasked mask α → pos 0 ≤ℤ monomialOf x α

@@ -188,6 +188,15 @@ module _ (n i e : ℕ) where
   unfolding pureAt
   pure-elsewhere j d = getD-set-other (replicate n 0) i j e 0 d ∙ zeros-get n j
 
+-- of the first variable, and of a later one
+pub pure-first : (n e : ℕ) → pureAt (suc n) 0 e ≡ e ∷ replicate n 0
+unfolding pureAt
+pure-first n e = refl
+
+pub pure-later : (n i e : ℕ) → pureAt (suc n) (suc i) e ≡ 0 ∷ pureAt n i e
+unfolding pureAt
+pure-later n i e = refl
+
 -- with exponent 0 it is the constant
 pub pure-none : (n i : ℕ) → pureAt n i 0 ≡ replicate n 0
 unfolding pureAt

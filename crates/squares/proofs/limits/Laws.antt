@@ -1,21 +1,21 @@
 -- Laws of limits: how far from 0 a limited variable goes, and what limits add, at a point and in worth: at most 0, at
 -- absolute values, wherever the variables are within them.
-use mathlib.Core.Path.{_≡_, refl, sym, _∙_}
+use mathlib.Core.Path.{_≡_, refl, _∙_}
 use mathlib.Core.Bool.{Bool, true, false, cond}
 use mathlib.Core.List.{List}
 use Prim.Native.Nat.{ℕ, zero, suc, _*_, _^_, _<_, _≤_}
 use native.Mathlib.Decide.{decLe}
-use native.Mathlib.Nat.{mul-le-mul-left, pow-zero, pow-suc, pow-le-pow-left, pow-lt-pow-left, le-refl}
+use native.Mathlib.Nat.{mul-le-mul-left, pow-zero, pow-le-pow-left, pow-lt-pow-left, le-refl}
 use native.Mathlib.Omega.{arith}
 use lib.IntN.{ℤ, pos, negℤ, natAbs, _+ℤ_, _*ℤ_, +ℤ-idl, +ℤ-idr}
 use lib.ListN.{length, replicate, length-replicate}
 use lib.Signed.{_≤ℤ_, ≤ℤ-refl}
-use Rattle.integers.proofs.Integers.{ring, ints, by-eq, by-le, +ℤ-mono, abs-mul}
+use Rattle.integers.proofs.Integers.{ring, ints, by-eq, by-le, +ℤ-mono}
 use Rattle.points.specs.Points.{Exponents, samePoint, pureAt}
 use Rattle.points.proofs.points.Laws.{pure-length, pure-none}
 use Rattle.points.proofs.Lists.{all-append}
-use Rattle.monomials.specs.Powers.{powerOf, monomialOf, variable}
-use Rattle.monomials.proofs.powers.Laws.{monomial-constant, pure-value}
+use Rattle.monomials.specs.Powers.{monomialOf, variable}
+use Rattle.monomials.proofs.powers.Laws.{power-abs, monomial-constant, pure-value}
 use Rattle.squares.specs.Sums.{Sum, coefficient, value}
 use Rattle.squares.specs.Domains.{Domain, Unlimited, WithinLimit, WithinExactly, Admits, limitAt, limitsTo, limitSum}
 use Rattle.squares.specs.Decomposition.{Sized}
@@ -25,13 +25,8 @@ use Rattle.squares.proofs.rows.Laws.{absolute}
 
 -- ---- how far from 0
 
-abs-power : (x : ℤ) (e : ℕ) → natAbs (powerOf x e) ≡ natAbs x ^ e
-unfolding powerOf
-abs-power x zero = sym (pow-zero (natAbs x))
-abs-power x (suc e) = abs-mul x (powerOf x e) ∙ rw (abs-power x e) (omega (arith, pow-suc (natAbs x) e))
-
 pub within-exactly : WithinExactly
-within-exactly l x = rw (abs-power x (l .power)) (to (l .power), from (l .power))
+within-exactly l x = rw (power-abs x (l .power)) (to (l .power), from (l .power))
   where
     to : (e : ℕ) → (0 < e → natAbs x ≤ l .bound) → natAbs x ^ e ≤ l .bound ^ e
     to zero f = rw (pow-zero (natAbs x), pow-zero (l .bound)) (le-refl 1)

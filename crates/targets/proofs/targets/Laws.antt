@@ -32,6 +32,25 @@ pub targets-are : (c s l : List ℕ) (α : Exponents) → targetOf c (aimOf c s 
 unfolding aimOf targetOf
 targets-are c s l α = refl
 
+-- what it is made of
+module _ (c s l : List ℕ) where
+  pub aim-floor : aimOf c s l .floor ≡ floorOf c
+  unfolding aimOf
+  aim-floor = refl
+
+  pub aim-scale : aimOf c s l .scale ≡ scaleOf s
+  unfolding aimOf
+  aim-scale = refl
+
+  pub aim-limits : aimOf c s l .limits ≡ limitsOf l (variables c)
+  unfolding aimOf
+  aim-limits = refl
+
+-- with another floor
+pub floor-at : (a : Aim) (b : ℤ) → atFloor a b .floor ≡ b
+unfolding atFloor
+floor-at a b = refl
+
 pub floor-within-at : (a : Aim) (b : ℤ) → AimWithin a → natAbs b ≤ greatestWeight → AimWithin (atFloor a b)
 unfolding atFloor
 floor-within-at a b h w =
