@@ -6,7 +6,6 @@ use lib.Dec.{ltb}
 use lib.ListN.{length}
 use Rattle.answers.specs.Answers.{Answer, accepted, refuseIf, andThen, Passes}
 use Rattle.sheets.specs.Layout.{variables, shapeOf}
-use Rattle.limits.specs.LimitsSheet.{noLimits}
 use Rattle.limits.specs.LimitChecks.{limitsAnswer}
 use Rattle.claims.specs.ClaimChecks.{claimAnswer}
 use Rattle.checks.specs.ProofChecks.{headerAnswer, rowsAnswer}
@@ -38,8 +37,8 @@ formedAnswer c s l = andThen (headAnswer c s) (andThen (limitsAnswer (variables 
 abbrev pub WellFormed : List ℕ → List ℕ → List ℕ → Type 0
 WellFormed c s l = Passes (formedAnswer c s l)
 
--- no variable limited: the checks are then 1 to 15 alone, in the order of their numbers
-abbrev pub InputUnlimited : Type 0
-InputUnlimited =
-    (c s : List ℕ) (room : ℕ)
-    → inputAnswer c s (noLimits (variables c)) room ≡ andThen (headAnswer c s) (bodyAnswer s room)
+-- with limits that pass 24 and 25 the checks are 1 to 15 alone, in the order of their numbers, and well-formed is
+-- document 01's
+pub record InputUnlimited (c s l : List ℕ) : Type 0 where
+  pub input : (room : ℕ) → inputAnswer c s l room ≡ andThen (headAnswer c s) (bodyAnswer s room)
+  pub formed : formedAnswer c s l ≡ andThen (headAnswer c s) (rowsAnswer s (shapeOf s))

@@ -1,25 +1,48 @@
 -- The search with no variable limited, from the check's law.
-use mathlib.Core.Path.{_≡_, ap}
+use mathlib.Core.Path.{_≡_, refl, ap}
 use mathlib.Core.List.{List}
 use Prim.Native.Nat.{ℕ}
 use native.Mathlib.Omega.{arith}
 use lib.IntN.{ℤ}
+use lib.ListN.{length}
 use Rattle.answers.specs.Answers.{blameless}
+use Rattle.answers.proofs.searches.Laws.{first-same}
 use Rattle.sheets.specs.Layout.{variables}
 use Rattle.sheets.specs.ClaimSheet.{withFloor}
 use Rattle.sheets.proofs.claim_sheet.Laws.{floored-before}
+use Rattle.limits.specs.LimitChecks.{LimitsNone}
 use Rattle.checks.proofs.input.Laws.{input-unlimited}
+use Rattle.judging.specs.Unlimited.{CheckUnlimited}
 use Rattle.judging.proofs.Unlimited.{check-unlimited}
-use Rattle.floors.specs.Search.{rangeAnswer, accepts}
-use Rattle.floors.specs.Unlimited.{SearchUnlimited}
+use Rattle.floors.specs.Search.{Told, found, refusal, rangeAnswer, floorCount, floorAfter, accepts, refusedBefore, searchOf, outputBy, searchOutput}
+use Rattle.floors.specs.Unlimited.{plainRange, plainBefore, plainSearch, plainOutputBy, SearchUnlimited}
 
-pub search-unlimited : (c s : List ℕ) → SearchUnlimited c s
-unfolding rangeAnswer accepts
-search-unlimited c s = record {
-  range = λ lo hi room. rw (input-unlimited c s room);
-  accepted = λ room b. ap blameless (rw (same b) at (check-unlimited (withFloor c b) s .answer room));
-  written = λ out b. rw (same b) at (check-unlimited (withFloor c b) s .output out);
-}
-  where
-    same : (b : ℤ) → variables (withFloor c b) ≡ variables c
-    same b = floored-before c b 0 (omega arith)
+module _ (c s l : List ℕ) (none : LimitsNone (variables c) l) where
+  -- the check of each floor
+  each : (b : ℤ) → CheckUnlimited (withFloor c b) s l
+  each b = check-unlimited (withFloor c b) s l (rw (floored-before c b 0 (omega arith)) none)
+
+  range : (lo hi : ℤ) (room : ℕ) → rangeAnswer c s l lo hi room ≡ plainRange c s lo hi room
+  unfolding rangeAnswer plainRange
+  range lo hi room = rw (input-unlimited c s l (none .passes) .input room)
+
+  before : (lo hi : ℤ) (room : ℕ) → refusedBefore c s l lo hi room ≡ plainBefore c s lo hi room
+  unfolding refusedBefore plainBefore accepts
+  before lo hi room =
+      first-same _ _ (floorCount lo hi) (λ i l. ap blameless (each (floorAfter hi i) .answer room))
+
+  answer : (lo hi : ℤ) (room : ℕ) → searchOf c s l lo hi room ≡ plainSearch c s lo hi room
+  unfolding searchOf plainSearch
+  answer lo hi room = rw (range lo hi room, before lo hi room)
+
+  written : (out : List ℕ) (t : Told) → outputBy c s l out t ≡ plainOutputBy c s out t
+  unfolding outputBy plainOutputBy
+  written out (found b tried k) = each b .output out
+  written out (refusal answer) = refl
+
+  pub search-unlimited : SearchUnlimited c s l
+  unfolding searchOutput
+  search-unlimited = record {
+    answer = answer;
+    output = λ lo hi out. rw (answer lo hi (length out)) (written out _);
+  }

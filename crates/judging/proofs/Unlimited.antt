@@ -5,8 +5,8 @@ use Prim.Native.Nat.{ℕ}
 use lib.ListN.{length}
 use Rattle.squares.specs.Domains.{Unlimited}
 use Rattle.sheets.specs.Layout.{variables}
-use Rattle.limits.specs.LimitsSheet.{limitIn, noLimits}
-use Rattle.limits.proofs.limits_sheet.Laws.{none-unlimited}
+use Rattle.limits.specs.LimitsSheet.{limitIn}
+use Rattle.limits.specs.LimitChecks.{LimitsNone}
 use Rattle.checks.proofs.input.Laws.{input-unlimited}
 use Rattle.targets.specs.Targets.{aimOf}
 use Rattle.targets.specs.Unlimited.{plainTarget}
@@ -16,12 +16,9 @@ use Rattle.weighing.proofs.Unlimited.{weighed-unlimited}
 use Rattle.judging.specs.Check.{targetsOf, checkAnswer, outputOf}
 use Rattle.judging.specs.Unlimited.{plainTargets, plainAnswer, plainOutput, CheckUnlimited}
 
-module _ (c s : List ℕ) where
-  abbrev l : List ℕ
-  l = noLimits (variables c)
-
+module _ (c s l : List ℕ) (none : LimitsNone (variables c) l) where
   unlimited : Unlimited (limitIn (aimOf c s l .limits))
-  unlimited = rw (aim-limits c s l) (none-unlimited (variables c))
+  unlimited = rw (aim-limits c s l) (none .unlimited)
 
   same : plainTarget c (aimOf c s l .scale) (aimOf c s l .floor) ≡ plainTargets c s
   unfolding plainTargets
@@ -33,11 +30,18 @@ module _ (c s : List ℕ) where
 
   answer : (room : ℕ) → checkAnswer c s l room ≡ plainAnswer c s room
   unfolding checkAnswer plainAnswer
-  answer room = rw (input-unlimited c s room, weighed-unlimited c s (aimOf c s l) unlimited, same)
+  answer room =
+      rw (
+        input-unlimited c s l (none .passes) .input room,
+        weighed-unlimited c s (aimOf c s l) unlimited,
+        same,
+      )
 
-pub check-unlimited : (c s : List ℕ) → CheckUnlimited c s
-unfolding outputOf plainOutput
-check-unlimited c s = record {
-  answer = answer c s;
-  output = λ out. rw (answer c s (length out), plain-targets c s);
-}
+  pub check-unlimited : CheckUnlimited c s l
+  unfolding outputOf plainOutput
+  check-unlimited = record {
+    answer = answer;
+    output = λ out. rw (answer (length out), plain-targets);
+    formed = input-unlimited c s l (none .passes) .formed;
+    targets = λ α. rw plain-targets;
+  }

@@ -7,15 +7,15 @@ use lib.IntN.{ℤ}
 use lib.ListN.{length, drop}
 use Rattle.answers.specs.Answers.{Answer, andThen, blameless}
 use Rattle.points.specs.Points.{Exponents}
-use Rattle.sheets.specs.Layout.{variables}
+use Rattle.sheets.specs.Layout.{shapeOf}
 use Rattle.sheets.specs.ClaimSheet.{floorOf}
 use Rattle.rows.specs.ProofSheet.{scaleOf}
-use Rattle.limits.specs.LimitsSheet.{noLimits}
-use Rattle.checks.specs.Input.{headAnswer, bodyAnswer}
+use Rattle.checks.specs.ProofChecks.{rowsAnswer}
+use Rattle.checks.specs.Input.{headAnswer, bodyAnswer, formedAnswer}
 use Rattle.targets.specs.Unlimited.{plainTarget}
 use Rattle.weighing.specs.Exact.{exactProof}
 use Rattle.weighing.specs.Unlimited.{plainWeighed}
-use Rattle.judging.specs.Check.{checkAnswer, outputOf}
+use Rattle.judging.specs.Check.{targetsOf, checkAnswer, outputOf}
 
 -- the targets with the claim's floor and the proof's scale
 unfoldable pub plainTargets : List ℕ → List ℕ → Exponents → ℤ
@@ -29,6 +29,10 @@ unfoldable pub plainOutput : List ℕ → List ℕ → List ℕ → List ℕ
 plainOutput c s out =
     cond (blameless (plainAnswer c s (length out))) (exactProof (plainTargets c s) s ++ drop (length s) out) out
 
-pub record CheckUnlimited (c s : List ℕ) : Type 0 where
-  pub answer : (room : ℕ) → checkAnswer c s (noLimits (variables c)) room ≡ plainAnswer c s room
-  pub output : (out : List ℕ) → outputOf c s (noLimits (variables c)) out ≡ plainOutput c s out
+-- l limits no variable
+pub record CheckUnlimited (c s l : List ℕ) : Type 0 where
+  pub answer : (room : ℕ) → checkAnswer c s l room ≡ plainAnswer c s room
+  pub output : (out : List ℕ) → outputOf c s l out ≡ plainOutput c s out
+  -- behind the decision and exact proofs: what is well-formed, and the targets
+  pub formed : formedAnswer c s l ≡ andThen (headAnswer c s) (rowsAnswer s (shapeOf s))
+  pub targets : (α : Exponents) → targetsOf c s l α ≡ plainTargets c s α

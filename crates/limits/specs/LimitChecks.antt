@@ -7,11 +7,12 @@ use Prim.Native.Nat.{ℕ, _≤_}
 use lib.Dec.{eqb, leb}
 use lib.ListN.{length}
 use Rattle.bounds.specs.Bounds.{greatestLimit, greatestMultiplier}
-use Rattle.answers.specs.Answers.{Answer, accepted, refuseIf, refuseAt}
+use Rattle.answers.specs.Answers.{Answer, accepted, refuseIf, refuseAt, Passes}
 use Rattle.answers.specs.Searches.{first}
+use Rattle.squares.specs.Domains.{Unlimited}
 use Rattle.squares.specs.declared.limits.Limit.{Limit}
 use Rattle.sheets.specs.Layout.{variables, limitsLength}
-use Rattle.limits.specs.LimitsSheet.{limitOf, limitIn}
+use Rattle.limits.specs.LimitsSheet.{limitOf, limitsOf, limitIn}
 use Rattle.limits.specs.declared.limits_sheet.Limits.{Limits}
 
 -- 24: "limits sheet of wrong length or n", where n is the claim's
@@ -55,6 +56,11 @@ limitsAnswer n l =
     refuseIf (not (limitsShaped n l)) 24
     (refuseAt (first (limitBreaks l n) n) 25
     (accepted 0))
+
+-- a sheet that passes 24 and 25 and limits no variable
+pub record LimitsNone (n : ℕ) (l : List ℕ) : Type 0 where
+  pub passes : Passes (limitsAnswer n l)
+  pub unlimited : Unlimited (limitIn (limitsOf l n))
 
 -- limits by value that are as said
 pub record RightLimits (limits : Limits) : Type 0 where

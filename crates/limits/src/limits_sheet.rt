@@ -53,7 +53,7 @@ pub fn limits_of(limits: &[u8], n: usize) -> Limits
     }
 }
 
-// The limit of variable i.
+// The limit of variable i, of the limits by value.
 pub fn limit_in(limits: Limits, i: usize) -> Limit
     requires { ⌜ i < mostVariables ⌝ }
     ensures { λ r. ⌜ r ≡ limitIn limits i ⌝ }

@@ -27,7 +27,7 @@ ghost use Rattle.sharing.specs.Shifts.{CheckedSheets, IsRow, slotsBefore
 
 // A weight with its share of the error.
 fn moved(x: i64, target: i64, h: Holding) -> i64
-    requires { ⌜ (natAbs x ≤ greatestWeight) × (natAbs target ≤ 2 ^ 60) × (natAbs (h .sum) ≤ 2 ^ 42)
+    requires { ⌜ (natAbs x ≤ greatestWeight) × (natAbs target ≤ 2 ^ 51 + 2 ^ 59) × (natAbs (h .sum) ≤ 2 ^ 42)
         × (0 < h .count) ⌝ }
     ensures { λ r. ⌜ r ≡ x +ℤ share (target -ℤ h .sum) (h .count) (h .rank) ⌝ }
 {

@@ -1,4 +1,4 @@
-// Places in a sheet, and what both sheets begin with.
+// Places in a sheet, and n, with which every sheet begins.
 ghost use mathlib.Core.Path.{_≡_};
 ghost use Prim.Native.Nat.{_≤_};
 ghost use lib.ListN.{length};

@@ -13,7 +13,7 @@ use Rattle.points.proofs.points.Laws.{keeps-even}
 use Rattle.squares.specs.Sums.{Sum, coefficient}
 use Rattle.squares.specs.Domains.{Domain, Unlimited, limitSum}
 use Rattle.squares.specs.Targets.{lowered, worst, target}
-use Rattle.squares.proofs.limits.Laws.{limits-unlimited}
+use Rattle.squares.proofs.limits.Laws.{limits-unlimited, limits-idle}
 
 -- ---- the worst sign
 
@@ -57,10 +57,18 @@ module _ (D : Domain) (S : ℕ) (g : Sum) (α : Exponents) where
   unfolding target
   target-zero z k = rw (z, k, worst-zero (keepsSign (D .mask) α)) (ap pos (omega arith))
 
-  -- where no variable is limited
+  -- where the limits add nothing there: where no variable is limited, or every multiplier is 0
+  target-free : coefficient α (limitSum D) ≡ pos 0
+      → target D S g α ≡ pos S *ℤ worst (keepsSign (D .mask) α) (coefficient α g)
+  target-free z = target-is ∙ rw z (+ℤ-idr _)
+
   pub target-unlimited : Unlimited (D .limits)
       → target D S g α ≡ pos S *ℤ worst (keepsSign (D .mask) α) (coefficient α g)
-  target-unlimited u = target-is ∙ rw (limits-unlimited D α u) (+ℤ-idr _)
+  target-unlimited u = target-free (limits-unlimited D α u)
+
+  pub target-idle : ((i : ℕ) → D .limits i .multiplier ≡ 0)
+      → target D S g α ≡ pos S *ℤ worst (keepsSign (D .mask) α) (coefficient α g)
+  target-idle z = target-free (limits-idle D α z)
 
   -- and without a mask: "if every exponent is even"
   pub target-unmasked : Unlimited (D .limits) → D .mask ≡ 0

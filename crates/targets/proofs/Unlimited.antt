@@ -2,7 +2,7 @@
 use mathlib.Core.Path.{_∙_}
 use mathlib.Core.List.{List}
 use Prim.Native.Nat.{ℕ}
-use Rattle.squares.proofs.Targets.{target-unlimited}
+use Rattle.squares.proofs.Targets.{target-unlimited, target-idle}
 use Rattle.squares.proofs.Floor.{admits-allowed, floors-unlimited}
 use Rattle.sheets.specs.ClaimSheet.{domainWith, termsOf}
 use Rattle.limits.specs.LimitsSheet.{limitIn}
@@ -13,6 +13,7 @@ pub targets-unlimited : (c : List ℕ) → TargetsUnlimited c
 unfolding plainTarget
 targets-unlimited c = record {
   targets = λ a u α. target-of c a α ∙ target-unlimited (domainWith c (limitIn (a .limits))) (a .scale) _ α u;
+  idle = λ a z α. target-of c a α ∙ target-idle (domainWith c (limitIn (a .limits))) (a .scale) _ α z;
   floors = λ limits u b. floors-unlimited (domainWith c limits) b (termsOf c) u;
   admits = λ limits u x. (λ h. h .allowed, admits-allowed (domainWith c limits) x u);
 }

@@ -26,6 +26,9 @@ plainTarget c S b α =
 pub record TargetsUnlimited (c : List ℕ) : Type 0 where
   pub targets : (a : Aim) → Unlimited (limitIn (a .limits))
       → (α : Exponents) → targetOf c a α ≡ plainTarget c (a .scale) (a .floor) α
+  -- and where every multiplier is 0, limits change no target
+  pub idle : (a : Aim) → ((i : ℕ) → limitIn (a .limits) i .multiplier ≡ 0)
+      → (α : Exponents) → targetOf c a α ≡ plainTarget c (a .scale) (a .floor) α
   -- "The floor holds at whole points with masked variables at least 0"
   pub floors : (limits : ℕ → Limit) → Unlimited limits
       → (b : ℤ) → Floors (domainWith c limits) b (termsOf c)

@@ -13,7 +13,7 @@ use sheets::claim_sheet::term_count;
 use sheets::claim_sheet::term_key;
 use sheets::layout::variables;
 ghost use mathlib.Core.Path.{_≡_};
-ghost use Prim.Native.Nat.{_^_, _<_, _≤_};
+ghost use Prim.Native.Nat.{_+_, _^_, _<_, _≤_};
 ghost use lib.IntN.{pos, natAbs, _*ℤ_};
 ghost use lib.ListN.{length};
 ghost use Rattle.bounds.specs.Bounds.{mostVariables, greatestWeight, greatestScale};
@@ -128,7 +128,7 @@ fn scaled(scale: u64, c: i64) -> i64
 // scale.
 fn target_with(n: usize, mask: u8, aim: Aim, p: Point, key: u64, c: i64) -> i64
     requires { ⌜ (n ≤ mostVariables) × (natAbs c ≤ greatestWeight) × (AimWithin aim) ⌝ }
-    ensures { λ r. ⌜ (r ≡ targetWith n mask aim (exponents p) key c) × (natAbs r ≤ 2 ^ 60) ⌝ }
+    ensures { λ r. ⌜ (r ≡ targetWith n mask aim (exponents p) key c) × (natAbs r ≤ 2 ^ 51 + 2 ^ 59) ⌝ }
 {
     let lowered = lowered_by(c, aim, key);
     let own = scaled(aim.scale, worst(keeps_sign(p, mask), lowered));
@@ -138,7 +138,7 @@ fn target_with(n: usize, mask: u8, aim: Aim, p: Point, key: u64, c: i64) -> i64
 // The target at a point with its key.
 pub fn target_at(claim: &[u8], aim: Aim, p: Point, key: u64) -> i64
     requires { ⌜ Targeted (now claim) aim (exponents p) key ⌝ }
-    ensures { λ r. ⌜ (r ≡ targetOf (now (claim .entry)) aim (exponents p)) × (natAbs r ≤ 2 ^ 60) ⌝ }
+    ensures { λ r. ⌜ (r ≡ targetOf (now (claim .entry)) aim (exponents p)) × (natAbs r ≤ 2 ^ 51 + 2 ^ 59) ⌝ }
 {
     let n = variables(claim);
     let t = term_count(claim);
@@ -150,7 +150,7 @@ pub fn target_at(claim: &[u8], aim: Aim, p: Point, key: u64) -> i64
 pub fn term_target(claim: &[u8], aim: Aim, i: usize, p: Point, key: u64) -> i64
     requires { ⌜ (Targeted (now claim) aim (exponents p) key) × (i < termCount (now claim))
         × (exponents p ≡ termPoint (now claim) (variables (now claim)) i) ⌝ }
-    ensures { λ r. ⌜ (r ≡ targetOf (now (claim .entry)) aim (exponents p)) × (natAbs r ≤ 2 ^ 60) ⌝ }
+    ensures { λ r. ⌜ (r ≡ targetOf (now (claim .entry)) aim (exponents p)) × (natAbs r ≤ 2 ^ 51 + 2 ^ 59) ⌝ }
 {
     let n = variables(claim);
     let t = term_count(claim);

@@ -18,8 +18,8 @@ use Rattle.targets.specs.Targets.{targetOf}
 use Rattle.targets.specs.declared.targets.Aim.{Aim}
 use Rattle.sharing.specs.Sharing.{count}
 
--- the points that are looked at, in a claim of n variables and t terms: those of the terms, the constant's, then "the
--- points the limits add .., by variable"
+-- the points that are looked at, in a claim of n variables and t terms: those of the terms, the constant's, then the
+-- "points the limits add .., by variable"
 abbrev pub pointCount : ℕ → ℕ → ℕ
 pointCount n t = suc t + n
 

@@ -32,7 +32,7 @@ use Rattle.weighing.specs.Exact.{weightsFor, exactProof}
 use Rattle.weighing.specs.Weighed.{rowsJudged, weighedAnswer}
 use Rattle.judging.specs.Check.{targetsOf, checkAnswer, outputOf}
 use Rattle.floors.specs.Search as F
-use Rattle.worked.specs.Sheets.{joined, word, words, claimOf, proofOf, squareWith, square, squareProof, oneRow, bare, noRows, motzkin, motzkinProof, motzkinExchanged, motzkinBytes, motzkinProofBytes, oneTerm, masked, maskedSquare, maskedProduct, productProof, maskedCube, cubeProof, limit, unlimited, limitsWith, oneLimit, minusSquare, line, bareProof, lineProof, atZero}
+use Rattle.worked.specs.Sheets.{joined, word, words, claimOf, proofOf, squareWith, square, squareProof, oneRow, bare, noRows, motzkin, motzkinProof, motzkinExchanged, motzkinBytes, motzkinProofBytes, oneTerm, masked, maskedSquare, maskedProduct, productProof, maskedCube, cubeProof, limit, unlimited, limitsWith, oneLimit, minusSquare, parabola, oneAtOne, line, bareProof, lineProof, atZero}
 use Rattle.worked.specs.Judging.{spare, acceptsIn, refusesIn, accepts, refuses, motzkinExact, marked, tabled, withMask, worked, withLimits, cases, Worked, Targets, Exchanged}
 use Rattle.worked.specs.Searches as S
 
@@ -47,13 +47,13 @@ unfolding
     squareProof oneRow count errorAt shiftedWeight aimOf targetOf slotsTo rankOf shiftedWeights shiftRow slotsBefore
     shiftedRow shiftedRows headAnswer roomAnswer bodyAnswer restAnswer inputAnswer padded pureAt limitAt limitsTo
     limitOf limitsOf limitIn noLimits limitsShaped powerRight limitRight limitBreaks limitsAnswer rowsJudged limit
-    unlimited limitsWith oneLimit minusSquare line bareProof lineProof atZero acceptsIn refusesIn withLimits cases
-    S.findsIn S.refusesIn pointFor unheldAt unheld unheldAnswer negative indefinite judgePair judgeLone judgementOf
-    numberOf judgedAs firstsTo judgedAnswer weightsFor exactProof weighedAnswer targetsOf checkAnswer outputOf bare
-    noRows motzkin motzkinProof motzkinExchanged motzkinBytes motzkinProofBytes oneTerm masked maskedSquare
-    maskedProduct productProof maskedCube cubeProof spare accepts refuses motzkinExact marked tabled withMask worked
-    withFloor F.rangeWrong F.rangeAnswer F.floorCount F.floorAfter F.accepts F.refusedBefore F.toldAfter F.searchOf
-    F.outputBy F.searchOutput S.finds S.refuses S.heavy S.loneZero S.cases S.ranges S.worked
+    unlimited limitsWith oneLimit minusSquare parabola oneAtOne line bareProof lineProof atZero acceptsIn refusesIn
+    withLimits cases S.findsIn S.refusesIn pointFor unheldAt unheld unheldAnswer negative indefinite judgePair
+    judgeLone judgementOf numberOf judgedAs firstsTo judgedAnswer weightsFor exactProof weighedAnswer targetsOf
+    checkAnswer outputOf bare noRows motzkin motzkinProof motzkinExchanged motzkinBytes motzkinProofBytes oneTerm
+    masked maskedSquare maskedProduct productProof maskedCube cubeProof spare accepts refuses motzkinExact marked
+    tabled withMask worked withFloor F.rangeWrong F.rangeAnswer F.floorCount F.floorAfter F.accepts F.refusedBefore
+    F.toldAfter F.searchOf F.outputBy F.searchOutput S.finds S.refuses S.heavy S.loneZero S.cases S.ranges S.worked
 computed = (refl, (refl, refl), (refl, refl, refl, refl))
 
 pub all-worked : Worked

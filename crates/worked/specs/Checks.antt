@@ -81,7 +81,7 @@ small =
     ∷ limits (oneLimit 0 0 0 ++ (0 ∷ [])) (refused 24 0)
     ∷ limits (2 ∷ replicate 7 0) (refused 24 0)
     ∷ limits (limitsWith (unlimited ∷ unlimited ∷ [])) (record { number = 24; blamed = Answers.limits; value = 0 })
-    ∷ record { claim = square; proof = 0 ∷ squareProof; limits = []; answer = refused 9 0 }
+    ∷ record { claim = square; proof = squareProof ++ (0 ∷ []); limits = []; answer = refused 10 0 }
     ∷ record { claim = square; proof = oneRow 0 121 (pos 1) (pos 1) (pos 1); limits = []; answer = refused 24 0 }
     ∷ record {
       claim = square;

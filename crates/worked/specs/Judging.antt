@@ -15,7 +15,7 @@ use Rattle.rows.specs.ProofSheet.{rowsOf}
 use Rattle.limits.specs.LimitsSheet.{noLimits}
 use Rattle.sharing.specs.Shifts.{shiftedRows}
 use Rattle.judging.specs.Check.{targetsOf, checkAnswer, outputOf}
-use Rattle.worked.specs.Sheets.{claimOf, proofOf, squareWith, square, squareProof, oneRow, bare, noRows, motzkin, motzkinProof, motzkinExchanged, motzkinBytes, motzkinProofBytes, oneTerm, maskedSquare, maskedProduct, productProof, maskedCube, cubeProof, limit, unlimited, limitsWith, oneLimit, minusSquare, line, bareProof, lineProof, atZero}
+use Rattle.worked.specs.Sheets.{claimOf, proofOf, squareWith, square, squareProof, oneRow, bare, noRows, motzkin, motzkinProof, motzkinExchanged, motzkinBytes, motzkinProofBytes, oneTerm, masked, maskedSquare, maskedProduct, productProof, maskedCube, cubeProof, limit, unlimited, limitsWith, oneLimit, minusSquare, parabola, oneAtOne, line, bareProof, lineProof, atZero}
 
 -- three sheets and an output; the weights that every row has after the shift, the answer, and the output afterwards
 pub record Case : Type 0 where
@@ -151,6 +151,14 @@ withLimits =
     (bareProof 1)
     -- x is at least −5 within ±5
     ∷ acceptsIn line lineProof (oneLimit 2 5 1) (Pair (pos 25) (pos 1) (negsuc 9) ∷ []) 1 lineProof
+    -- −x² − 2y⁴, each variable with its own limit
+    ∷ acceptsIn (claimOf 2 (negsuc 40) ((0 ∷ 4 ∷ []) ∷ (2 ∷ 0 ∷ []) ∷ []) (negsuc 1 ∷ negsuc 0 ∷ []))
+    (proofOf 2 (pos 1) 0 [] []) (limitsWith (limit 2 3 1 ∷ limit 4 2 2 ∷ [])) [] 0 (proofOf 2 (pos 1) 0 [] [])
+    -- x − x² within ±3, with mask 1 and without
+    ∷ acceptsIn (masked 1 parabola) oneAtOne (oneLimit 2 3 1) (Lone (pos 1) ∷ []) 1 oneAtOne
+    ∷ refusesIn parabola oneAtOne (oneLimit 2 3 1) (Lone (negsuc 0) ∷ []) (refused 18 0)
+    -- Square, with a limit that changes no target
+    ∷ acceptsIn square squareProof (oneLimit 4 1023 0) (Pair (pos 1) (pos 1) (negsuc 1) ∷ []) 1 squareProof
     -- 16: "points the limits add are searched after the constant, by variable, with indices t + 1 + i"
     ∷ refusesIn (bare (pos 0)) noRows (oneLimit 2 1 1) [] (refused 16 0)
     ∷ refusesIn (claimOf 2 (pos 0) [] []) (atZero 2 (pos 0)) (limitsWith (unlimited ∷ limit 2 1 1 ∷ []))
@@ -160,7 +168,7 @@ withLimits =
     -- the greatest limits of eight variables
     ∷ refusesIn (claimOf 8 (pos 0) [] []) (atZero 8 (pos 0)) (limitsWith (replicate 8 (limit 4 1023 65536)))
     (Lone (negsuc (8 * (65536 * 1023 ^ 4) - 1)) ∷ []) (refused 16 1)
-    -- 24 comes before 11
+    -- 24 and 25 come before 11
     ∷ record {
       claim = square;
       proof = squareProof;
@@ -168,6 +176,15 @@ withLimits =
       output = replicate 21 7;
       weights = Pair (pos 1) (pos 1) (negsuc 1) ∷ [];
       answer = record { number = 24; blamed = limits; value = 0 };
+      written = replicate 21 7;
+    }
+    ∷ record {
+      claim = square;
+      proof = squareProof;
+      limits = oneLimit 3 1 0;
+      output = replicate 21 7;
+      weights = Pair (pos 1) (pos 1) (negsuc 1) ∷ [];
+      answer = record { number = 25; blamed = limits; value = 0 };
       written = replicate 21 7;
     }
     ∷ []

@@ -121,6 +121,13 @@ limitsWith limits =
 unfoldable pub oneLimit : ℕ → ℕ → ℕ → List ℕ
 oneLimit power L m = limitsWith (limit power L m ∷ [])
 
+-- x − x² with floor −9, and a lone row at 1
+unfoldable pub parabola : List ℕ
+parabola = claimOf 1 (negsuc 8) ((1 ∷ []) ∷ (2 ∷ []) ∷ []) (pos 1 ∷ negsuc 0 ∷ [])
+
+unfoldable pub oneAtOne : List ℕ
+oneAtOne = oneRow 1 1 (pos 1) (pos 0) (pos 0)
+
 -- −x² with a floor; x with floor −5
 unfoldable pub minusSquare : ℤ → List ℕ
 minusSquare b = claimOf 1 b ((2 ∷ []) ∷ []) (negsuc 0 ∷ [])

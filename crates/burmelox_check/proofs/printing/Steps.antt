@@ -16,13 +16,14 @@ use Rattle.sheets.specs.Layout.{variables, rowCount, shapeOf, ProofRoom}
 use Rattle.rows.specs.ProofSheet.{scaleOf, tripleOf, tripleFor}
 use Rattle.limits.specs.LimitsSheet.{noLimits}
 use Rattle.limits.proofs.limits_sheet.Laws.{none-bytes, none-length}
+use Rattle.limits.proofs.limit_checks.Laws.{none-limited}
 use Rattle.targets.specs.Targets.{aimOf}
 use Rattle.sharing.specs.Shifts.{CheckedSheets}
 use Rattle.sharing.proofs.shifts.Laws.{sheets-checked}
 use Rattle.weighing.specs.Exact.{weightsFor, exactProof}
 use Rattle.weighing.proofs.exact.Laws.{exact-length, exact-variables, exact-scale, exact-weights}
 use Rattle.judging.specs.Check.{targetsOf, checkAnswer, outputOf}
-use Rattle.judging.specs.Unlimited.{plainAnswer, plainOutput}
+use Rattle.judging.specs.Unlimited.{plainTargets, plainAnswer, plainOutput, CheckUnlimited}
 use Rattle.judging.proofs.Unlimited.{plain-targets, check-unlimited}
 use Rattle.judging.proofs.Promises.{check-promises, accepted-formed, accepted-within, accepted-rows, accepted-exact}
 use Rattle.text.specs.Text.{Written}
@@ -36,6 +37,10 @@ take-zeros : (k most : ℕ) → k ≤ most → take k (zeros most) ≡ zeros k
 take-zeros zero most h = refl
 take-zeros (suc k) zero h = absurd (omega arith)
 take-zeros (suc k) (suc most) h = ap (λ (l : List ℕ). 0 ∷ l) (take-zeros k most (omega arith))
+
+-- the check with no variable limited
+unlimited : (c s : List ℕ) → CheckUnlimited c s (noLimits (variables c))
+unlimited c s = check-unlimited c s (noLimits (variables c)) (none-limited (variables c))
 
 -- ---- said_variables
 
@@ -57,7 +62,7 @@ module _ (c : List ℕ) (n : ℕ) (en : n ≡ variables c) where
   module _ (s out o : List ℕ) (l : n < 256)
       (eo : o ≡ outputOf c s (take (1 + 7 * n) (set (replicate 1786 0) 0 n)) out) where
     pub sheets-output : o ≡ plainOutput c s out
-    sheets-output = eo ∙ rw (unlimited-is l) (check-unlimited c s .output out)
+    sheets-output = eo ∙ rw (unlimited-is l) (unlimited c s .output out)
 
     pub sheets-written : (m m′ : List ℕ) (v : Verdict) (end : ℕ) → Written m 0 (reportText c o (says v)) m′ end
         → says v ≡ checkAnswer c s (take (1 + 7 * n) (set (replicate 1786 0) 0 n)) (length out)
@@ -65,7 +70,7 @@ module _ (c : List ℕ) (n : ℕ) (en : n ≡ variables c) where
     unfolding sheetsText
     sheets-written m m′ v end w ev =
         let e : says v ≡ plainAnswer c s (length out) =
-        ev ∙ rw (unlimited-is l) (check-unlimited c s .answer (length out)) in
+        ev ∙ rw (unlimited-is l) (unlimited c s .answer (length out)) in
         rw (← e, ← sheets-output) w
 
 -- ---- print_input: e is where the claim ends, `most` the greatest length of an input
@@ -98,7 +103,7 @@ module _ (c s : List ℕ) where
   as-long = length-replicate {A = ℕ} (length s) 0
 
   answers : (room : ℕ) → checkAnswer c s ls room ≡ plainAnswer c s room
-  answers = check-unlimited c s .answer
+  answers = unlimited c s .answer
 
   module _ (p : Passes (plainAnswer c s (length s))) where
     h : Passes (checkAnswer c s ls (length s))
@@ -106,6 +111,9 @@ module _ (c s : List ℕ) where
 
     own : CheckedSheets c s (aimOf c s ls)
     own = sheets-checked c s ls (accepted-formed c s ls (length s) h)
+
+    targets : targetsOf c s ls ≡ plainTargets c s
+    targets = plain-targets c s ls (none-limited (variables c))
 
     abbrev τ : Exponents → ℤ
     τ = targetsOf c s ls
@@ -132,7 +140,7 @@ module _ (c s : List ℕ) where
     unfolding sheetsText acceptedLines
     accepted-text =
         let out = zeros (length s) in
-        rw (← (check-unlimited c s .output out), ← (answers (length out)), ← (plain-targets c s))
+        rw (← (unlimited c s .output out), ← (answers (length out)), ← targets)
         (rw (accepted-exact c s ls out as-long (rw as-long h), as-long, accepted-rows c s ls (length s) h)
         (accepted-lines c exact (rowCount s) (scaleOf s) (λ i. tripleFor (weightsFor τ s i))
         (omega (arith, own .claim .sized)) room (exact-scale τ s) weights))
@@ -163,7 +171,7 @@ module _ (c s : List ℕ) where
     promises =
         check-promises c s ls (zeros (length s)) _ _
         (λ h. rw (as-long, answers) (begins-passed h), λ h. passed-begins (rw (as-long, answers) at h))
-        (λ h. refl) b _ (rw (check-unlimited c s .output (zeros (length s))));
+        (λ h. refl) b _ (rw (unlimited c s .output (zeros (length s))));
   }
 
 -- every input has its lines

@@ -16,7 +16,7 @@ use Rattle.sheets.specs.ClaimSheet.{withFloor}
 use Rattle.sheets.proofs.claim_sheet.Laws.{floored-before}
 use Rattle.limits.specs.LimitsSheet.{limitsOf}
 use Rattle.limits.specs.LimitChecks.{limitsAnswer, RightLimits}
-use Rattle.limits.proofs.limit_checks.Laws.{limits-room, limits-right, limits-short, limits-other, none-passes}
+use Rattle.limits.proofs.limit_checks.Laws.{limits-room, limits-right, limits-short, limits-other}
 use Rattle.claims.specs.ClaimChecks.{claimAnswer, ClaimFacts}
 use Rattle.claims.proofs.claim_checks.Laws.{claim-facts, claim-floored, claim-short}
 use Rattle.checks.specs.ProofChecks.{rowsAnswer, HeaderFacts, ProofFacts}
@@ -142,6 +142,6 @@ input-other c s l room bc bs =
 
 -- ---- without limits
 
-pub input-unlimited : InputUnlimited
-unfolding inputAnswer restAnswer
-input-unlimited c s room = rw (then-on _ _ (none-passes (variables c)))
+pub input-unlimited : (c s l : List ℕ) → Passes (limitsAnswer (variables c) l) → InputUnlimited c s l
+unfolding inputAnswer restAnswer formedAnswer
+input-unlimited c s l h = record { input = λ room. rw (then-on _ _ h); formed = rw (then-on _ _ h) }

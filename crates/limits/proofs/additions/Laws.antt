@@ -42,7 +42,7 @@ pub fourth-small : (b : ℕ) → b ≤ greatestLimit → b * b * (b * b) ≤ 2 ^
 fourth-small b h = mul-le-mul {n₂ = 2 ^ 20} (square-small b h) (square-small b h)
 
 module _ (l : Limit) (h : IsLimited l) where
-  pub raised-small : l .bound ^ l .power ≤ 2 ^ 40
+  raised-small : l .bound ^ l .power ≤ 2 ^ 40
   raised-small = go (h .power-right)
     where
       go : (l .power ≡ 2) ⊎ (l .power ≡ 4) → l .bound ^ l .power ≤ 2 ^ 40

@@ -14,14 +14,14 @@ use Rattle.answers.specs.Answers.{Passes, Short}
 use Rattle.answers.proofs.answers.Laws.{number-accepted, number-if, number-at, passes-if, passes-at, if-on, at-on, accepted-passes, short-accepted, short-if, short-at}
 use Rattle.answers.proofs.searches.Laws.{none-wrong, all-right}
 use Rattle.squares.specs.declared.limits.Limit.{Limit}
-use Rattle.sheets.specs.Layout.{variables, limitsLength, LimitsRoom}
+use Rattle.sheets.specs.Layout.{limitsLength, LimitsRoom}
 use Rattle.limits.specs.LimitsSheet.{limitOf, limitsOf, limitIn, noLimits}
-use Rattle.limits.specs.LimitChecks.{limitsShaped, RightLimit, powerRight, limitRight, limitBreaks, limitsAnswer, RightLimits}
-use Rattle.limits.proofs.limits_sheet.Laws.{limit-read, limit-past, none-length, none-variables, none-limit}
+use Rattle.limits.specs.LimitChecks.{limitsShaped, RightLimit, powerRight, limitRight, limitBreaks, limitsAnswer, RightLimits, LimitsNone}
+use Rattle.limits.proofs.limits_sheet.Laws.{limit-read, limit-past, none-length, none-variables, none-limit, none-unlimited}
 
 -- ---- the test and its words
 
-pub power-means : (p : ℕ) → (powerRight p ≡ true) ↔ ((p ≡ 2) ⊎ (p ≡ 4))
+power-means : (p : ℕ) → (powerRight p ≡ true) ↔ ((p ≡ 2) ⊎ (p ≡ 4))
 unfolding powerRight
 power-means p = (go (ℕ-discrete p 2), from)
   where
@@ -87,15 +87,15 @@ module _ (l : Limit) where
 
 -- ---- a sheet that passes 24 and 25
 
-pub shaped-means : (n : ℕ) (l : List ℕ) → limitsShaped n l ≡ true → (length l ≡ limitsLength n) × (variables l ≡ n)
+pub shaped-room : (n : ℕ) (l : List ℕ) → limitsShaped n l ≡ true → n ≤ mostVariables → LimitsRoom l n
 unfolding limitsShaped
-shaped-means n l t = let q = and-eq-true-iff _ _ .0 t in (eqb-true _ _ (q .0), eqb-true _ _ (q .1))
+shaped-room n l t few =
+    let sized : length l ≡ limitsLength n = eqb-true _ _ (and-eq-true-iff _ _ .0 t .0) in
+    record { few = few; long = omega arith }
 
 pub limits-room : (n : ℕ) (l : List ℕ) → n ≤ mostVariables → Passes (limitsAnswer n l) → LimitsRoom l n
 unfolding limitsAnswer
-limits-room n l few h =
-    let sized = shaped-means n l (not-false _ (passes-if _ 24 _ refl h .0)) .0 in
-    record { few = few; long = omega arith }
+limits-room n l few h = shaped-room n l (not-false _ (passes-if _ 24 _ refl h .0)) few
 
 pub limits-right : (n : ℕ) (l : List ℕ) → Passes (limitsAnswer n l) → RightLimits (limitsOf l n)
 unfolding limitsAnswer limitBreaks
@@ -125,10 +125,13 @@ limits-other n l =
 
 -- ---- the sheet that limits no variable
 
-pub none-passes : (n : ℕ) → Passes (limitsAnswer n (noLimits n))
+none-passes : (n : ℕ) → Passes (limitsAnswer n (noLimits n))
 unfolding limitsAnswer limitBreaks limitsShaped
 none-passes n =
     accepted-passes _ 0
     (if-on _ 24 _ (rw (eq-eqb _ _ (none-length n), eq-eqb _ _ (none-variables n)))
     ∙ at-on _ 25 _ (sym (all-right _ n
     (λ i k. rw (limit-means (limitOf (noLimits n) n i) .1 (inl (none-limit n n i)))))))
+
+pub none-limited : (n : ℕ) → LimitsNone n (noLimits n)
+none-limited n = record { passes = none-passes n; unlimited = none-unlimited n }

@@ -4,7 +4,6 @@ use mathlib.Core.Bool.{Bool, true, false, not}
 use mathlib.Core.Logic.{_↔_}
 use mathlib.Core.List.{List}
 use Prim.Native.Nat.{ℕ, _<_, _≤_}
-use native.Mathlib.Omega.{arith}
 use lib.Dec.{eqb, ltb}
 use lib.ListN.{length}
 use borrow.Author.Tests.{eq-eqb, ne-eqb, le-leb, lt-leb, not-true, not-false}
@@ -14,7 +13,7 @@ use Rattle.squares.specs.declared.limits.Limit.{Limit}
 use Rattle.sheets.specs.Layout.{variables, limitsLength, LimitsRoom}
 use Rattle.limits.specs.LimitsSheet.{limitOf}
 use Rattle.limits.specs.LimitChecks.{limitsShaped, RightLimit, powerRight, limitRight, limitBreaks}
-use Rattle.limits.proofs.limit_checks.Laws.{limit-means, shaped-means}
+use Rattle.limits.proofs.limit_checks.Laws.{limit-means, shaped-room}
 
 -- ---- 24: m is the length that is asked for, b the number of variables that was read
 
@@ -30,9 +29,7 @@ module _ (n m : ℕ) (l : List ℕ) (em : m ≡ limitsLength n) where
 -- r is what 24 found
 pub shape-room : (n : ℕ) (l : List ℕ) (r : Bool) → r ≡ not (limitsShaped n l) → r ≡ false → n ≤ mostVariables
     → LimitsRoom l n
-shape-room n l r e h few =
-    let sized = shaped-means n l (not-false _ (sym e ∙ h)) .0 in
-    record { few = few; long = omega arith }
+shape-room n l r e h few = shaped-room n l (not-false _ (sym e ∙ h)) few
 
 -- ---- 25
 

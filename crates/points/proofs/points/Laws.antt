@@ -3,15 +3,16 @@
 use mathlib.Core.Path.{_≡_, refl, sym, _∙_, ap, ap₂}
 use mathlib.Core.Logic.{_⊎_, inl, inr, _↔_}
 use mathlib.Core.Bool.{Bool, true, false, cond, _&&_, and-eq-true-iff, false≢true}
-use mathlib.Core.List.{List, [], _∷_, _++_}
+use mathlib.Core.List.{List, [], _∷_, _++_, append-assoc}
 use Prim.Native.Nat.{ℕ, zero, suc, _+_, _-_, _/_, _%_, _^_, _<_, _≤_, min}
 use native.Mathlib.Nat.{add-assoc, zero-div}
 use native.Mathlib.Decide.{ℕ-discrete}
+use native.Mathlib.Numerals.{add-one}
 use native.Mathlib.Omega.{arith}
 use lib.Dec.{eqb, ltb, leb}
-use lib.ListN.{length, getD, set, take, replicate, length-replicate, length-set, replicate-append-replicate, List·getD-append}
+use lib.ListN.{length, getD, set, take, replicate, length-replicate, length-set, length-append, replicate-append-replicate, List·getD-append}
 use lib.Pow.{shr-shr}
-use lib.Seq.{take-append-seam, getD-append-add, set-append-left, getD-set-other}
+use lib.Seq.{take-append-seam, getD-append-add, set-at, set-append-left, getD-set-other}
 use borrow.Author.Tests.{lt-ltb, le-ltb, ltb-true, ltb-false, le-leb, lt-leb, leb-true, eq-eqb, ne-eqb, eqb-true}
 use Rattle.bounds.specs.Bounds.{mostVariables}
 use Rattle.points.specs.Lists.{table}
@@ -149,6 +150,27 @@ module _ (f : ℕ → ℕ) (n i : ℕ) where
       let e : i ≡ length (table f n) + (i - n) = rw table-length (omega arith) in
       ap (λ (j : ℕ). getD (padded (table f n)) j 0) e
       ∙ getD-append-add (table f n) _ (i - n) 0 ∙ zeros-get (mostVariables - length (table f n)) (i - n)
+
+padded-set : (L : List ℕ) (v : ℕ) → length L < mostVariables → set (padded L) (length L) v ≡ padded (L ++ (v ∷ []))
+unfolding padded
+padded-set L v h =
+    let left : mostVariables - length L ≡ suc (mostVariables - suc (length L)) = omega arith in
+    let more : length (L ++ (v ∷ [])) ≡ suc (length L) = length-append L (v ∷ []) ∙ omega arith in
+    rw (left, more) (set-at L 0 (replicate (mostVariables - suc (length L)) 0) v (length L) refl ∙ simp append-assoc)
+
+module _ (f : ℕ → ℕ) where
+  -- the loop `while i < n { e[i] = f(i); i += 1; }` over eight zeros
+  pub filled-start : replicate mostVariables 0 ≡ padded (table f 0)
+  unfolding padded table
+  filled-start = refl
+
+  pub filled-next : (n i : ℕ) (e : List ℕ) (v : ℕ) → e ≡ padded (table f i) → i < n → n ≤ mostVariables → v ≡ f i
+      → set e i v ≡ padded (table f (i + 1))
+  unfolding table
+  filled-next n i e v h l m q =
+      rw (h, q, add-one)
+      (ap (λ (j : ℕ). set (padded (table f i)) j (f i)) (sym (table-length f i))
+      ∙ padded-set (table f i) (f i) (rw table-length (omega arith)))
 
 -- the constant's point
 pub zeros-point : (n : ℕ) → n ≤ mostVariables

@@ -3,15 +3,14 @@
 use mathlib.Core.Path.{_≡_, refl, sym, _∙_, ap}
 use mathlib.Core.Logic.{_↔_}
 use mathlib.Core.Bool.{Bool, true, false, cond, and-false}
-use mathlib.Core.List.{List, [], _∷_, _++_, append-assoc}
+use mathlib.Core.List.{List, [], _∷_}
 use Prim.Native.Nat.{ℕ, zero, suc, _+_, _-_, _/_, _%_, _^_, _<_, _≤_, min}
 use native.Mathlib.Nat.{le-of-lt}
-use native.Mathlib.Numerals.{add-one}
 use native.Mathlib.Omega.{arith}
 use lib.Dec.{leb, eqb, ltb}
-use lib.ListN.{length, getD, set, drop, replicate, length-append, length-take}
+use lib.ListN.{length, getD, drop, length-take}
 use lib.Pow.{shr-shr}
-use lib.Seq.{drop-cons, drop-nil, getD-take, set-at, ext-getD}
+use lib.Seq.{drop-cons, drop-nil, getD-take, ext-getD}
 use borrow.Author.Tests.{lt-ltb, le-ltb, eq-eqb, eqb-true}
 use borrow.Author.Count.{below-more}
 use Rattle.bounds.specs.Bounds.{mostVariables}
@@ -257,31 +256,10 @@ module _ (a b : Point) (n k m left : ℕ) (ea : Places (a .exps)) (eb : Places (
 
 -- ---- stores into the eight places
 
-padded-set : (L : List ℕ) (v : ℕ) → length L < mostVariables → set (padded L) (length L) v ≡ padded (L ++ (v ∷ []))
-unfolding padded
-padded-set L v h =
-    let left : mostVariables - length L ≡ suc (mostVariables - suc (length L)) = omega arith in
-    let more : length (L ++ (v ∷ [])) ≡ suc (length L) = length-append L (v ∷ []) ∙ omega arith in
-    rw (left, more) (set-at L 0 (replicate (mostVariables - suc (length L)) 0) v (length L) refl ∙ simp append-assoc)
-
-module _ (f : ℕ → ℕ) where
-  -- the loop `while i < n { e[i] = f(i); i += 1; }` over eight zeros
-  pub filled-start : replicate mostVariables 0 ≡ padded (table f 0)
-  unfolding padded table
-  filled-start = refl
-
-  pub filled-next : (n i : ℕ) (e : List ℕ) (v : ℕ) → e ≡ padded (table f i) → i < n → n ≤ mostVariables → v ≡ f i
-      → set e i v ≡ padded (table f (i + 1))
-  unfolding table
-  filled-next n i e v h l m q =
-      rw (h, q, add-one)
-      (ap (λ (j : ℕ). set (padded (table f i)) j (f i)) (sym (table-length f i))
-      ∙ padded-set (table f i) (f i) (rw table-length (omega arith)))
-
-  pub filled-end : (n i : ℕ) (e : List ℕ) → e ≡ padded (table f i) → n ≤ i → i ≤ n
-      → record { exps = e; n = n } ≡ pointOf (table f n)
-  unfolding pointOf
-  filled-end n i e h l m = let q : i ≡ n = omega arith in rw (h, q, table-length f n)
+pub filled-end : (f : ℕ → ℕ) (n i : ℕ) (e : List ℕ) → e ≡ padded (table f i) → n ≤ i → i ≤ n
+    → record { exps = e; n = n } ≡ pointOf (table f n)
+unfolding pointOf
+filled-end f n i e h l m = let q : i ≡ n = omega arith in rw (h, q, table-length f n)
 
 -- ---- midpoints
 

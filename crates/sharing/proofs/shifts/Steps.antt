@@ -45,7 +45,7 @@ use Rattle.sharing.proofs.shifts.Laws.{proof-checked}
 
 -- ---- moved: z is the target, y the share
 
-module _ (z z′ : ℤ) (h : Holding) (ha : natAbs z ≤ 2 ^ 60) (hs : natAbs (h .sum) ≤ 2 ^ 42) (ea : z′ ≡ z) where
+module _ (z z′ : ℤ) (h : Holding) (ha : natAbs z ≤ 2 ^ 51 + 2 ^ 59) (hs : natAbs (h .sum) ≤ 2 ^ 42) (ea : z′ ≡ z) where
   error-small : natAbs (z -ℤ h .sum) ≤ 2 ^ 61
   error-small = omega (arith, abs-sub z (h .sum))
 

@@ -63,7 +63,7 @@ module _ (n : ℕ) (α : Exponents) where
       go false true a m = rw (+ℤ-idr m, +ℤ-idl m)
       go false false a m = refl
 
-  -- a variable that is unlimited adds nothing, and neither does a limit at other points
+  -- a variable that is unlimited adds nothing, and neither does a limit without a multiplier, or at other points
   pub limit-none : (i : ℕ) (l : Limit) → l .power ≡ 0 → coefficient α (limitAt n i l) ≡ pos 0
   limit-none i l z =
       limit-coefficient i l ∙ rw (z, pure-none n i, pow-zero (l .bound)) (go constant (l .multiplier))
@@ -71,6 +71,15 @@ module _ (n : ℕ) (α : Exponents) where
       go : (s : Bool) (m : ℕ) → cond s (negℤ (pos (m * 1))) (pos 0) +ℤ cond s (pos m) (pos 0) ≡ pos 0
       go true m = by-eq (simp ring (omega ints))
       go false m = refl
+
+  limit-idle : (i : ℕ) (l : Limit) → l .multiplier ≡ 0 → coefficient α (limitAt n i l) ≡ pos 0
+  limit-idle i l z = limit-coefficient i l ∙ rw z (go constant (pure i l) (0 * l .bound ^ l .power) (omega arith))
+    where
+      go : (s t : Bool) (k : ℕ) → k ≡ 0 → cond s (negℤ (pos k)) (pos 0) +ℤ cond t (pos 0) (pos 0) ≡ pos 0
+      go true true k e = rw e
+      go true false k e = rw e
+      go false true k e = refl
+      go false false k e = refl
 
   pub limit-apart : (i : ℕ) (l : Limit) → constant ≡ false → pure i l ≡ false → coefficient α (limitAt n i l) ≡ pos 0
   limit-apart i l h k = limit-coefficient i l ∙ rw (h, k)
@@ -122,7 +131,11 @@ module _ (D : Domain) where
       rw value-append (+ℤ-mono (limits-below x a k (omega arith))
       (limit-below x (D .n) k (D .limits k) (omega arith) (a .within k (omega arith))))
 
--- ---- where no variable is limited
+-- ---- where no variable is limited, or every multiplier is 0
+
+pub limits-idle : (D : Domain) (α : Exponents) → ((i : ℕ) → D .limits i .multiplier ≡ 0)
+    → coefficient α (limitSum D) ≡ pos 0
+limits-idle D α z = limits-nothing (D .n) α (D .limits) (D .n) (λ i l. limit-idle (D .n) α i (D .limits i) (z i))
 
 pub limits-unlimited : (D : Domain) (α : Exponents) → Unlimited (D .limits) → coefficient α (limitSum D) ≡ pos 0
 limits-unlimited D α u =

@@ -21,7 +21,7 @@ use Rattle.targets.specs.declared.targets.Aim.{Aim}
 
 -- ---- the aim of checked sheets
 
--- the aim of sheets with a floor and a scale in their bounds, and its targets
+-- the aim of sheets with a floor and a scale in their bounds and right limits, and its targets
 pub aim-within : (c s l : List ℕ) → natAbs (floorOf c) ≤ greatestWeight → scaleOf s ≤ greatestScale
     → RightLimits (limitsOf l (variables c)) → AimWithin (aimOf c s l)
 unfolding aimOf

@@ -3,7 +3,7 @@
 use mathlib.Core.Path.{_≡_, refl, sym, _∙_, ap, ap₂}
 use mathlib.Core.Bool.{Bool, true, false, cond}
 use mathlib.Core.List.{List}
-use Prim.Native.Nat.{ℕ, zero, suc, _^_, _<_, _≤_}
+use Prim.Native.Nat.{ℕ, zero, suc, _+_, _^_, _<_, _≤_}
 use native.Mathlib.Nat.{mul-le-mul, le-refl}
 use native.Mathlib.Numerals.{add-one}
 use native.Mathlib.Omega.{arith}
@@ -250,7 +250,7 @@ module _ (c : List ℕ) (n t : ℕ) (facts : ClaimFacts c n t) (α : Exponents) 
 
 module _ (n key : ℕ) (a : Aim) (r r′ s s′ : ℤ) (es : s ≡ limitsAdd (a .limits) key n) (br : r′ ≡ r) (bs : s′ ≡ s)
     (small : natAbs r ≤ 2 ^ 51) (few : n ≤ mostVariables) (within : AimWithin a) where
-  sum-small : natAbs (r′ +ℤ s′) ≤ 2 ^ 60
+  sum-small : natAbs (r′ +ℤ s′) ≤ 2 ^ 51 + 2 ^ 59
   sum-small =
       rw (br, bs, es) (omega (
         arith,
@@ -259,9 +259,9 @@ module _ (n key : ℕ) (a : Aim) (r r′ s s′ : ℤ) (es : s ≡ limitsAdd (a 
       ))
 
   pub sum-fits : SFits w64 (r′ +ℤ s′)
-  sum-fits = fits-within (r′ +ℤ s′) (2 ^ 60) sum-small (lit< tt)
+  sum-fits = fits-within (r′ +ℤ s′) (2 ^ 51 + 2 ^ 59) sum-small (lit< tt)
 
-  pub with-small : natAbs (back (r′ +ℤ s′)) ≤ 2 ^ 60
+  pub with-small : natAbs (back (r′ +ℤ s′)) ≤ 2 ^ 51 + 2 ^ 59
   with-small = rw (toZ-ofZ sum-fits) sum-small
 
   pub with-made : (mask : ℕ) (p : Point) (k : Bool) (x x′ y y′ z z′ : ℤ)

@@ -5,8 +5,8 @@ use borrow.Author.Needs.{needs}
 use Rattle.bounds.specs.Bounds.{mostVariables}
 use Rattle.points.specs.Lists.{table}
 use Rattle.points.specs.Points.{padded}
-use Rattle.points.proofs.points.Laws.{Places}
-use Rattle.points.proofs.points.Steps.{filled-next, midpoint-end, filled-start}
+use Rattle.points.proofs.points.Laws.{Places, filled-start, filled-next}
+use Rattle.points.proofs.points.Steps.{midpoint-end}
 use Rattle.points.proofs.points.midpoint.Statement.{statement}
 use Rattle.points.proofs.points.midpoint.Tie as tie
 

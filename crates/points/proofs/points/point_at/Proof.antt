@@ -4,7 +4,8 @@ use lib.ListN.{getD}
 use borrow.Author.Needs.{needs}
 use Rattle.points.specs.Lists.{table}
 use Rattle.points.specs.Points.{padded, bytesAt}
-use Rattle.points.proofs.points.Steps.{filled-next, filled-end, filled-start}
+use Rattle.points.proofs.points.Laws.{filled-start, filled-next}
+use Rattle.points.proofs.points.Steps.{filled-end}
 use Rattle.points.proofs.points.point_at.Statement.{statement}
 use Rattle.points.proofs.points.point_at.Tie as tie
 
