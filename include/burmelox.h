@@ -126,9 +126,9 @@ uint64_t burmelox_check(const uint8_t *claim, size_t claim_len,
                         uint8_t *output, size_t output_len);
 
 /*
- * Evaluates the claim's polynomial at the offsets, one for each variable, whether the mask admits
- * them or not. Answers 0 and stores the exact value, which is at least the floor if the claim is
- * accepted with some limits and any proof, and the mask and these limits admit the offsets; any
+ * Evaluates the claim's polynomial at the offsets, one for each variable, whether mask and limits
+ * admit them or not. Answers 0 and stores the exact value, which is at least the floor if the claim
+ * is accepted with some limits and any proof, and the mask and these limits admit the offsets; any
  * other answer is a refusal, and the value stays as it was.
  */
 uint64_t burmelox_evaluate(const uint8_t *claim, size_t claim_len,
