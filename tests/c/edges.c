@@ -1,6 +1,6 @@
 /*
- * The header's macros at the edges, null pointers with length 0, as C++ and Python hand them over, and
- * searches that are refused and store nothing.
+ * The header's macros at the edges, null pointers with length 0, as C++ and Python hand them over, a check
+ * that its limits let pass, and searches that are refused and store nothing.
  */
 #include "burmelox.h"
 #include <inttypes.h>
@@ -19,6 +19,12 @@ static const uint8_t claim[BURMELOX_CLAIM_LENGTH(1, 0)] = {1, 0, 0, 0, 0, 0, 0, 
 static const uint8_t proof[BURMELOX_PROOF_LENGTH(1, 0)] = {1, 0, 0, 0, 1, 0, 0, 0};
 static const uint8_t limits[BURMELOX_LIMITS_LENGTH(1)] = {1, 0, 0, 0, 0, 0, 0, 0};
 static const uint8_t third_power[BURMELOX_LIMITS_LENGTH(1)] = {1, 3, 1, 0, 1, 0, 0, 0};
+
+/* -x^2 with floor -9, where x is within plus and minus 3 (power 2, m 1). */
+static const uint8_t minus_square[BURMELOX_CLAIM_LENGTH(1, 1)] = {1, 1, 0, 0, 247, 255, 255, 255,
+                                                                  2, 255, 255, 255, 255};
+static const uint8_t within_3[BURMELOX_LIMITS_LENGTH(1)] = {1, 2, 3, 0, 1, 0, 0, 0};
+
 static uint8_t output[sizeof proof];
 static int64_t found = 8;
 static uint32_t tried = 9;
@@ -45,6 +51,9 @@ int main(void) {
     print("third power", check(third_power, sizeof third_power));
     print("no output", burmelox_check(claim, sizeof claim, proof, sizeof proof, limits, sizeof limits, NULL, 0));
     print("no row", check(limits, sizeof limits));
+    print("minus square within 3",
+          burmelox_check(minus_square, sizeof minus_square, proof, sizeof proof, within_3, sizeof within_3,
+                         output, sizeof output));
     print("no claim to evaluate", burmelox_evaluate(NULL, 0, NULL, 0, &value));
     print("no offsets", burmelox_evaluate(claim, sizeof claim, NULL, 0, &value));
     printf("value %" PRId64 "\n", value);

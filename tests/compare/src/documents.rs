@@ -1,5 +1,5 @@
 //! What the documents say of the project: their tables of refusals, held against the one that the
-//! tests share, the header's limits, and the files and names that they send a reader to.
+//! tests share, the header's greatest values, and the files and names that they send a reader to.
 
 use crate::files;
 use crate::report::{equal, Outcome, Report};
@@ -9,7 +9,7 @@ pub fn run(report: &mut Report) {
     report.add("refusals in the format's document", are_in_format());
     report.add("refusals in the C header", are_in_header());
     report.add("sheets in the C header", are_sheets_in_header());
-    report.add("limits in the C header", are_limits_in_header());
+    report.add("greatest values in the C header", are_greatest_values_in_header());
     for document in ["README.md", "docs/FORMAT.md"] {
         report.add(&format!("names in {document}"), are_where_told(document));
     }
@@ -78,19 +78,19 @@ fn are_sheets_in_header() -> Outcome {
     })
 }
 
-/// The header has each limit that the crate `bounds` has, under the same name.
-fn are_limits_in_header() -> Outcome {
+/// The header has each greatest value that the crate `bounds` has, under the same name.
+fn are_greatest_values_in_header() -> Outcome {
     let header = read("include/burmelox.h")?;
     let bounds = read("crates/bounds/src/bounds.rt")?;
-    let limits = bounds.lines().filter_map(|line| {
+    let values = bounds.lines().filter_map(|line| {
         let (name, value) = line.strip_prefix("pub const ")?.split_once(": ")?;
         let (_, value) = value.trim_end_matches(';').split_once(" = ")?;
         Some(format!("#define BURMELOX_{name} {value}"))
     });
-    let limits: Vec<String> = limits.collect();
-    let in_header = |limit: &&String| header.lines().any(|line| line == *limit);
-    equal("the lines", &limits, &limits.iter().filter(in_header).cloned().collect())?;
-    equal("there are limits", &true, &!limits.is_empty())
+    let values: Vec<String> = values.collect();
+    let in_header = |value: &&String| header.lines().any(|line| line == *value);
+    equal("the lines", &values, &values.iter().filter(in_header).cloned().collect())?;
+    equal("there are greatest values", &true, &!values.is_empty())
 }
 
 fn read(name: &str) -> Result<String, String> {

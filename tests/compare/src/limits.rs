@@ -1,4 +1,5 @@
-//! Limits sheets with each field at and past what it may be, at each variable.
+//! Limits sheets with each field at and past what it may be, at each variable, with no variable
+//! masked and with all.
 
 use crate::answers;
 use crate::report::{equal, Outcome, Report};
@@ -7,21 +8,24 @@ use sheets::{Case, Claim, Limit, Limits, Proof, Row, MOST};
 
 pub fn run(report: &mut Report) {
     for n in 1..=8 {
-        report.add(&format!("limits of {n} variables"), are_read(n));
+        let mut masks = [0, u8::MAX >> (8 - n)].into_iter();
+        let outcome = masks.try_for_each(|mask| are_read(n, mask));
+        report.add(&format!("limits of {n} variables"), outcome);
     }
 }
 
-fn are_read(n: u8) -> Outcome {
+fn are_read(n: u8, mask: u8) -> Outcome {
     for variable in 0..n.into() {
         for entry in entries() {
             let mut limits = Limits::none(n);
             limits.entries[variable] = entry;
             let (floor, expected) = expected(&limits, variable);
-            let claim = Claim { n, mask: 0, floor, terms: vec![] };
+            let claim = Claim { n, mask, floor, terms: vec![] };
             let case = Case::new(&claim, &at_pure_powers(&limits)).limited(&limits);
             let verdict = answers::check(&case, &mut Rng::new(0))?;
             let refusal = verdict.err().map(|refusal| (refusal.number, refusal.index));
-            equal(&format!("{entry:?} of variable {variable}"), &expected, &refusal)?;
+            let what = format!("{entry:?} of variable {variable}, mask {mask:b}");
+            equal(&what, &expected, &refusal)?;
         }
     }
     Ok(())

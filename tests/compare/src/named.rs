@@ -24,6 +24,7 @@ const C_PROGRAMS: [(&str, &str); 2] = [
          third power: refused 25 at 0, sheet 6\n\
          no output: refused 11 at 0, sheet 3\n\
          no row: 0\n\
+         minus square within 3: 0\n\
          no claim to evaluate: refused 1 at 0, sheet 1\n\
          no offsets: refused 20 at 0, sheet 4\n\
          value 7\n\

@@ -1,7 +1,7 @@
 //! The oracle against note 4 of document 02: limits sheets and what they do.
 
 use oracle::{check, evaluate, printed, search, Integer, Refusal};
-use sheets::limited::{self, minus_square, minus_square_claim};
+use sheets::limited::{self, minus_square, minus_square_claim, parabola_claim};
 use sheets::worked::{lone_proof, square_claim, square_proof};
 use sheets::{Case, Claim, Limit, Limits, Proof};
 
@@ -63,6 +63,15 @@ fn the_scale_does_not_go_into_the_multiplier() {
     assert_eq!(verdict(2, 1), refused(16, 0));
     assert_eq!(verdict(2, 2), Ok(vec![]));
     assert_eq!(verdict(1, 0), refused(16, 0));
+}
+
+/// x − x² needs both: the limit brings x² and the constant to 0, the mask keeps the sign of x.
+#[test]
+fn a_limited_variable_may_be_masked() {
+    let verdict = |mask, limit| shifted_within(parabola_claim(mask), lone_proof([1]), &[limit]);
+    assert_eq!(verdict(1, Limit::new(2, 3, 1)), Ok(vec![[1, 0, 0]]));
+    assert_eq!(verdict(0, Limit::new(2, 3, 1)), refused(18, 0));
+    assert_eq!(verdict(1, Limit::UNLIMITED), refused(16, 1));
 }
 
 #[test]

@@ -1,5 +1,5 @@
-//! Claims within limits, note 4 of document 02: some that need their limits, with the best whole
-//! floors, and what a check says of them.
+//! Claims within limits, note 4 of document 02: some that need their limits, with the best floors
+//! that their rows carry, one of them with a mask, and what a check says of them.
 
 use crate::worked::lone_proof;
 use crate::{Case, Claim, Example, Limit, Limits, Proof};
@@ -18,7 +18,16 @@ impl LimitedExample {
 }
 
 pub fn examples() -> Vec<LimitedExample> {
-    vec![minus_square(), line(), line_by_fourth_power(), cube(), product(), added_point()]
+    vec![
+        minus_square(),
+        line(),
+        line_by_fourth_power(),
+        cube(),
+        product(),
+        added_point(),
+        parabola("parabola-masked-limited", 1, PARABOLA_TEXT),
+        parabola("parabola-limited", 0, "refused 18 at 0\n"),
+    ]
 }
 
 fn limited(
@@ -104,4 +113,17 @@ fn added_point() -> LimitedExample {
         lone_proof([0, 0]),
         "refused 16 at 2\n",
     )
+}
+
+/// x − x² with the floor −9 and a mask.
+pub fn parabola_claim(mask: u8) -> Claim {
+    Claim::new(-9, &[([1], 1), ([2], -1)]).masked(mask)
+}
+
+const PARABOLA_TEXT: &str = "accepted rows 1 scale 1 floor -9\nrow 0 p 1 q 0 r 0\n";
+
+/// x − x² where x is within ±3: what the limit takes off leaves x, which a lone row carries if x is
+/// masked. If it is not, the floor is not true: at −3 the value is −12.
+fn parabola(name: &'static str, mask: u8, text: &'static str) -> LimitedExample {
+    limited(name, parabola_claim(mask), &[Limit::new(2, 3, 1)], lone_proof([1]), text)
 }

@@ -57,6 +57,7 @@ fn with_ninth_byte(mut bytes: Vec<u8>) -> Vec<u8> {
 pub fn entries() -> Vec<Entry> {
     let no_terms = Claim::new::<1>(0, &[]);
     let no_rows = Proof::new::<1>(1, &[]);
+    let third_power = Limits::new(&[Limit::new(3, 1, 1)]);
     let cases = [
         (1, 0, Case { claim: vec![], proof: vec![], ..square() }),
         (2, 0, square_with_claim(Claim::new::<0>(0, &[]))),
@@ -82,7 +83,7 @@ pub fn entries() -> Vec<Entry> {
         (22, 0, Case { lo: 1, hi: 0, ..square() }),
         (23, 0, Case { lo: -4, hi: -1, ..lone(0, MOST, 1) }),
         (24, 0, Case { limits: vec![], room: 21, ..square() }),
-        (25, 0, square().limited(&Limits::new(&[Limit::new(3, 1, 1)]))),
+        (25, 0, Case { room: 21, ..square().limited(&third_power) }),
     ];
     cases.into_iter().map(|(number, index, case)| Entry { number, index, case }).collect()
 }
