@@ -1,4 +1,4 @@
--- Bounds: the limits of documents 01 and 02: `most` for what is counted, `greatest` for sizes.
+-- Bounds: those of documents 01 and 02: `most` for what is counted, `greatest` for sizes.
 use mathlib.Core.Bool.{Bool}
 use Prim.Native.Nat.{ℕ, _^_}
 use lib.Dec.{ltb}

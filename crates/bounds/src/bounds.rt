@@ -1,4 +1,4 @@
-// The limits of documents 01 and 02: `most` for what is counted, `greatest` for sizes. The definitions have the same
+// The bounds of documents 01 and 02: `most` for what is counted, `greatest` for sizes. The definitions have the same
 // names, and a contract that compares the two is proved only where they agree.
 use integers::magnitudes::magnitude;
 ghost use mathlib.Core.Path.{_≡_};

@@ -1,2 +1,2 @@
-// Points by value: their exponents, order, midpoint and sign.
+// Points by value: their exponents, pure powers, order, midpoint and sign.
 pub mod points;

@@ -1,4 +1,4 @@
-// Points by value: their exponents, order, midpoint and sign.
+// Points by value: their exponents, pure powers, order, midpoint and sign.
 use bounds::bounds::MOST_VARIABLES;
 ghost use mathlib.Core.Path.{_≡_};
 ghost use mathlib.Core.Bool.{true};

@@ -1,4 +1,5 @@
--- Laws of keys: points with as many exponents are the same where their keys are, and a midpoint's key is half the sum.
+-- Laws of keys: points with as many exponents are the same where their keys are; the keys of the constant and of a pure
+-- power; a midpoint's key is half the sum.
 use mathlib.Core.Path.{_≡_, refl, sym, _∙_, ap, ap₂}
 use mathlib.Core.Bool.{Bool, true, false, false≢true}
 use mathlib.Core.List.{[], _∷_}

@@ -1,4 +1,4 @@
--- The steps of reading all limits by value.
+-- The steps of reading limits, one and all by value.
 use mathlib.Core.Path.{_≡_, _∙_}
 use mathlib.Core.List.{List}
 use Prim.Native.Nat.{ℕ, _+_, _<_, _≤_}

@@ -1,5 +1,5 @@
 -- Laws of monomials over ℤ: never negative at a point that keeps its sign, and which numbers make it so; at a midpoint
--- the mean of those at its ends; and what an answer up to the greatest value says.
+-- the mean of those at its ends; of a pure power; and what an answer up to the greatest value says.
 use mathlib.Core.Path.{_≡_, refl, sym, _∙_, ap}
 use mathlib.Core.Bool.{true, Bool, false, cond}
 use mathlib.Core.List.{List, [], _∷_}

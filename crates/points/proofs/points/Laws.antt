@@ -1,5 +1,5 @@
--- Laws of points: the same point, the order, midpoints, points by value, bytes as exponents, one variable more, and
--- masks.
+-- Laws of points: the same point, the order, midpoints, points by value, bytes as exponents, numbers in the eight
+-- places, pure powers, one variable more, and masks.
 use mathlib.Core.Path.{_≡_, refl, sym, _∙_, ap, ap₂}
 use mathlib.Core.Logic.{_⊎_, inl, inr, _↔_}
 use mathlib.Core.Bool.{Bool, true, false, cond, _&&_, and-eq-true-iff, false≢true}
