@@ -3,14 +3,18 @@ use mathlib.Core.Path.{_≡_}
 use mathlib.Core.Bool.{false}
 use mathlib.Core.List.{List, _++_}
 use Prim.Native.Nat.{ℕ}
+use lib.IntN.{ℤ}
 use lib.ListN.{length, take, replicate}
+use lib.Signed.{_≤ℤ_}
 use Rattle.answers.specs.Answers.{blameless, Passes}
-use Rattle.sheets.specs.Layout.{variables, rowCount}
-use Rattle.sheets.specs.ClaimSheet.{floorOf}
+use Rattle.monomials.specs.Powers.{Allowed}
+use Rattle.squares.specs.Sums.{valueAt}
+use Rattle.sheets.specs.Layout.{variables, maskOf, rowCount}
+use Rattle.sheets.specs.ClaimSheet.{floorOf, termsOf}
 use Rattle.rows.specs.ProofSheet.{scaleOf, tripleFor}
 use Rattle.limits.specs.LimitsSheet.{noLimits}
 use Rattle.weighing.specs.Exact.{weightsFor}
-use Rattle.judging.specs.Unlimited.{plainTargets, plainAnswer, plainOutput}
+use Rattle.judging.specs.Unlimited.{plainTargets, plainAnswer, plainOutput, CheckUnlimited}
 use Rattle.judging.specs.Promises.{CheckPromises}
 use Rattle.text.specs.Text.{ascii}
 use Rattle.text.specs.Lines.{acceptedLine}
@@ -42,13 +46,19 @@ abbrev pub Accepts : List ℕ → Type 0
 Accepts text = take 8 text ≡ ascii "accepted"
 
 -- an acceptance has these lines, and "A refusal prints `refused 19 at 0`: number, index"; what the check promises holds
--- of a text by its first word, with k and the shifted rows as its lines have them
+-- of a text by its first word, with k and the shifted rows as its lines have them, and is what it was before there were
+-- limits
 pub record IsPrinted (c s text : List ℕ) : Type 0 where
   pub acceptance : Passes (plainAnswer c s (length s)) → text ≡ acceptedLines c s
   pub refusal : blameless (plainAnswer c s (length s)) ≡ false
       → text ≡ refusedText (plainAnswer c s (length s) .number) (plainAnswer c s (length s) .value)
   pub promises : CheckPromises c s (noLimits (variables c)) (zeros (length s)) (Accepts text) (rowCount s)
       (plainOutput c s (zeros (length s)))
+  pub plain : CheckUnlimited c s (noLimits (variables c))
+  -- Demand 3: "the polynomial is at least the floor", by note 3 "at whole points with masked variables at least 0"
+  pub floors : Accepts text → (x : List ℤ) → Allowed (maskOf c) x → floorOf c ≤ℤ valueAt x (termsOf c)
+  -- and without a mask "at all whole offsets, of either sign and however large"
+  pub everywhere : Accepts text → maskOf c ≡ 0 → (x : List ℤ) → floorOf c ≤ℤ valueAt x (termsOf c)
 
 abbrev pub PrintsLines : List ℕ → Type 0
 PrintsLines input = IsPrinted (claimPart input) (proofPart input) (programText input)

@@ -24,6 +24,7 @@ use Rattle.weighing.specs.Exact.{weightsFor, exactProof}
 use Rattle.weighing.proofs.exact.Laws.{exact-length, exact-variables, exact-scale, exact-weights}
 use Rattle.judging.specs.Check.{targetsOf, checkAnswer, outputOf}
 use Rattle.judging.specs.Unlimited.{plainTargets, plainAnswer, plainOutput, CheckUnlimited}
+use Rattle.judging.specs.Promises.{CheckPromises}
 use Rattle.judging.proofs.Unlimited.{plain-targets, check-unlimited}
 use Rattle.judging.proofs.Promises.{check-promises, accepted-formed, accepted-within, accepted-rows, accepted-exact}
 use Rattle.text.specs.Text.{Written}
@@ -164,15 +165,25 @@ module _ (c s : List ℕ) where
       ap (λ (l : List ℕ). getD l 0 0) (sym h ∙ ap (take 8) (refused-text q) ∙ refused-word _ _) in
       absurd (omega (arith, w)))
 
+  text-promises : Bytes s
+      → CheckPromises c s ls (zeros (length s)) (Accepts (sheetsText c s (zeros (length s)))) (rowCount s)
+      (plainOutput c s (zeros (length s)))
+  text-promises b =
+      check-promises c s ls (zeros (length s)) _ _
+      (λ h. rw (as-long, answers) (begins-passed h), λ h. passed-begins (rw (as-long, answers) at h))
+      (λ h. refl) b _ (rw (unlimited c s .output (zeros (length s))))
+
   sheets-printed : Bytes s → IsPrinted c s (sheetsText c s (zeros (length s)))
-  sheets-printed b = record {
-    acceptance = accepted-text;
-    refusal = refused-text;
-    promises =
-        check-promises c s ls (zeros (length s)) _ _
-        (λ h. rw (as-long, answers) (begins-passed h), λ h. passed-begins (rw (as-long, answers) at h))
-        (λ h. refl) b _ (rw (unlimited c s .output (zeros (length s))));
-  }
+  sheets-printed b =
+      let none = none-limited (variables c) .unlimited in
+      record {
+        acceptance = accepted-text;
+        refusal = refused-text;
+        promises = text-promises b;
+        plain = unlimited c s;
+        floors = λ h. text-promises b .unlimited h none;
+        everywhere = λ h. text-promises b .everywhere h none;
+      }
 
 -- every input has its lines
 pub prints-lines : (input : List ℕ) → Bytes input → PrintsLines input
