@@ -45,15 +45,15 @@ acceptedLines c s =
 abbrev pub Accepts : List ℕ → Type 0
 Accepts text = take 8 text ≡ ascii "accepted"
 
--- an acceptance has these lines, and "A refusal prints `refused 19 at 0`: number, index"; what the check promises holds
--- of a text by its first word, with k and the shifted rows as its lines have them, and is what it was before there were
--- limits
+-- an acceptance has these lines, and "A refusal prints `refused 19 at 0`: number, index"
 pub record IsPrinted (c s text : List ℕ) : Type 0 where
   pub acceptance : Passes (plainAnswer c s (length s)) → text ≡ acceptedLines c s
   pub refusal : blameless (plainAnswer c s (length s)) ≡ false
       → text ≡ refusedText (plainAnswer c s (length s) .number) (plainAnswer c s (length s) .value)
+  -- what the check promises, by the text's first word, with k and the shifted rows as its lines have them
   pub promises : CheckPromises c s (noLimits (variables c)) (zeros (length s)) (Accepts text) (rowCount s)
       (plainOutput c s (zeros (length s)))
+  -- where it speaks of well-formed sheets and of targets, these are those of before there were limits
   pub plain : CheckUnlimited c s (noLimits (variables c))
   -- Demand 3: "the polynomial is at least the floor", by note 3 "at whole points with masked variables at least 0"
   pub floors : Accepts text → (x : List ℤ) → Allowed (maskOf c) x → floorOf c ≤ℤ valueAt x (termsOf c)

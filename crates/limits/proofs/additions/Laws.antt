@@ -24,6 +24,7 @@ use Rattle.limits.specs.LimitsSheet.{limitIn}
 use Rattle.limits.specs.LimitChecks.{IsLimited, RightLimit, RightLimits}
 use Rattle.limits.specs.Additions.{limitAdds, limitsAdd}
 use Rattle.limits.specs.declared.limits_sheet.Limits.{Limits}
+use Rattle.limits.proofs.limit_checks.Laws.{power-some}
 
 -- ---- powers of L
 
@@ -87,7 +88,7 @@ module _ (n : ℕ) (α : Exponents) (sized : length α ≡ n) (low : Below 256 �
       → eqb (keyOf α) (keyOf β) ≡ samePoint α β
   tested β s limit w h = key-same α β (sized ∙ sym s) low (within-below limit 256 β h w)
 
-  constant-tested : eqb (keyOf α) 0 ≡ samePoint α (replicate n 0)
+  pub constant-tested : eqb (keyOf α) 0 ≡ samePoint α (replicate n 0)
   constant-tested =
       rw key-zeros at (tested (replicate n 0) (length-replicate n 0) 0 (zeros-within 0 n) (omega arith))
 
@@ -103,25 +104,19 @@ module _ (n : ℕ) (α : Exponents) (sized : length α ≡ n) (low : Below 256 �
       let positive : 1 * 1 ≤ e * 2 ^ (8 * i) = mul-le-mul some (pow-pos (8 * i)) in
       sym (pure-tested i e k h) ∙ ne-eqb (keyOf α) _ (λ q. omega arith)
 
-  power-some : (l : Limit) → IsLimited l → (0 < l .power) × (l .power < 256)
-  power-some l h = go (h .power-right)
-    where
-      go : (l .power ≡ 2) ⊎ (l .power ≡ 4) → (0 < l .power) × (l .power < 256)
-      go (inl e) = (omega arith, omega arith)
-      go (inr e) = (omega arith, omega arith)
-
   limited-is : (l : Limit) (i : ℕ) → IsLimited l → i < n → limitAdds l i (keyOf α) ≡ coefficient α (limitAt n i l)
   unfolding limitAdds
   limited-is l i h k =
       let p = power-some l h in
+      let low : l .power < 256 = omega (arith, p .1) in
       rw (
         ne-eqb (l .power) 0 (λ z. omega arith),
         constant-tested,
-        pure-tested i (l .power) k (p .1),
+        pure-tested i (l .power) k low,
         limit-coefficient n α i l,
       )
       (go (samePoint α (replicate n 0)) (samePoint α (pureAt n i (l .power))) _ _
-      (pure-apart i (l .power) k (p .0) (p .1)))
+      (pure-apart i (l .power) k (p .0) low))
     where
       go : (s t : Bool) (a m : ℤ) → (s ≡ true → t ≡ false)
           → cond s a (cond t m (pos 0)) ≡ cond s a (pos 0) +ℤ cond t m (pos 0)

@@ -18,6 +18,7 @@ use Rattle.limits.specs.LimitsSheet.{limitIn}
 use Rattle.limits.specs.LimitChecks.{IsLimited, RightLimit, RightLimits}
 use Rattle.limits.specs.Additions.{limitAdds, limitsAdd}
 use Rattle.limits.specs.declared.limits_sheet.Limits.{Limits}
+use Rattle.limits.proofs.limit_checks.Laws.{power-low}
 use Rattle.limits.proofs.additions.Laws.{power-two, power-four, square-small, fourth-small, fall-small, limits-small}
 
 -- ---- raised and fall: r is L to the power
@@ -84,11 +85,7 @@ module _ (l : Limit) (i key : ℕ) where
 
     module _ (inside : i < mostVariables) (other : key ≡ 0 → ⊥) where
       shifted : l .power * 2 ^ (8 * i) % 2 ^ 64 ≡ l .power * 2 ^ (8 * i)
-      shifted = shl-exact 8 (8 * i) 64 (go (limited-here .power-right)) (omega arith)
-        where
-          go : (l .power ≡ 2) ⊎ (l .power ≡ 4) → l .power < 2 ^ 8
-          go (inl e) = omega arith
-          go (inr e) = omega arith
+      shifted = shl-exact 8 (8 * i) 64 (omega (arith, power-low l right)) (omega arith)
 
       pub adds-rise : key ≡ l .power * 2 ^ (8 * i) % 2 ^ 64 → toZ w64 (l .multiplier) ≡ limitAdds l i key
       unfolding limitAdds

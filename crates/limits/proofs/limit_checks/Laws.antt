@@ -1,5 +1,5 @@
--- Laws of the checks 24 and 25: the test of a limit and its words, what it says of a sheet that it passes them, and how
--- short their answers are.
+-- Laws of the checks 24 and 25: how large a power is, the test of a limit and its words, what it says of a sheet that it
+-- passes them, and how short their answers are.
 use mathlib.Core.Path.{_≡_, refl, sym, _∙_}
 use mathlib.Core.Bool.{true, false, and-eq-true-iff}
 use mathlib.Core.List.{List}
@@ -16,8 +16,21 @@ use Rattle.answers.proofs.searches.Laws.{none-wrong, all-right}
 use Rattle.squares.specs.declared.limits.Limit.{Limit}
 use Rattle.sheets.specs.Layout.{limitsLength, LimitsRoom}
 use Rattle.limits.specs.LimitsSheet.{limitOf, limitsOf, limitIn, noLimits}
-use Rattle.limits.specs.LimitChecks.{limitsShaped, RightLimit, powerRight, limitRight, limitBreaks, limitsAnswer, RightLimits, LimitsNone}
+use Rattle.limits.specs.LimitChecks.{limitsShaped, IsLimited, RightLimit, powerRight, limitRight, limitBreaks, limitsAnswer, RightLimits, LimitsNone}
 use Rattle.limits.proofs.limits_sheet.Laws.{limit-read, limit-past, none-length, none-variables, none-limit, none-unlimited}
+
+-- ---- powers
+
+pub power-some : (l : Limit) → IsLimited l → (0 < l .power) × (l .power ≤ 4)
+power-some l h = go (h .power-right)
+  where
+    go : (l .power ≡ 2) ⊎ (l .power ≡ 4) → (0 < l .power) × (l .power ≤ 4)
+    go (inl e) = (omega arith, omega arith)
+    go (inr e) = (omega arith, omega arith)
+
+pub power-low : (l : Limit) → RightLimit l → l .power ≤ 4
+power-low l (inl u) = omega (arith, u .power-none)
+power-low l (inr h) = power-some l h .1
 
 -- ---- the test and its words
 
@@ -45,11 +58,7 @@ module _ (l : Limit) where
 
       from : RightLimit l → limitRight l ≡ true
       from (inl u) = rw (eq-eqb (l .power) 0 z, eq-eqb _ 0 (u .bound-none), eq-eqb _ 0 (u .multiplier-none))
-      from (inr h) = absurd (go (h .power-right))
-        where
-          go : (l .power ≡ 2) ⊎ (l .power ≡ 4) → ⊥
-          go (inl e) = omega arith
-          go (inr e) = omega arith
+      from (inr h) = absurd (omega (arith, power-some l h .0))
 
   limited-means : (l .power ≡ 0 → ⊥) → (limitRight l ≡ true) ↔ RightLimit l
   unfolding limitRight

@@ -27,7 +27,6 @@ use Rattle.points.specs.declared.points.Point.{Point}
 use Rattle.points.proofs.Lists.{table-none, table-more}
 use Rattle.points.proofs.points.Laws.{same-eq, same-refl, apart-sym}
 use Rattle.keys.specs.Keys.{keyOf}
-use Rattle.keys.proofs.keys.Laws.{key-zeros}
 use Rattle.squares.specs.Sums.{Sum, coefficient}
 use Rattle.squares.specs.Targets.{lowered, worst}
 use Rattle.squares.proofs.Targets.{worst-kept, worst-negative, worst-positive, target-is, lowered-constant, lowered-other}
@@ -40,13 +39,13 @@ use Rattle.limits.specs.LimitsSheet.{limitsOf}
 use Rattle.limits.specs.LimitChecks.{RightLimits}
 use Rattle.limits.specs.Additions.{limitsAdd}
 use Rattle.limits.specs.declared.limits_sheet.Limits.{Limits}
-use Rattle.limits.proofs.additions.Laws.{limits-small, additions-are}
+use Rattle.limits.proofs.additions.Laws.{limits-small, constant-tested, additions-are}
 use Rattle.claims.specs.ClaimChecks.{ClaimFacts}
 use Rattle.claims.proofs.claim_checks.Laws.{points-differ}
 use Rattle.targets.specs.Targets.{AimWithin, Targeted, aimOf, atFloor, targetOf, hasKey, loweredBy, coefficientFound, coefficientWith, targetWith}
 use Rattle.targets.specs.Carried.{Carried}
 use Rattle.targets.specs.declared.targets.Aim.{Aim}
-use Rattle.targets.proofs.Carried.{term-carried, constant-carried, carried-below, carried-same}
+use Rattle.targets.proofs.Carried.{term-carried, carried-below, carried-same}
 
 -- ---- lowered_by: x is a coefficient
 
@@ -166,9 +165,6 @@ module _ (c : List ℕ) (n t : ℕ) (facts : ClaimFacts c n t) (α : Exponents) 
   unfolding hasKey
   key-there i l = carried-same n α (termPoint c n i) carried (term-carried c n t i facts l)
 
-  constant-there : eqb (keyOf α) 0 ≡ samePoint α (replicate n 0)
-  constant-there = rw key-zeros at (carried-same n α (replicate n 0) carried (constant-carried n))
-
   abbrev terms : ℕ → Sum
   terms m = table (termOf c n t) m
 
@@ -239,11 +235,14 @@ module _ (c : List ℕ) (n t : ℕ) (facts : ClaimFacts c n t) (α : Exponents) 
       f : Sum
       f = termsOf c
 
+      there : eqb (keyOf α) 0 ≡ samePoint α (replicate n 0)
+      there = constant-tested n α (carried .sized) (carried-below n α carried)
+
       go : (k : Bool) → samePoint α (replicate n 0) ≡ k
           → cond (eqb (keyOf α) 0) (coefficient α f -ℤ a .floor) (coefficient α f)
           ≡ coefficient α (lowered n (a .floor) f)
-      go true e = rw (constant-there, e) (sym (lowered-constant n (a .floor) f α e))
-      go false e = rw (constant-there, e) (sym (lowered-other n (a .floor) f α e))
+      go true e = rw (there, e) (sym (lowered-constant n (a .floor) f α e))
+      go false e = rw (there, e) (sym (lowered-other n (a .floor) f α e))
 
 -- ---- target_with: x is the coefficient, y the same with the floor taken from it, z with the worst sign, r that times
 -- the scale, s what the limits add

@@ -2,7 +2,6 @@
 use mathlib.Core.Path.{_≡_, refl, sym, _∙_}
 use mathlib.Core.Bool.{Bool, true, false}
 use mathlib.Core.List.{List}
-use mathlib.Core.Logic.{inl, inr, ⊎-elim}
 use Prim.Native.Nat.{ℕ, _+_, _-_, _≤_, _<_}
 use native.Mathlib.Omega.{arith}
 use lib.Dec.{eqb}
@@ -24,8 +23,9 @@ use Rattle.sheets.specs.ClaimSheet.{termPoint}
 use Rattle.sheets.specs.declared.layout.Shape.{Shape}
 use Rattle.rows.specs.ProofSheet.{rowsOf}
 use Rattle.limits.specs.LimitsSheet.{limitIn}
-use Rattle.limits.specs.LimitChecks.{RightLimit, RightLimits}
+use Rattle.limits.specs.LimitChecks.{RightLimits}
 use Rattle.limits.specs.declared.limits_sheet.Limits.{Limits}
+use Rattle.limits.proofs.limit_checks.Laws.{power-low}
 use Rattle.claims.specs.ClaimChecks.{ClaimFacts}
 use Rattle.checks.specs.ProofChecks.{ProofFacts}
 use Rattle.targets.specs.Carried.{Carried, CarriedKey}
@@ -64,11 +64,7 @@ module _ (c : List ℕ) (limits : Limits) (n t i : ℕ) where
 
   -- powers are low
   low : RightLimits limits → (j : ℕ) → limitIn limits j .power ≤ greatestExponent
-  low right j = go (right .right j)
-    where
-      go : RightLimit (limitIn limits j) → limitIn limits j .power ≤ greatestExponent
-      go (inl u) = omega (arith, u .power-none)
-      go (inr h) = ⊎-elim (λ e. omega arith) (λ e. omega arith) (h .power-right)
+  low right j = omega (arith, power-low (limitIn limits j) (right .right j))
 
   point-carried : ClaimFacts c n t → RightLimits limits → Carried n (pointFor c limits n t i)
   point-carried f right =
