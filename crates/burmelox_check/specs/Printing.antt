@@ -2,13 +2,14 @@
 use mathlib.Core.Path.{_≡_}
 use mathlib.Core.Bool.{false}
 use mathlib.Core.List.{List, _++_}
-use Prim.Native.Nat.{ℕ}
+use Prim.Native.Nat.{ℕ, _<_}
 use lib.IntN.{ℤ}
 use lib.ListN.{length, take, replicate}
 use lib.Signed.{_≤ℤ_}
 use Rattle.answers.specs.Answers.{blameless, Passes}
 use Rattle.monomials.specs.Powers.{Allowed}
 use Rattle.squares.specs.Sums.{valueAt}
+use Rattle.squares.specs.Floor.{AtMost}
 use Rattle.sheets.specs.Layout.{variables, maskOf, rowCount}
 use Rattle.sheets.specs.ClaimSheet.{floorOf, termsOf}
 use Rattle.rows.specs.ProofSheet.{scaleOf, tripleFor}
@@ -57,6 +58,9 @@ pub record IsPrinted (c s text : List ℕ) : Type 0 where
   pub plain : CheckUnlimited c s (noLimits (variables c))
   -- Demand 3: "the polynomial is at least the floor", by note 3 "at whole points with masked variables at least 0"
   pub floors : Accepts text → (x : List ℤ) → Allowed (maskOf c) x → floorOf c ≤ℤ valueAt x (termsOf c)
+  -- by note 5 also "at every point h / d with whole h and one whole d ≥ 1"
+  pub fractions : Accepts text
+      → (d : ℕ) (h : List ℤ) → 0 < d → Allowed (maskOf c) h → AtMost (floorOf c) (termsOf c) d h
   -- and without a mask "at all whole offsets, of either sign and however large"
   pub everywhere : Accepts text → maskOf c ≡ 0 → (x : List ℤ) → floorOf c ≤ℤ valueAt x (termsOf c)
 

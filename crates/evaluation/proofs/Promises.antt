@@ -14,10 +14,8 @@ use Rattle.answers.specs.Answers.{accepted, refuseIf, Passes}
 use Rattle.answers.proofs.answers.Laws.{then-on, if-on, at-on, accepted-passes}
 use Rattle.answers.proofs.searches.Laws.{none-wrong, all-right}
 use Rattle.squares.specs.Sums.{valueAt}
-use Rattle.squares.proofs.Floor.{admits-allowed, admits-all}
 use Rattle.sheets.specs.Layout.{variables, termCount}
 use Rattle.sheets.specs.ClaimSheet.{termsOf}
-use Rattle.limits.specs.LimitsSheet.{domainOf}
 use Rattle.claims.specs.ClaimChecks.{claimAnswer}
 use Rattle.judging.proofs.Promises.{floor-kept}
 use Rattle.evaluation.specs.Evaluations.{value, termValue, tooLarge, tooLargeAnswer, evaluationAnswer, evaluationOf, Evaluable, EvaluationPromises}
@@ -62,11 +60,9 @@ evaluation-promises c x Gives meant = record {
   given = λ e. meant _ .1 (told-passed _ _ (passes c x e));
   exact = λ z q. (evaluable c x (told z q .0), told z q .1);
   -- the joints to the check
-  floored = λ s l out h a z q. rw (told z q .1) (floor-kept c s l (length out) h x a);
-  unlimited = λ s l out h u a z q.
-      rw (told z q .1) (floor-kept c s l (length out) h x (admits-allowed (domainOf c l) x u a));
-  everywhere = λ s l out h u m z q.
-      rw (told z q .1) (floor-kept c s l (length out) h x (admits-all (domainOf c l) x u m));
+  floored = λ s l out h a z q. rw (told z q .1) (floor-kept c s l (length out) h .whole x a);
+  unlimited = λ s l out h u a z q. rw (told z q .1) (floor-kept c s l (length out) h .unlimited u x a);
+  everywhere = λ s l out h u m z q. rw (told z q .1) (floor-kept c s l (length out) h .everywhere u m x);
 }
   where
     told : (z : ℤ) → Gives z → Passes (evaluationAnswer c x) × (z ≡ valueAt x (termsOf c))

@@ -87,7 +87,7 @@ pub record EvaluationPromises (c : List ℕ) (x : List ℤ) (Gives : ℤ → Typ
   -- and at least the floor", where the claim is accepted with some proof and output; by note 3 "evaluation takes any
   -- point and promises the floor only there", where the mask allows the offsets and each limited variable is within ±L,
   -- for every limits sheet with which the claim is accepted
-  pub floored : (s l out : List ℕ) → Passes (checkAnswer c s l (length out)) → Admits (domainOf c l) x
+  pub floored : (s l out : List ℕ) → Passes (checkAnswer c s l (length out)) → Admits (domainOf c l) 1 x
       → (z : ℤ) → Gives z → floorOf c ≤ℤ z
   -- where no variable is limited "at whole points with masked variables at least 0"
   pub unlimited : (s l out : List ℕ) → Passes (checkAnswer c s l (length out)) → Unlimited (domainOf c l .limits)

@@ -19,7 +19,6 @@ use Rattle.answers.specs.declared.searches.Found.the-variants.{At, Nothing}
 use Rattle.answers.proofs.answers.Laws.{passes-or-fails, refused-blames, refused-number, short-accepted, short-refused}
 use Rattle.answers.proofs.searches.Laws.{first-inside, first-before, none-wrong}
 use Rattle.squares.specs.Floor.{Floors}
-use Rattle.squares.proofs.Floor.{floors-unlimited, floors-unmasked}
 use Rattle.sheets.specs.Layout.{rowCount}
 use Rattle.sheets.specs.ClaimSheet.{withFloor, termsOf}
 use Rattle.sheets.proofs.claim_sheet.Laws.{floored-floor, floored-before, floored-terms}
@@ -220,8 +219,6 @@ found-promises c s ls lo hi out bs b tried k e o eo = record {
   written = eo;
   counts = found-counts c s ls lo hi (length out) b tried k e;
   floors = found-floors c s ls lo hi (length out) b tried k e;
-  unlimited = λ u. floors-unlimited (domainOf c ls) b _ u .0 (found-floors c s ls lo hi (length out) b tried k e);
-  everywhere = λ u z. floors-unmasked (domainOf c ls) b _ u z .0 (found-floors c s ls lo hi (length out) b tried k e);
   checked =
       check-promises (withFloor c b) s ls out _ k (λ h. h, λ h. h)
       (λ _. walked c s ls lo hi (length out) b tried k e .rows-are) bs o eo;

@@ -11,11 +11,7 @@ use lib.Signed.{_≤ℤ_, _<ℤ_}
 use Rattle.bounds.specs.Bounds.{greatestWeight, greatestSpan}
 use Rattle.answers.specs.Answers as Answers
 use Rattle.answers.specs.Answers.{blameless, Passes}
-use Rattle.monomials.specs.Powers.{Allowed}
-use Rattle.squares.specs.Sums.{valueAt}
-use Rattle.squares.specs.Domains.{Unlimited}
 use Rattle.squares.specs.Floor.{Floors}
-use Rattle.sheets.specs.Layout.{maskOf}
 use Rattle.sheets.specs.ClaimSheet.{withFloor, termsOf}
 use Rattle.limits.specs.LimitsSheet.{domainOf}
 use Rattle.checks.specs.Input.{WellFormed}
@@ -43,14 +39,8 @@ pub record FloorPromises (c s l : List ℕ) (lo hi : ℤ) (out : List ℕ) (b : 
   pub written : o ≡ outputOf (withFloor c b) s l out
   -- "the number of floors tried, which is hi minus the floor found, plus one"
   pub counts : pos tried ≡ hi -ℤ b +ℤ pos 1
-  -- Demand 3: "the polynomial is at least the floor", by note 4 "at every whole point that the mask allows, with each
-  -- limited variable within ±L"
+  -- Demand 3: "the polynomial is at least the floor", where mask and limits admit it, at fractions of an offset too
   pub floors : Floors (domainOf c l) b (termsOf c)
-  -- where no variable is limited "at whole points with masked variables at least 0"
-  pub unlimited : Unlimited (domainOf c l .limits)
-      → (x : List ℤ) → Allowed (maskOf c) x → b ≤ℤ valueAt x (termsOf c)
-  -- and without a mask "at all whole offsets, of either sign and however large"
-  pub everywhere : Unlimited (domainOf c l .limits) → maskOf c ≡ 0 → (x : List ℤ) → b ≤ℤ valueAt x (termsOf c)
   -- and all else that its check promises
   pub checked : CheckPromises (withFloor c b) s l out (Passes (checkAnswer (withFloor c b) s l (length out))) k o
 

@@ -17,7 +17,7 @@ use Rattle.squares.specs.Rows.{slots}
 use Rattle.squares.specs.Decomposition.{AddsUp}
 use Rattle.squares.specs.Targets.{lowered, target}
 use Rattle.squares.specs.Floor.{Floors}
-use Rattle.squares.proofs.Floor.{floor, floors-unlimited, floors-unmasked}
+use Rattle.squares.proofs.Floor.{floor}
 use Rattle.sheets.specs.Layout.{variables, rowCount}
 use Rattle.sheets.specs.ClaimSheet.{floorOf, termsOf}
 use Rattle.sheets.proofs.claim_sheet.Laws.{terms-sized}
@@ -187,8 +187,6 @@ module _ (c s l out : List ℕ) where
     rest = rw e written-rest;
     leaves = λ n. e ∙ refused-kept (λ h. n (meant .1 h));
     floors = λ a. floor-kept c s l (length out) (meant .0 a);
-    unlimited = λ a u. floors-unlimited (domainOf c l) _ _ u .0 (floor-kept c s l (length out) (meant .0 a));
-    everywhere = λ a u z. floors-unmasked (domainOf c l) _ _ u z .0 (floor-kept c s l (length out) (meant .0 a));
     keeps = λ f r d.
         let h = accepted-passes _ _ (exact-accepted c s l f d (length out) r) in
         (meant .1 h, e ∙ written h ∙ rw (exact-bytes c s l f d b));

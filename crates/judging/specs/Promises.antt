@@ -3,18 +3,13 @@ use mathlib.Core.Path.{_≡_}
 use mathlib.Core.Logic.{_↔_}
 use mathlib.Core.List.{List, _++_}
 use Prim.Native.Nat.{ℕ, _≤_}
-use lib.IntN.{ℤ}
 use lib.ListN.{length, take, drop}
-use lib.Signed.{_≤ℤ_}
 use Rattle.bounds.specs.Bounds.{greatestWeight}
 use Rattle.points.specs.Lists.{All}
-use Rattle.monomials.specs.Powers.{Allowed}
-use Rattle.squares.specs.Sums.{valueAt}
 use Rattle.squares.specs.Rows.{Row, slots, Holds}
-use Rattle.squares.specs.Domains.{Unlimited}
 use Rattle.squares.specs.Decomposition.{AddsUp}
 use Rattle.squares.specs.Floor.{Floors}
-use Rattle.sheets.specs.Layout.{variables, maskOf, rowCount}
+use Rattle.sheets.specs.Layout.{variables, rowCount}
 use Rattle.sheets.specs.ClaimSheet.{floorOf, termsOf}
 use Rattle.rows.specs.ProofSheet.{scaleOf, rowsOf}
 use Rattle.limits.specs.LimitsSheet.{domainOf}
@@ -46,15 +41,9 @@ pub record CheckPromises (c s l out : List ℕ) (Accepted : Type 0) (k : ℕ) (o
   pub rest : drop (length s) o ≡ drop (length s) out
   -- Demand 1: "a refusal must write no byte"
   pub leaves : (Accepted → ⊥) → o ≡ out
-  -- Demand 3: "If a claim and proof are accepted .. then the polynomial is at least the floor", by note 4 "at every
-  -- whole point that the mask allows, with each limited variable within ±L"
+  -- Demand 3: "If a claim and proof are accepted .. then the polynomial is at least the floor", where mask and limits
+  -- admit it, at fractions of an offset too
   pub floors : Accepted → Floors (domainOf c l) (floorOf c) (termsOf c)
-  -- where no variable is limited "at whole points with masked variables at least 0"
-  pub unlimited : Accepted → Unlimited (domainOf c l .limits)
-      → (x : List ℤ) → Allowed (maskOf c) x → floorOf c ≤ℤ valueAt x (termsOf c)
-  -- and without a mask "at all whole offsets, of either sign and however large"
-  pub everywhere : Accepted → Unlimited (domainOf c l .limits) → maskOf c ≡ 0
-      → (x : List ℤ) → floorOf c ≤ℤ valueAt x (termsOf c)
   -- Demand 3: "whenever a claim and proof are well-formed, the proposed weights already add up to the target at every
   -- point, every row holds with them and the output is long enough, the proof is accepted. The output's first bytes
   -- then equal the proof, byte by byte, and its later bytes keep their values"

@@ -1,7 +1,7 @@
 -- Laws of lists by an index, and of what holds of every element.
 use mathlib.Core.Path.{_≡_, refl, _∙_}
 use mathlib.Core.List.{List, [], _∷_, _++_, append-nil, append-assoc}
-use Prim.Native.Nat.{ℕ, zero, suc, _+_, _<_}
+use Prim.Native.Nat.{ℕ, zero, suc, _+_, _<_, _≤_}
 use native.Mathlib.Nat.{add-zero, add-suc}
 use native.Mathlib.Decide.{decLt}
 use native.Mathlib.Omega.{arith}
@@ -22,7 +22,7 @@ pub all-both : {A : Type 0} (P Q R : A → Type 0) (L : List A) → ((a : A) →
 all-both P Q R [] f h k = tt
 all-both P Q R (a ∷ L) f h k = (f a (h .0) (k .0), all-both P Q R L f (h .1) (k .1))
 
-append-all : {A : Type 0} (P : A → Type 0) (L M : List A) → All P (L ++ M) → All P L × All P M
+pub append-all : {A : Type 0} (P : A → Type 0) (L M : List A) → All P (L ++ M) → All P L × All P M
 append-all P [] M h = (tt, h)
 append-all P (a ∷ L) M h = let k = append-all P L M (h .1) in ((h .0, k .0), k .1)
 
@@ -49,6 +49,15 @@ module _ {A : Type 0} (f : ℕ → A) where
       go : Dec (i < n) → (i < n → getD (table f n) i d ≡ f i) → getD (table f n ++ (f n ∷ [])) i d ≡ f i
       go (yes l) below = List·getD-append (table f n) (f n ∷ []) d i (rw table-length l) ∙ below l
       go (no l) below = let q : i ≡ n = omega arith in rw q (getD-at (table f n) (f n) [] d n (table-length n))
+
+  -- past the last entry
+  pub table-past : (d : A) (n i : ℕ) → n ≤ i → getD (table f n) i d ≡ d
+  table-past d n i h = go (table f n) i (rw table-length h)
+    where
+      go : (L : List A) (i : ℕ) → length L ≤ i → getD L i d ≡ d
+      go [] i h = refl
+      go (a ∷ L) zero h = absurd (omega arith)
+      go (a ∷ L) (suc i) h = go L i (omega arith)
 
   -- the first m entries, and those after them
   pub table-split : (m n : ℕ) → table f (m + n) ≡ table f m ++ table (λ i. f (m + i)) n

@@ -1,32 +1,34 @@
 -- The floor theorem's proof. Its statement is specs/Floor.antt.
--- First for any worth φ of points, no less than 0 at those that keep their sign; then for monomials at whole numbers;
--- last what it says without limits and without a mask.
+-- First for any worth φ of points, no less than 0 at those that keep their sign; then for monomials at h / d, lifted to
+-- a degree that no point exceeds; last what it says of whole numbers, without limits and without a mask.
 use mathlib.Core.Path.{_≡_, sym, _∙_, ap}
 use mathlib.Core.Bool.{true}
-use mathlib.Core.List.{List, _++_}
+use mathlib.Core.List.{List, [], _∷_, _++_}
 use mathlib.Core.Logic.{_↔_}
-use Prim.Native.Nat.{ℕ, _<_}
-use native.Mathlib.Decide.{ℕ-discrete}
-use native.Mathlib.Nat.{le-refl}
+use Prim.Native.Nat.{ℕ, _+_, _*_, _%_, _^_, _<_, _≤_}
+use native.Mathlib.Decide.{ℕ-discrete, decLt}
+use native.Mathlib.Nat.{mul-le-mul-right, le-refl, one-le-pow}
 use native.Mathlib.Omega.{arith}
-use lib.IntN.{ℤ, pos, negsuc, negℤ, _+ℤ_, _*ℤ_, *ℤ-zero}
+use lib.IntN.{ℤ, pos, negsuc, negℤ, _+ℤ_, _*ℤ_, *ℤ-zero, *ℤ-comm, one, *ℤ-one}
 use lib.ListN.{length, length-replicate}
 use lib.Signed.{_≤ℤ_}
-use Rattle.integers.proofs.Integers.{ring, ints, by-eq, by-le, read-le, ≤ℤ-trans, nonneg-cancel}
-use Rattle.points.specs.Points.{Exponents, keepsSign}
-use Rattle.points.specs.Lists.{All}
+use Rattle.integers.proofs.Integers.{ring, ints, by-eq, by-le, read-le, ≤ℤ-trans, *ℤ-nonneg, pos-nonneg, nonneg-cancel, abs-mul}
+use Rattle.points.specs.Points.{Exponents, Masked, keepsSign}
+use Rattle.points.specs.Lists.{table, All}
 use Rattle.points.proofs.points.Laws.{midpoint-sized}
-use Rattle.points.proofs.Lists.{all-append, all-map}
-use Rattle.monomials.specs.Powers.{monomialOf, Allowed}
-use Rattle.monomials.proofs.powers.Laws.{monomial-sign, allowed-all, monomial-mean, monomial-constant}
-use Rattle.squares.specs.Sums.{Sum, coefficient, value, valueAt}
+use Rattle.points.proofs.Lists.{all-append, append-all, all-map, table-get, table-past}
+use Rattle.monomials.specs.Powers.{variable, Allowed}
+use Rattle.monomials.proofs.powers.Laws.{allowed-all}
+use Rattle.squares.specs.Sums.{Sum, coefficient, value, valueAt, gathered}
 use Rattle.squares.specs.Rows.{Row, slotsAt, slotsOf, slots}
-use Rattle.squares.specs.Domains.{Domain, Unlimited, Admits, limitSum}
+use Rattle.squares.specs.Domains.{Domain, Unlimited, Admits, CommonDenominator, limitSum}
+use Rattle.squares.specs.Fractions.{degree, degreeOf, homogenised, valueOver}
 use Rattle.squares.specs.Targets.{lowered, worst, target}
-use Rattle.squares.specs.Decomposition.{Sized, Whole, Placed, AddsUp}
-use Rattle.squares.specs.Floor.{Floors, Floor}
+use Rattle.squares.specs.Decomposition.{Sized, Whole, Placed, AddsUp, Decomposition}
+use Rattle.squares.specs.Floor.{AtMost, WholeFloors, Floor}
 use Rattle.squares.specs.declared.rows.Weights.{Weights}
 use Rattle.squares.specs.declared.rows.Weights.the-variants.{Pair, Lone}
+use Rattle.squares.proofs.Fractions.{Low, degrees-low, degree-constant, homogenised-sign, homogenised-mean, homogenised-constant, lifted, one-power, whole-value}
 use Rattle.squares.proofs.limits.Laws.{limits-sized, limits-below}
 use Rattle.squares.proofs.Targets.{worst-zero, worst-scaled, worst-below, target-is}
 use Rattle.squares.proofs.Sums.{coefficient-append, value-append, scaled, scaled-points, coefficient-scaled, value-scaled, dominate, coefficient-none, gathered-all}
@@ -103,47 +105,97 @@ rows-sized n rows t =
     gathered-all slotsOf (λ t. length (t .0) ≡ n) rows
     (all-map _ _ rows (λ a h. slots-sized n (a .v) (a .w) (a .weights) (h .v-length) (h .w-length)) t)
 
--- ---- monomials at whole numbers
+-- a row's mean at h / d, where no slot of it or of those after it has a degree above E
+module _ (E d : ℕ) (h : List ℤ) where
+  means : (v w : Exponents) (s : Weights) → Whole v w s → Low E (slotsAt v w s) → Mean (homogenised E d h) v w s
+  unfolding slotsAt
+  means v w (Pair p q r) t low = homogenised-mean E d h v w (low .0) (low .1 .0) t
+  means v w (Lone p) t low = tt
 
-means : (x : List ℤ) (v w : Exponents) (s : Weights) → Whole v w s → Mean (monomialOf x) v w s
-means x v w (Pair p q r) t = monomial-mean x v w t
-means x v w (Lone p) t = tt
+  all-means : (n : ℕ) (rows : List Row) → All (Placed n) rows → Low E (slots rows)
+      → All (λ a. Mean (homogenised E d h) (a .v) (a .w) (a .weights)) rows
+  unfolding gathered
+  all-means n [] t low = tt
+  all-means n (a ∷ rows) t low =
+      let q = append-all (λ t. degree (t .0) ≤ E) (slotsOf a) (slots rows) low in
+      (means (a .v) (a .w) (a .weights) (t .0 .whole) (q .0), all-means n rows (t .1) (q .1))
 
-all-means : (x : List ℤ) (n : ℕ) (rows : List Row) → All (Placed n) rows
-    → All (λ a. Mean (monomialOf x) (a .v) (a .w) (a .weights)) rows
-all-means x n rows t = all-map _ _ rows (λ a h. means x (a .v) (a .w) (a .weights) (h .whole)) t
+-- ---- monomials at h / d
 
 -- f − b is not negative, so b is at most f
-raise : (b v : ℤ) → pos 0 ≤ℤ (negℤ b *ℤ pos 1 +ℤ v) → b ≤ℤ v
-raise b v h = let s = simp ring at (read-le h) in by-le (simp ring (omega arith))
+raise : (b q v : ℤ) → pos 0 ≤ℤ (negℤ b *ℤ q +ℤ v) → (b *ℤ q) ≤ℤ v
+raise b q v h = let s = simp ring at (read-le h) in by-le (simp ring (omega arith))
 
+-- the floor, for slots of any kind of row that are worth at least 0 at absolute values, lifted to an even degree that
+-- none exceeds
 slots-floor : (D : Domain) (S : ℕ) (b : ℤ) (f M : Sum) → 0 < S → Sized (D .n) f → Sized (D .n) M
-    → AddsUp (D .n) (target D S (lowered (D .n) b f)) M → (x : List ℤ) → Admits D x
-    → pos 0 ≤ℤ value (absolute (monomialOf x)) M → b ≤ℤ valueAt x f
+    → AddsUp (D .n) (target D S (lowered (D .n) b f)) M → (d : ℕ) (h : List ℤ) → 0 < d → Admits D d h
+    → ((E : ℕ) → E % 2 ≡ 0 → Low E M → pos 0 ≤ℤ value (absolute (homogenised E d h)) M)
+    → AtMost b f d h
 unfolding lowered value
-slots-floor D S b f M s sf sm e x a h =
-    raise b (valueAt x f)
-    (rw (monomial-constant x (D .n)) at
-    (worth-floor D S b f M sf sm e (monomialOf x) (λ α. monomial-sign (D .mask) x α (a .allowed)) s
-    (limits-below D x a (D .n) (le-refl (D .n))) h))
+slots-floor D S b f M s sf sm e d h l a nonneg =
+    let T = degreeOf f in
+    let k = T + (degreeOf M + degreeOf (limitSum D)) * 2 in
+    let E = T + k in
+    let g = lowered (D .n) b f in
+    let v = value (homogenised T d h) g in
+    let lift : value (homogenised E d h) g ≡ v *ℤ pos (d ^ k) =
+    lifted T k d h g (rw (degree-constant (D .n)) (omega arith), degrees-low T f (le-refl T)) in
+    let high : pos 0 ≤ℤ (v *ℤ pos (d ^ k)) =
+    rw lift at (worth-floor D S b f M sf sm e (homogenised E d h) (homogenised-sign E d h (D .mask) (a .allowed)) s
+    (limits-below D E d h a (D .n) (le-refl (D .n)) (degrees-low E (limitSum D) (omega arith)))
+    (nonneg E (omega arith) (degrees-low E M (omega arith)))) in
+    let low : pos 0 ≤ℤ v = nonneg-cancel (d ^ k) v (one-le-pow k d l) (rw (*ℤ-comm v (pos (d ^ k))) at high) in
+    raise b (pos (d ^ T)) (valueOver d h f) (rw (homogenised-constant T d h (D .n)) at low)
 
-pub floor : Floor
-floor D S b f rows d x a =
-    slots-floor D S b f (slots rows) (d .scale) (d .sized) (rows-sized (D .n) rows (d .placed)) (d .adds-up) x a
-    (rows-nonneg (monomialOf x) rows (all-means x (D .n) rows (d .placed)) (d .hold))
+rows-floor : (D : Domain) (S : ℕ) (b : ℤ) (f : Sum) (rows : List Row) → Decomposition D S b f rows
+    → (d : ℕ) (h : List ℤ) → 0 < d → Admits D d h → AtMost b f d h
+rows-floor D S b f rows t d h l a =
+    slots-floor D S b f (slots rows) (t .scale) (t .sized) (rows-sized (D .n) rows (t .placed)) (t .adds-up) d h l a
+    (λ E even low. rows-nonneg (homogenised E d h) rows (all-means E d h (D .n) rows (t .placed) low) (t .hold))
 
--- ---- without limits, and without a mask
+-- ---- whole numbers, where d is 1; without limits, and without a mask
 
-module _ (D : Domain) (x : List ℤ) (u : Unlimited (D .limits)) where
-  pub admits-allowed : Allowed (D .mask) x → Admits D x
+at-whole : (b : ℤ) (f : Sum) (x : List ℤ) → AtMost b f 1 x → b ≤ℤ valueAt x f
+unfolding one
+at-whole b f x h = rw (one-power (degreeOf f), whole-value (degreeOf f) x f, *ℤ-one b) at h
+
+module _ (D : Domain) (d : ℕ) (h : List ℤ) (u : Unlimited (D .limits)) where
+  pub admits-allowed : Allowed (D .mask) h → Admits D d h
   admits-allowed a = record { allowed = a; within = λ i l p. let z = u i in absurd (omega arith) }
 
-  pub admits-all : D .mask ≡ 0 → Admits D x
-  admits-all z = admits-allowed (allowed-all (D .mask) x z)
+  pub admits-all : D .mask ≡ 0 → Admits D d h
+  admits-all z = admits-allowed (allowed-all (D .mask) h z)
 
 module _ (D : Domain) (b : ℤ) (f : Sum) (u : Unlimited (D .limits)) where
-  pub floors-unlimited : Floors D b f ↔ ((x : List ℤ) → Allowed (D .mask) x → b ≤ℤ valueAt x f)
-  floors-unlimited = (λ h x a. h x (admits-allowed D x u a), λ h x a. h x (a .allowed))
+  pub floors-unlimited : WholeFloors D b f ↔ ((x : List ℤ) → Allowed (D .mask) x → b ≤ℤ valueAt x f)
+  floors-unlimited = (λ h x a. h x (admits-allowed D 1 x u a), λ h x a. h x (a .allowed))
 
-  pub floors-unmasked : D .mask ≡ 0 → Floors D b f ↔ ((x : List ℤ) → b ≤ℤ valueAt x f)
-  floors-unmasked z = (λ h x. h x (admits-all D x u z), λ h x a. h x)
+  pub floors-unmasked : D .mask ≡ 0 → WholeFloors D b f ↔ ((x : List ℤ) → b ≤ℤ valueAt x f)
+  floors-unmasked z = (λ h x. h x (admits-all D 1 x u z), λ h x a. h x)
+
+pub floor : Floor
+floor D S b f rows t =
+    let whole : WholeFloors D b f = λ x a. at-whole b f x (rows-floor D S b f rows t 1 x (omega arith) a) in
+    record {
+      fractions = rows-floor D S b f rows t;
+      whole = whole;
+      unlimited = λ u. floors-unlimited D b f u .0 whole;
+      everywhere = λ u z. floors-unmasked D b f u z .0 whole;
+    }
+
+-- ---- a common denominator
+
+pub common-denominator : CommonDenominator
+common-denominator D p q m d e a w = record {
+  allowed = λ i k. go i k (decLt i (D .n));
+  within = λ i l f. rw (table-get over (pos 1) (D .n) i l, abs-mul (p i) (pos (m i)), ← (e i l))
+      (omega (arith, mul-le-mul-right (m i) (w i l f)));
+}
+  where
+    over : ℕ → ℤ
+    over i = p i *ℤ pos (m i)
+
+    go : (i : ℕ) → Masked (D .mask) i → Dec (i < D .n) → pos 0 ≤ℤ variable (table over (D .n)) i
+    go i k (yes l) = rw (table-get over (pos 1) (D .n) i l) (*ℤ-nonneg (a i k) (pos-nonneg (m i)))
+    go i k (no l) = rw (table-past over (pos 1) (D .n) i (omega arith)) (pos-nonneg 1)

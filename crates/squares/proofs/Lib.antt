@@ -1,3 +1,4 @@
 pub mod Sums
+pub mod Fractions
 pub mod Targets
 pub mod Floor

@@ -15,5 +15,5 @@ targets-unlimited c = record {
   targets = λ a u α. target-of c a α ∙ target-unlimited (domainWith c (limitIn (a .limits))) (a .scale) _ α u;
   idle = λ a z α. target-of c a α ∙ target-idle (domainWith c (limitIn (a .limits))) (a .scale) _ α z;
   floors = λ limits u b. floors-unlimited (domainWith c limits) b (termsOf c) u;
-  admits = λ limits u x. (λ h. h .allowed, admits-allowed (domainWith c limits) x u);
+  admits = λ limits u d x. (λ h. h .allowed, admits-allowed (domainWith c limits) d x u);
 }

@@ -13,5 +13,5 @@ unmasked c z = record {
   header = header-unmasked c z;
   targets = λ a u α. target-of c a α ∙ target-unmasked (domainWith c (limitIn (a .limits))) (a .scale) _ α u z;
   floors = λ limits u b. floors-unmasked (domainWith c limits) b (termsOf c) u z;
-  admits = λ limits u x. admits-all (domainWith c limits) x u z;
+  admits = λ limits u d x. admits-all (domainWith c limits) d x u z;
 }

@@ -10,7 +10,7 @@ use Rattle.monomials.specs.Powers.{Allowed}
 use Rattle.squares.specs.Sums.{coefficient, valueAt}
 use Rattle.squares.specs.Domains.{Unlimited, Admits}
 use Rattle.squares.specs.Targets.{lowered, worst}
-use Rattle.squares.specs.Floor.{Floors}
+use Rattle.squares.specs.Floor.{WholeFloors}
 use Rattle.squares.specs.declared.limits.Limit.{Limit}
 use Rattle.sheets.specs.Layout.{variables, maskOf}
 use Rattle.sheets.specs.ClaimSheet.{domainWith, termsOf}
@@ -31,7 +31,7 @@ pub record TargetsUnlimited (c : List ℕ) : Type 0 where
       → (α : Exponents) → targetOf c a α ≡ plainTarget c (a .scale) (a .floor) α
   -- "The floor holds at whole points with masked variables at least 0"
   pub floors : (limits : ℕ → Limit) → Unlimited limits
-      → (b : ℤ) → Floors (domainWith c limits) b (termsOf c)
+      → (b : ℤ) → WholeFloors (domainWith c limits) b (termsOf c)
       ↔ ((x : List ℤ) → Allowed (maskOf c) x → b ≤ℤ valueAt x (termsOf c))
   pub admits : (limits : ℕ → Limit) → Unlimited limits
-      → (x : List ℤ) → Admits (domainWith c limits) x ↔ Allowed (maskOf c) x
+      → (d : ℕ) (x : List ℤ) → Admits (domainWith c limits) d x ↔ Allowed (maskOf c) x

@@ -13,7 +13,7 @@ use Rattle.points.specs.Points.{Exponents, every}
 use Rattle.squares.specs.Sums.{coefficient, valueAt}
 use Rattle.squares.specs.Domains.{Unlimited, Admits}
 use Rattle.squares.specs.Targets.{lowered, worst}
-use Rattle.squares.specs.Floor.{Floors}
+use Rattle.squares.specs.Floor.{WholeFloors}
 use Rattle.squares.specs.declared.limits.Limit.{Limit}
 use Rattle.sheets.specs.Layout.{variables, maskOf}
 use Rattle.sheets.specs.ClaimSheet.{domainWith, termsOf}
@@ -31,8 +31,8 @@ pub record AsBefore (c : List ℕ) : Type 0 where
       (coefficient α (lowered (variables c) (a .floor) (termsOf c)))
   -- Demand 3: "at all whole offsets, of either sign and however large", the floor and the values
   pub floors : (limits : ℕ → Limit) → Unlimited limits
-      → (b : ℤ) → Floors (domainWith c limits) b (termsOf c) ↔ ((x : List ℤ) → b ≤ℤ valueAt x (termsOf c))
-  pub admits : (limits : ℕ → Limit) → Unlimited limits → (x : List ℤ) → Admits (domainWith c limits) x
+      → (b : ℤ) → WholeFloors (domainWith c limits) b (termsOf c) ↔ ((x : List ℤ) → b ≤ℤ valueAt x (termsOf c))
+  pub admits : (limits : ℕ → Limit) → Unlimited limits → (d : ℕ) (x : List ℤ) → Admits (domainWith c limits) d x
 
 abbrev pub Unmasked : Type 0
 Unmasked = (c : List ℕ) → maskOf c ≡ 0 → AsBefore c

@@ -4,4 +4,5 @@ pub mod Checks
 pub mod Judging
 pub mod Searches
 pub mod Evaluations
+pub mod Fractions
 pub mod Reports

@@ -12,9 +12,10 @@ use Rattle.answers.specs.Answers.{says, blameless, Passes}
 use Rattle.answers.specs.declared.answers.Verdict.{Verdict}
 use Rattle.answers.proofs.answers.Laws.{passes-or-fails}
 use Rattle.points.specs.Points.{Exponents}
+use Rattle.squares.proofs.Floor.{admits-allowed}
 use Rattle.sheets.specs.Layout.{variables, rowCount, shapeOf, ProofRoom}
 use Rattle.rows.specs.ProofSheet.{scaleOf, tripleOf, tripleFor}
-use Rattle.limits.specs.LimitsSheet.{noLimits}
+use Rattle.limits.specs.LimitsSheet.{domainOf, noLimits}
 use Rattle.limits.proofs.limits_sheet.Laws.{none-bytes, none-length}
 use Rattle.limits.proofs.limit_checks.Laws.{none-limited}
 use Rattle.targets.specs.Targets.{aimOf}
@@ -181,8 +182,10 @@ module _ (c s : List ℕ) where
         refusal = refused-text;
         promises = text-promises b;
         plain = unlimited c s;
-        floors = λ h. text-promises b .unlimited h none;
-        everywhere = λ h. text-promises b .everywhere h none;
+        floors = λ h. text-promises b .floors h .unlimited none;
+        fractions = λ h d x l a.
+            text-promises b .floors h .fractions d x l (admits-allowed (domainOf c ls) d x none a);
+        everywhere = λ h. text-promises b .floors h .everywhere none;
       }
 
 -- every input has its lines
