@@ -1,10 +1,10 @@
 //! What a floor means: where no masked variable is negative and each limited one within its limit,
-//! the polynomial is nowhere under it. Two posts show what trials cannot tell, a masked cube and a
-//! limited square what a floor leaves open.
+//! the polynomial is nowhere under it, at fractions of an offset neither. Two posts show what trials
+//! cannot tell, a masked cube and a limited square what a floor leaves open.
 
 use crate::answers;
 use crate::report::{equal, Outcome, Report};
-use oracle::Integer;
+use oracle::{Integer, Sides};
 use sheets::limited::minus_square;
 use sheets::masked::cube;
 use sheets::posts::{post_4, post_9};
@@ -14,6 +14,10 @@ use sheets::{is_masked, Case, Example};
 /// How many accepted sheets of each kind are looked at, and at how many places each.
 const SHEETS: usize = 300;
 const PLACES: usize = 6;
+
+/// Offsets are whole, or have one of these denominators.
+const WHOLE: [u32; 1] = [1];
+const DENOMINATORS: [u32; 4] = [1, 2, 3, 1000];
 
 /// The posts' readings are within plus and minus this.
 const MOST_READING: i32 = 1023;
@@ -27,8 +31,12 @@ type FloorOf = fn(&Case, &mut Rng) -> Result<Option<i32>, String>;
 pub fn run(report: &mut Report) {
     let floors: [(&str, FloorOf); 2] =
         [("the floor", accepted_floor), ("the found floor", found_floor)];
-    for (name, floor_of) in floors {
-        report.add(&format!("values at least {name}"), are_at_least(name, floor_of));
+    let places: [(&str, &[u32]); 2] = [("values", &WHOLE), ("fractions", &DENOMINATORS)];
+    for (places, denominators) in places {
+        for (floor, floor_of) in floors {
+            let name = format!("{places} at least {floor}");
+            report.add(&name, are_at_least(&name, floor_of, denominators));
+        }
     }
     for (post, low_value) in [(post_4(), 0), (post_9(), -1)] {
         let name = post.name;
@@ -44,9 +52,9 @@ pub fn run(report: &mut Report) {
     }
 }
 
-/// Claims evaluated exactly at numbers that their masks and limits admit, of any size where nothing
-/// limits them; some of the values are the floor.
-fn are_at_least(name: &str, floor_of: FloorOf) -> Outcome {
+/// Claims evaluated exactly at numbers over one of the denominators that their masks and limits
+/// admit, of any size where nothing limits them; some of the values are the floor.
+fn are_at_least(name: &str, floor_of: FloorOf, denominators: &[u32]) -> Outcome {
     let mut rng = Rng::new(1);
     let mut are_floors = Vec::new();
     for kind in [Kind::Accepted, Kind::Extreme, Kind::Found] {
@@ -54,14 +62,15 @@ fn are_at_least(name: &str, floor_of: FloorOf) -> Outcome {
             let case = kind.case(&mut rng);
             let Some(floor) = floor_of(&case, &mut rng)? else { continue };
             for _ in 0..PLACES {
-                let numbers = numbers(&mut rng, case.offsets.len());
-                let numbers = admitted(&case, &mut rng, numbers);
-                are_floors.push(is_floor(&floor.into(), &case.claim, &numbers)?);
+                let d = rng.pick(denominators);
+                let numbers = numbers(&mut rng, case.offsets.len(), d);
+                let numbers = admitted(&case, &mut rng, numbers, d);
+                are_floors.push(is_floor(&floor.into(), &case.claim, &numbers, d)?);
             }
         }
     }
     let floors = are_floors.iter().filter(|&&is_floor| is_floor).count();
-    println!("values at least {name}: {}, equal to it: {floors}", are_floors.len());
+    println!("{name}: {}, equal to it: {floors}", are_floors.len());
     equal("some values equal the floor", &true, &(floors > 0))
 }
 
@@ -76,32 +85,38 @@ fn found_floor(case: &Case, rng: &mut Rng) -> Result<Option<i32>, String> {
     Ok(answers::search(case, rng)?.ok().map(|found| found.accepted.floor))
 }
 
-/// The polynomial's value is the floor rather than more. Less is a mistake.
-fn is_floor(floor: &Integer, claim: &[u8], numbers: &[Integer]) -> Result<bool, String> {
-    let value = oracle::value(claim, numbers).map_err(|refusal| refusal.to_string())?;
-    if value < *floor {
-        return Err(format!("{value} is under the floor {floor} at {numbers:?} of {claim:?}"));
+/// The polynomial's value at the numbers over `d` is the floor rather than more. Less is a mistake.
+fn is_floor(floor: &Integer, claim: &[u8], h: &[Integer], d: u32) -> Result<bool, String> {
+    let sides = oracle::sides(claim, floor, h, d).map_err(|refusal| refusal.to_string())?;
+    let Sides { floor, value } = sides;
+    if value < floor {
+        return Err(format!("{value} is under the floor {floor} at {h:?} over {d} of {claim:?}"));
     }
-    Ok(value == *floor)
+    Ok(value == floor)
 }
 
-/// Offsets such as evaluations are given, or, once in four, numbers of up to 64 bits.
-fn numbers(rng: &mut Rng, count: usize) -> Vec<Integer> {
-    if rng.once_in(4) {
-        return (0..count).map(|_| Integer::from(rng.bits() as i64 >> rng.below(64))).collect();
-    }
-    offsets(rng, count).into_iter().map(Integer::from).collect()
+/// Offsets such as evaluations are given, or, once in four, numbers of up to 64 bits; multiples of
+/// `d` once in three.
+fn numbers(rng: &mut Rng, count: usize, d: u32) -> Vec<Integer> {
+    let numbers: Vec<Integer> = if rng.once_in(4) {
+        (0..count).map(|_| Integer::from(rng.bits() as i64 >> rng.below(64))).collect()
+    } else {
+        offsets(rng, count).into_iter().map(Integer::from).collect()
+    };
+    let factor = Integer::from(if rng.once_in(3) { d } else { 1 });
+    numbers.iter().map(|number| number * &factor).collect()
 }
 
-/// The numbers brought within the limits, often to their ends, and those of masked variables
-/// without their signs.
-fn admitted(case: &Case, rng: &mut Rng, mut numbers: Vec<Integer>) -> Vec<Integer> {
+/// The numbers over `d` brought within the limits, often to their ends, and those of masked
+/// variables without their signs.
+fn admitted(case: &Case, rng: &mut Rng, mut numbers: Vec<Integer>, d: u32) -> Vec<Integer> {
     for (variable, number) in numbers.iter_mut().enumerate() {
         if let Some(limit) = limit_of(case, variable) {
-            let is_beyond = number.abs() > Integer::from(limit);
+            let most = i64::from(limit) * i64::from(d);
+            let is_beyond = number.abs() > Integer::from(most);
             if is_beyond || rng.once_in(4) {
-                let within = rng.within(-i64::from(limit)..=limit.into());
-                *number = Integer::from(rng.pick(&[within, -i64::from(limit), limit.into()]));
+                let within = rng.within(-most..=most);
+                *number = Integer::from(rng.pick(&[within, -most, most]));
             }
         }
         if is_masked(case.claim[2], variable) {

@@ -15,22 +15,15 @@ pub fn evaluate(claim: &[u8], offsets: &[i32]) -> Result<Integer, Refusal> {
     Ok(sum(&terms))
 }
 
-/// The exact value of the claim's polynomial at whole numbers of any size, as many as it has
-/// variables; its terms may be of any size too.
-pub fn value(claim: &[u8], numbers: &[Integer]) -> Result<Integer, Refusal> {
-    let polynomial = claim::read(claim)?;
-    Ok(sum(&terms(&polynomial, numbers)))
-}
-
-/// The value of each term.
-fn terms(polynomial: &Claim, numbers: &[Integer]) -> Vec<Integer> {
+/// The value of each term at whole numbers of any size, as many as the claim has variables.
+pub fn terms(polynomial: &Claim, numbers: &[Integer]) -> Vec<Integer> {
     let term = |(point, coefficient): &(Vec<u8>, i32)| {
         &Integer::from(*coefficient) * &monomial(point, numbers)
     };
     polynomial.terms.iter().map(term).collect()
 }
 
-fn sum(terms: &[Integer]) -> Integer {
+pub fn sum(terms: &[Integer]) -> Integer {
     terms.iter().fold(Integer::default(), |sum, term| &sum + term)
 }
 

@@ -3,11 +3,12 @@
 //! Sheets are parsed into structures, targets and slots are kept in maps by point, and every
 //! number that is computed is an [`Integer`]. One module a section: `claim`, `proof`, `check`
 //! (targets, sharing, judging), `evaluate`, `text` (what the program prints). Of document 02,
-//! note 1 is `search`, note 4 `limits`, and the mask of note 3 is in `claim`.
+//! note 1 is `search`, note 4 `limits`, note 5 `fractions`, and the mask of note 3 is in `claim`.
 
 mod check;
 mod claim;
 mod evaluate;
+mod fractions;
 mod integer;
 mod limits;
 mod proof;
@@ -16,7 +17,8 @@ mod text;
 mod verdict;
 
 pub use check::{check, check_unlimited};
-pub use evaluate::{evaluate, value};
+pub use evaluate::evaluate;
+pub use fractions::{sides, Sides};
 pub use integer::Integer;
 pub use search::{search, Found};
 pub use text::{printed, text, verdict};
