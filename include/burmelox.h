@@ -3,10 +3,10 @@
  * docs/FORMAT.md has the layout of the sheets, what each refusal means and what to do about it.
  *
  * Byte 2 of a claim is its mask: bit i, of value 2^i, says that variable i is never negative. The
- * mask admits the integers at which each of these variables is at least 0; mask 0 admits all.
+ * mask admits the numbers at which each of these variables is at least 0; mask 0 admits all.
  *
  * A limits sheet says of each variable whether it is limited, and then that it stays within plus
- * and minus L. It admits the integers at which each limited variable does; n and 7 * n zero bytes
+ * and minus L. It admits the numbers at which each limited variable does; n and 7 * n zero bytes
  * limit no variable and admit all.
  *
  * Sheets, outputs and offsets may be of any length and content: what is wrong is refused, and a
@@ -117,8 +117,9 @@ enum burmelox_refusal {
 /*
  * Checks whether the proof shows the claim's floor within the limits. Where it does, the answer is
  * the number of rows, the output's first proof_len bytes are the exact proof and later ones keep
- * their values; the polynomial is then at least its floor at all integers that the mask and the
- * limits admit. Any other answer is a refusal. The output may not be the proof's own buffer.
+ * their values; the polynomial is then at least its floor at all integers, and at all fractions of
+ * integers, that the mask and the limits admit. Any other answer is a refusal. The output may not be
+ * the proof's own buffer.
  */
 uint64_t burmelox_check(const uint8_t *claim, size_t claim_len,
                         const uint8_t *proof, size_t proof_len,
@@ -141,11 +142,11 @@ uint64_t burmelox_evaluate(const uint8_t *claim, size_t claim_len,
  * span apart. The claim's own floor is not used, though 4 has to let it pass. Where a floor is
  * found, the answer is the number of rows, the floor is stored, and as `tried` the number of floors
  * tried, hi - floor + 1; the output's first proof_len bytes are the exact proof of this floor and
- * later ones keep their values. The polynomial is then at least that floor at all integers that the
- * mask and the limits admit, and a check of any higher floor up to hi is refused with these limits.
- * The claim is not changed: write the floor into its bytes 4 to 7 before it is checked with that
- * proof and these limits. Any other answer is a refusal; the output, the floor and `tried` then
- * stay as they were.
+ * later ones keep their values. The polynomial is then at least that floor at all integers and
+ * fractions that the mask and the limits admit, and a check of any higher floor up to hi is refused
+ * with these limits. The claim is not changed: write the floor into its bytes 4 to 7 before it is
+ * checked with that proof and these limits. Any other answer is a refusal; the output, the floor and
+ * `tried` then stay as they were.
  */
 uint64_t burmelox_search(const uint8_t *claim, size_t claim_len,
                          const uint8_t *proof, size_t proof_len,

@@ -105,7 +105,7 @@ rows-sized n rows t =
     gathered-all slotsOf (λ t. length (t .0) ≡ n) rows
     (all-map _ _ rows (λ a h. slots-sized n (a .v) (a .w) (a .weights) (h .v-length) (h .w-length)) t)
 
--- a row's mean at h / d, where no slot of it or of those after it has a degree above E
+-- at h / d a pair's midpoint is worth the mean of its ends, where no slot has a degree above E
 module _ (E d : ℕ) (h : List ℤ) where
   means : (v w : Exponents) (s : Weights) → Whole v w s → Low E (slotsAt v w s) → Mean (homogenised E d h) v w s
   unfolding slotsAt
