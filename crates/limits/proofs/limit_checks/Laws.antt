@@ -1,5 +1,5 @@
--- Laws of the checks 24 and 25: how large a power is, the test of a limit and its words, what it says of a sheet that it
--- passes them, and how short their answers are.
+-- Laws of the checks 24 and 25: how large a power is, the test of a limit and its words, what it says of a sheet that
+-- it passes them, and how short their answers are.
 use mathlib.Core.Path.{_≡_, refl, sym, _∙_}
 use mathlib.Core.Bool.{true, false, and-eq-true-iff}
 use mathlib.Core.List.{List}
