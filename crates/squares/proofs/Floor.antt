@@ -1,6 +1,7 @@
 -- The floor theorem's proof. Its statement is specs/Floor.antt.
 -- First for any worth φ of points, no less than 0 at those that keep their sign; then for monomials at h / d, lifted to
--- a degree that no point exceeds; last what it says of whole numbers, without limits and without a mask.
+-- a degree that no point exceeds; last what it says of whole numbers, without limits and without a mask, and of several
+-- denominators.
 use mathlib.Core.Path.{_≡_, sym, _∙_, ap}
 use mathlib.Core.Bool.{true}
 use mathlib.Core.List.{List, [], _∷_, _++_}
@@ -25,7 +26,7 @@ use Rattle.squares.specs.Domains.{Domain, Unlimited, Admits, CommonDenom
 use Rattle.squares.specs.Fractions.{degree, degreeOf, homogenised, valueOver}
 use Rattle.squares.specs.Targets.{lowered, worst, target}
 use Rattle.squares.specs.Decomposition.{Sized, Whole, Placed, AddsUp, Decomposition}
-use Rattle.squares.specs.Floor.{AtMost, WholeFloors, Floor}
+use Rattle.squares.specs.Floor.{AtMost, FractionFloors, WholeFloors, Floor}
 use Rattle.squares.specs.declared.rows.Weights.{Weights}
 use Rattle.squares.specs.declared.rows.Weights.the-variants.{Pair, Lone}
 use Rattle.squares.proofs.Fractions.{Low, degrees-low, degree-constant, homogenised-sign, homogenised-mean, homogenised-constant, lifted, one-power, whole-value}
@@ -149,7 +150,7 @@ slots-floor D S b f M s sf sm e d h l a nonneg =
     raise b (pos (d ^ T)) (valueOver d h f) (rw (homogenised-constant T d h (D .n)) at low)
 
 rows-floor : (D : Domain) (S : ℕ) (b : ℤ) (f : Sum) (rows : List Row) → Decomposition D S b f rows
-    → (d : ℕ) (h : List ℤ) → 0 < d → Admits D d h → AtMost b f d h
+    → FractionFloors D b f
 rows-floor D S b f rows t d h l a =
     slots-floor D S b f (slots rows) (t .scale) (t .sized) (rows-sized (D .n) rows (t .placed)) (t .adds-up) d h l a
     (λ E even low. rows-nonneg (homogenised E d h) rows (all-means E d h (D .n) rows (t .placed) low) (t .hold))

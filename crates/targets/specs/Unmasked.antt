@@ -1,5 +1,4 @@
--- A claim without a mask, none of whose variables is limited, is judged as document 01 says, and admits all whole
--- offsets.
+-- A claim without a mask, none of whose variables is limited, is judged as document 01 says, and admits all offsets.
 use mathlib.Core.Path.{_≡_}
 use mathlib.Core.Bool.{_&&_}
 use mathlib.Core.List.{List}
@@ -32,6 +31,7 @@ pub record AsBefore (c : List ℕ) : Type 0 where
   -- Demand 3: "at all whole offsets, of either sign and however large", the floor and the values
   pub floors : (limits : ℕ → Limit) → Unlimited limits
       → (b : ℤ) → WholeFloors (domainWith c limits) b (termsOf c) ↔ ((x : List ℤ) → b ≤ℤ valueAt x (termsOf c))
+  -- and every x / d is admitted
   pub admits : (limits : ℕ → Limit) → Unlimited limits → (d : ℕ) (x : List ℤ) → Admits (domainWith c limits) d x
 
 abbrev pub Unmasked : Type 0

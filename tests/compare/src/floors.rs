@@ -1,5 +1,5 @@
 //! What a floor means: where no masked variable is negative and each limited one within its limit,
-//! the polynomial is nowhere under it, at fractions of an offset neither. Two posts show what trials
+//! the polynomial is nowhere under it, nor at fractions of an offset. Two posts show what trials
 //! cannot tell, a masked cube and a limited square what a floor leaves open.
 
 use crate::answers;
