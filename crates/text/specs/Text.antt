@@ -37,6 +37,11 @@ counted label n = label ++ natural n
 unfoldable pub numbered : List ℕ → ℤ → List ℕ
 numbered label z = label ++ integer z
 
+-- the first i of many texts, one after another
+unfoldable pub textsTo : (ℕ → List ℕ) → ℕ → List ℕ
+textsTo text zero = []
+textsTo text (suc i) = textsTo text i ++ text i
+
 -- ---- a lent buffer
 
 -- there is room for a text from a place on

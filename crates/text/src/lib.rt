@@ -1,3 +1,4 @@
-// Text put over a lent buffer: numbers, labels, and the lines that the program prints.
+// Text put over a lent buffer: numbers, labels, columns, and the lines that the program prints.
+pub mod columns;
 pub mod lines;
 pub mod text;

@@ -13,7 +13,7 @@ pub fn put_byte(b: u8, out: &mut [u8], at: usize) -> usize
 }
 
 // A text as it stands.
-fn put_text(text: &[u8], out: &mut [u8], at: usize) -> usize
+pub fn put_text(text: &[u8], out: &mut [u8], at: usize) -> usize
     requires { ⌜ Room (now out) at (now text) ⌝ }
     ensures { λ r. ⌜ Written (now (out .entry)) at (now (text .entry)) (now (out .exit)) r ⌝ }
 {
@@ -38,7 +38,7 @@ fn natural(n: u64, out: &mut [u8], at: usize) -> usize
 }
 
 // A number of either sign.
-fn integer(z: i64, out: &mut [u8], at: usize) -> usize
+pub(crate) fn integer(z: i64, out: &mut [u8], at: usize) -> usize
     requires { ⌜ Room (now out) at (integer z) ⌝ }
     ensures { λ r. ⌜ Written (now (out .entry)) at (integer z) (now (out .exit)) r ⌝ }
 {

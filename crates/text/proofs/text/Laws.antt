@@ -1,5 +1,6 @@
 -- Laws of text put over a buffer, one piece after another, and of how long numbers are.
-use mathlib.Core.Path.{_≡_, sym, _∙_, ap}
+use mathlib.Core.Path.{_≡_, refl, sym, _∙_, ap}
+use mathlib.Core.Bool.{true, false, true≢false}
 use mathlib.Core.List.{List, [], _∷_, _++_}
 use Prim.Native.Nat.{ℕ, zero, suc, _+_, _/_, _%_, _^_, _<_, _≤_}
 use native.Mathlib.Decide.{decLt}
@@ -8,7 +9,8 @@ use native.Mathlib.Omega.{arith}
 use lib.IntN.{ℤ, pos, negsuc, natAbs}
 use lib.ListN.{length, set, length-append}
 use lib.Seq.{sets}
-use borrow.Author.Tests.{lt-ltb, le-ltb}
+use lib.Signed.{ltZ}
+use borrow.Author.Tests.{lt-ltb, le-ltb, ltb-true}
 use Rattle.text.specs.Text.{digits, natural, integer, numbered, Room, Written}
 
 -- ---- one text after another
@@ -82,6 +84,27 @@ pub integer-short : (k : ℕ) (z : ℤ) → natAbs z < 10 ^ suc k → length (in
 unfolding integer
 integer-short k (pos n) h = omega (arith, natural-short k n h)
 integer-short k (negsuc n) h = omega (arith, natural-short k (suc n) h)
+
+-- a number's text by its absolute value m; z′ is what the machine reads back of z
+module _ (z z′ : ℤ) (m : ℕ) (em : m ≡ natAbs z′) (back : z′ ≡ z) where
+  abs-is : m ≡ natAbs z
+  abs-is = em ∙ ap natAbs back
+
+  pub unsigned : ltZ z′ (pos 0) ≡ false → integer z ≡ natural m
+  unfolding integer
+  unsigned t = rw abs-is (go z (rw back at t))
+    where
+      go : (z : ℤ) → ltZ z (pos 0) ≡ false → integer z ≡ natural (natAbs z)
+      go (pos n) t = refl
+      go (negsuc n) t = absurd (true≢false t)
+
+  pub minus : ltZ z′ (pos 0) ≡ true → integer z ≡ (45 ∷ []) ++ natural m
+  unfolding integer
+  minus t = rw abs-is (go z (rw back at t))
+    where
+      go : (z : ℤ) → ltZ z (pos 0) ≡ true → integer z ≡ 45 ∷ natural (natAbs z)
+      go (pos n) t = absurd (omega (arith, ltb-true n 0 t))
+      go (negsuc n) t = refl
 
 -- a label and a number as the machine reads it back, and the text after it
 module _ {l m : List ℕ} {at mid : ℕ} (label : List ℕ) (z z′ : ℤ) (w : Written l at (numbered label z′) m mid)

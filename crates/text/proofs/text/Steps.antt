@@ -1,17 +1,16 @@
 -- The steps of the functions that put digits, numbers and labels.
 use mathlib.Core.Path.{_≡_, refl, _∙_, ap}
-use mathlib.Core.Bool.{true, false, true≢false}
+use mathlib.Core.Bool.{true, false}
 use mathlib.Core.List.{List, [], _∷_, _++_}
 use Prim.Native.Nat.{ℕ, _+_, _/_, _%_, _<_, _≤_}
 use native.Mathlib.Numerals.{add-one}
 use native.Mathlib.Omega.{arith}
-use lib.IntN.{ℤ, pos, negsuc, natAbs}
+use lib.IntN.{ℤ, pos, natAbs}
 use lib.ListN.{length, getD, take, set, length-take}
 use lib.Seq.{sets, length-sets, take-suc, take-all}
 use lib.Signed.{ltZ}
-use borrow.Author.Tests.{ltb-true}
 use Rattle.text.specs.Text.{natural, integer, numbered, Room, Written}
-use Rattle.text.proofs.text.Laws.{natural-before, natural-last, room-first, room-then, sets-joined, written-then}
+use Rattle.text.proofs.text.Laws.{natural-before, natural-last, room-first, room-then, sets-joined, written-then, unsigned, minus}
 
 -- ---- one text after another
 
@@ -58,35 +57,16 @@ module _ (l : List ℕ) (n at : ℕ) where
 
 -- integer: m is the absolute value, z′ what the machine reads back of z
 module _ (z z′ : ℤ) (m at : ℕ) (l : List ℕ) (em : m ≡ natAbs z′) (back : z′ ≡ z) where
-  abs-is : m ≡ natAbs z
-  abs-is = em ∙ ap natAbs back
-
   module _ (t : ltZ z′ (pos 0) ≡ false) where
-    unsigned : integer z ≡ natural m
-    unfolding integer
-    unsigned = rw abs-is (go z (rw back at t))
-      where
-        go : (z : ℤ) → ltZ z (pos 0) ≡ false → integer z ≡ natural (natAbs z)
-        go (pos n) t = refl
-        go (negsuc n) t = absurd (true≢false t)
-
     pub unsigned-room : Room l at (integer z) → Room l at (natural m)
-    unsigned-room r = rw unsigned at r
+    unsigned-room r = rw (unsigned z z′ m em back t) at r
 
     pub unsigned-written : (o : List ℕ) (end : ℕ) → Written l at (natural m) o end → Written l at (integer z) o end
-    unsigned-written o end w = rw unsigned w
+    unsigned-written o end w = rw (unsigned z z′ m em back t) w
 
   module _ (t : ltZ z′ (pos 0) ≡ true) where
-    minus : integer z ≡ (45 ∷ []) ++ natural m
-    unfolding integer
-    minus = rw abs-is (go z (rw back at t))
-      where
-        go : (z : ℤ) → ltZ z (pos 0) ≡ true → integer z ≡ 45 ∷ natural (natAbs z)
-        go (pos n) t = absurd (omega (arith, ltb-true n 0 t))
-        go (negsuc n) t = refl
-
     both-signs : Room l at (integer z) → Room l at ((45 ∷ []) ++ natural m)
-    both-signs r = rw minus at r
+    both-signs r = rw (minus z z′ m em back t) at r
 
     pub minus-room : Room l at (integer z) → Room l at (45 ∷ [])
     minus-room r = room-first (45 ∷ []) (natural m) (both-signs r)
@@ -96,7 +76,7 @@ module _ (z z′ : ℤ) (m at : ℕ) (l : List ℕ) (em : m ≡ natAbs z′) (ba
       minus-after r = room-then (45 ∷ []) (natural m) (both-signs r) w
 
       pub minus-written : (o : List ℕ) (end : ℕ) → Written s mid (natural m) o end → Written l at (integer z) o end
-      minus-written o end u = rw minus (written-then (45 ∷ []) (natural m) w u)
+      minus-written o end u = rw (minus z z′ m em back t) (written-then (45 ∷ []) (natural m) w u)
 
 -- numbered
 pub numbered-written : (label l m o : List ℕ) (at mid end : ℕ) (z z′ : ℤ) → Written l at label m mid
