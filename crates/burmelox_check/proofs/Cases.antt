@@ -26,9 +26,9 @@ use Rattle.weighing.specs.Exact.{weightsFor, exactProof}
 use Rattle.weighing.specs.Weighed.{rowsJudged}
 use Rattle.weighing.specs.Unlimited.{plainPoint, plainUnheld, plainWeighed}
 use Rattle.judging.specs.Unlimited.{plainTargets, plainAnswer, plainOutput}
-use Rattle.text.specs.Text.{digits, natural, integer, counted, numbered}
+use Rattle.text.specs.Text.{digits, natural, integer, counted, numbered, textsTo}
 use Rattle.text.specs.Lines.{scaleText, acceptedLine, laterText, weightsText, rowLine, refusedLine}
-use Rattle.report.specs.Reports.{ended, linesOf, rowsText, firstText, acceptedText, refusedText, reportable, reportText}
+use Rattle.report.specs.Reports.{ended, shownOf, verdictLine, rowText, rowsText, reportLines, hasRows, reportable, reportText}
 use Rattle.worked.specs.Sheets.{joined, word, words, claimOf, proofOf, squareWith, square, squareProof, masked, maskedSquare, motzkin, motzkinProof}
 use Rattle.burmelox_check.specs.Input.{saidLength, splits, claimEnd, claimPart, proofPart}
 use Rattle.burmelox_check.specs.Printing.{sheetsText, programText}
@@ -37,7 +37,7 @@ use Rattle.burmelox_check.specs.Cases.{cases, Worked}
 pub worked : Worked
 unfolding
     cases programText sheetsText proofPart claimPart claimEnd splits saidLength reportText reportable
-    refusedText acceptedText firstText rowsText linesOf ended refusedLine rowLine weightsText laterText
+    hasRows reportLines rowsText rowText shownOf verdictLine ended textsTo refusedLine rowLine weightsText laterText
     acceptedLine scaleText numbered counted integer natural digits u32At i32At withBits withI32 floorDiv
     floorMod share table bytesAt every everyPair samePoint risesTo midpointOf evenSum hasMidpoint
     exponentsWithin keepsSign gathered coefficient slotsAt lowered worst floorOf termPoint coefficientOf

@@ -18,8 +18,8 @@ use Rattle.weighing.specs.Exact.{weightsFor}
 use Rattle.judging.specs.Unlimited.{plainTargets, plainAnswer, plainOutput, CheckUnlimited}
 use Rattle.judging.specs.Promises.{CheckPromises}
 use Rattle.text.specs.Text.{ascii}
-use Rattle.text.specs.Lines.{acceptedLine}
-use Rattle.report.specs.Reports.{ended, linesOf, refusedText, reportText}
+use Rattle.text.specs.Lines.{acceptedLine, refusedLine}
+use Rattle.report.specs.Reports.{ended, linesOf, reportText}
 use Rattle.burmelox_check.specs.Input.{claimPart, proofPart}
 
 -- the report of the check of a claim and its proof alone, with what it leaves in the output: the program "limits no
@@ -50,7 +50,7 @@ Accepts text = take 8 text ≡ ascii "accepted"
 pub record IsPrinted (c s text : List ℕ) : Type 0 where
   pub acceptance : Passes (plainAnswer c s (length s)) → text ≡ acceptedLines c s
   pub refusal : blameless (plainAnswer c s (length s)) ≡ false
-      → text ≡ refusedText (plainAnswer c s (length s) .number) (plainAnswer c s (length s) .value)
+      → text ≡ ended (refusedLine (plainAnswer c s (length s) .number) (plainAnswer c s (length s) .value))
   -- what the check promises, by the text's first word, with k and the shifted rows as its lines have them
   pub promises : CheckPromises c s (noLimits (variables c)) (zeros (length s)) (Accepts text) (rowCount s)
       (plainOutput c s (zeros (length s)))

@@ -29,7 +29,8 @@ use Rattle.judging.specs.Promises.{CheckPromises}
 use Rattle.judging.proofs.Unlimited.{plain-targets, check-unlimited}
 use Rattle.judging.proofs.Promises.{check-promises, accepted-formed, accepted-within, accepted-rows, accepted-exact}
 use Rattle.text.specs.Text.{Written}
-use Rattle.report.specs.Reports.{shapeWith, refusedText, reportText}
+use Rattle.text.specs.Lines.{refusedLine}
+use Rattle.report.specs.Reports.{ended, shapeWith, reportText}
 use Rattle.report.proofs.reports.Laws.{accepted-word, refused-word, accepted-lines, refused-lines}
 use Rattle.burmelox_check.specs.Input.{claimEnd, claimPart, proofPart}
 use Rattle.burmelox_check.specs.Printing.{zeros, sheetsText, programText, acceptedLines, IsPrinted, Accepts, PrintsLines}
@@ -144,12 +145,12 @@ module _ (c s : List ℕ) where
         let out = zeros (length s) in
         rw (← (unlimited c s .output out), ← (answers (length out)), ← targets)
         (rw (accepted-exact c s ls out as-long (rw as-long h), as-long, accepted-rows c s ls (length s) h)
-        (accepted-lines c exact (rowCount s) (scaleOf s) (λ i. tripleFor (weightsFor τ s i))
-        (omega (arith, own .claim .sized)) room (exact-scale τ s) weights))
+        (accepted-lines c exact (rowCount s) (omega (arith, own .claim .sized)) room (scaleOf s)
+        (λ i. tripleFor (weightsFor τ s i)) (exact-scale τ s) weights))
 
   refused-text : blameless (plainAnswer c s (length s)) ≡ false
       → sheetsText c s (zeros (length s))
-      ≡ refusedText (plainAnswer c s (length s) .number) (plainAnswer c s (length s) .value)
+      ≡ ended (refusedLine (plainAnswer c s (length s) .number) (plainAnswer c s (length s) .value))
   unfolding sheetsText
   refused-text h = rw as-long (refused-lines c (plainOutput c s (zeros (length s))) (plainAnswer c s (length s)) h)
 

@@ -1,10 +1,8 @@
 -- The steps of the functions that put a report.
 use mathlib.Core.Path.{_≡_, refl, sym, _∙_}
-use mathlib.Core.Bool.{Bool, true, false, _&&_, and-eq-true-iff}
+use mathlib.Core.Bool.{Bool, true, false, and-eq-true-iff}
 use mathlib.Core.List.{List, [], _∷_, _++_}
 use Prim.Native.Nat.{ℕ, zero, suc, _+_, _*_, _^_, _<_, _≤_}
-use native.Mathlib.Decide.{le-ind}
-use native.Mathlib.Numerals.{add-one}
 use native.Mathlib.Omega.{arith}
 use lib.Dec.{leb}
 use lib.IntN.{ℤ}
@@ -14,11 +12,11 @@ use mir.Syntax.{w32, w64}
 use mir.Val.{Fits}
 use Rattle.integers.proofs.words.Laws.{Bytes}
 use Rattle.bounds.specs.Bounds.{mostVariables, mostRows}
-use Rattle.answers.specs.Answers.{says}
+use Rattle.answers.specs.Answers.{Answer, says, Passes}
 use Rattle.answers.specs.declared.answers.Sheet.{Sheet}
 use Rattle.answers.specs.declared.answers.Verdict.{Verdict}
 use Rattle.answers.specs.declared.answers.Verdict.the-variants.{Accepted, Refused}
-use Rattle.answers.proofs.answers.Laws.{failed, passed, accepted-value}
+use Rattle.answers.proofs.answers.Laws.{failed, passed, accepted-says, accepted-value}
 use Rattle.sheets.specs.Layout.{variables, proofLength, ProofRoom}
 use Rattle.sheets.specs.ClaimSheet.{floorOf}
 use Rattle.sheets.specs.declared.layout.Shape.{Shape}
@@ -26,45 +24,83 @@ use Rattle.sheets.proofs.claim_sheet.Laws.{floor-fits}
 use Rattle.rows.specs.ProofSheet.{scaleOf, tripleOf}
 use Rattle.rows.specs.declared.proof_sheet.Triple.{Triple}
 use Rattle.rows.proofs.proof_sheet.Laws.{scale-bound, triple-narrow}
-use Rattle.text.specs.Text.{Room, Written}
-use Rattle.text.specs.Lines.{acceptedLine, rowLine}
-use Rattle.text.proofs.text.Laws.{room-first, room-then, written-then}
+use Rattle.text.specs.Text.{textsTo, Room, Written}
+use Rattle.text.specs.Lines.{acceptedLine, rowLine, refusedLine}
+use Rattle.text.proofs.text.Laws.{room-first, room-then, written-then, texts-start, texts-room, texts-short}
 use Rattle.text.proofs.lines.Laws.{accepted-short, line-short, refusal-short}
-use Rattle.report.specs.Reports.{ended, linesOf, rowText, rowsText, shapeWith, firstText, acceptedText, refusedText, reportable, reportText}
+use Rattle.report.specs.Reports.{ended, shapeWith, shownOf, Carries, Shows, verdictLine, rowText, rowsText, reportLines, hasRows, reportable, reportText}
+use Rattle.report.proofs.reports.Laws.{refused-line, accepted-line, none-shown, all-shown}
 
--- ---- how long they are: numbers of 32 bits, and no more rows than a proof can have
+-- ---- the first line, of v
 
-first-short : (c s : List ℕ) (k : ℕ) → Bytes c → Bytes s → k ≤ mostRows → length (firstText c s k) ≤ 53
-unfolding firstText ended
-first-short c s k bc bs h =
-    let S : scaleOf s < 10 ^ 10 = omega (arith, scale-bound s bs) in
-    simp length-append (omega (arith, accepted-short k (scaleOf s) (floorOf c) (omega arith) S (floor-fits c bc)))
+module _ (c s l : List ℕ) (at : ℕ) (v : Verdict) where
+  -- a refusal: its numbers as they were read
+  module _ (x : Sheet) (h : v ≡ Refused x) (number index : ℕ) (en : number ≡ says v .number)
+      (ei : index ≡ says v .value) (f : Fits w32 number) (g : Fits w64 index) where
+    refused-here : verdictLine c s (says v) ≡ refusedLine number index
+    refused-here = refused-line c s (says v) (failed v _ refl x h) ∙ rw (en, ei)
 
-row-short : (s : List ℕ) (sh : Shape) (i : ℕ) → Bytes s → i < mostRows → length (rowText s sh i) ≤ 50
-unfolding rowText ended
-row-short s sh i b h =
-    let f = triple-narrow s sh i b in
-    let x = tripleOf s sh i in
-    simp length-append (omega (arith, line-short i x (omega arith) (f .p-fits) (f .q-fits) (f .r-fits)))
+    refused-short : length (refusedLine number index) ≤ 42
+    refused-short = refusal-short number index (omega (arith, f .fits)) (omega (arith, g .fits))
 
--- the first rows, one after another
-text-none : (s : List ℕ) (sh : Shape) → rowsText s sh 0 ≡ []
-unfolding rowsText linesOf
-text-none s sh = refl
+    pub refused-room : at + 52 ≤ length l → Room l at (refusedLine number index)
+    refused-room r = record { room = omega (arith, refused-short) }
 
-text-more : (s : List ℕ) (sh : Shape) (i : ℕ) → rowsText s sh (suc i) ≡ rowsText s sh i ++ rowText s sh i
-unfolding rowsText linesOf rowText
-text-more s sh i = refl
+    module _ (o : List ℕ) (end : ℕ) (w : Written l at (refusedLine number index) o end) where
+      pub refused-written : Written l at (verdictLine c s (says v)) o end
+      refused-written = rw refused-here w
 
-rows-short : (s : List ℕ) (sh : Shape) (i : ℕ) → Bytes s → i ≤ mostRows → length (rowsText s sh i) ≤ i * 50
-rows-short s sh zero b h = rw (text-none s sh) (omega arith)
-rows-short s sh (suc i) b h =
-    rw (text-more s sh i, length-append (rowsText s sh i) (rowText s sh i))
-    (omega (arith, rows-short s sh i b (omega arith), row-short s sh i b h))
+      pub refused-ends : end ≤ at + 52
+      refused-ends = omega (arith, w .ends, refused-short)
 
-refused-short : (number index : ℕ) → number < 10 ^ 10 → index < 10 ^ 20 → length (refusedText number index) ≤ 43
-unfolding refusedText ended
-refused-short number index h l = simp length-append (omega (arith, refusal-short number index h l))
+  -- an acceptance: a prime marks a number as the machine reads it back
+  module _ (k : ℕ) (h : v ≡ Accepted k) (carries : Carries c s (says v)) where
+    is-accepted : says v ≡ says (Accepted k)
+    is-accepted = rw h
+
+    room-carried : ProofRoom s (shapeWith s k)
+    room-carried = rw (is-accepted, accepted-value k) at (carries .proof (passed v _ refl k h))
+
+    pub claim-carried : 8 ≤ length c
+    claim-carried = carries .claim (passed v _ refl k h)
+
+    pub proof-carried : 8 ≤ length s
+    proof-carried = omega (arith, room-carried .long)
+
+    module _ (scale : ℕ) (floor floor′ : ℤ) (es : scale ≡ scaleOf s) (ef : floor ≡ floorOf c) (back : floor′ ≡ floor)
+        (bc : Bytes c) (bs : Bytes s) where
+      accepted-here : verdictLine c s (says v) ≡ acceptedLine k scale floor′
+      accepted-here = accepted-line c s (says v) k (is-accepted ∙ accepted-says k) ∙ rw (back, ef, es)
+
+      short : length (acceptedLine k scale floor′) ≤ 52
+      short =
+          let S : scale < 10 ^ 10 = omega (arith, es, scale-bound s bs) in
+          accepted-short k scale floor′ (omega (arith, room-carried .rows)) S (rw (back, ef) (floor-fits c bc))
+
+      pub accepted-room : at + 52 ≤ length l → Room l at (acceptedLine k scale floor′)
+      accepted-room r = record { room = omega (arith, short) }
+
+      module _ (o : List ℕ) (end : ℕ) (w : Written l at (acceptedLine k scale floor′) o end) where
+        pub accepted-written : Written l at (verdictLine c s (says v)) o end
+        accepted-written = rw accepted-here w
+
+        pub accepted-ends : end ≤ at + 52
+        accepted-ends = omega (arith, w .ends, short)
+
+    -- the rows that it shows: n is the number of variables that was read
+    module _ (n : ℕ) (en : n ≡ variables s) where
+      pub rows-shown : record { n = n; k = k } ≡ shownOf s (says v)
+      rows-shown = rw en (sym (all-shown s (says v) k (is-accepted ∙ accepted-says k)))
+
+      pub shows-rows : Shows s (record { n = n; k = k })
+      shows-rows = record { rows = λ _. rw en room-carried }
+
+  module _ (x : Sheet) (h : v ≡ Refused x) where
+    pub nothing-shown : record { n = 0; k = 0 } ≡ shownOf s (says v)
+    nothing-shown = sym (none-shown s (says v) (failed v _ refl x h))
+
+pub shows-nothing : (s : List ℕ) → Shows s (record { n = 0; k = 0 })
+shows-nothing s = record { rows = λ l. absurd (omega arith) }
 
 -- ---- a row's line: x is the triple that was read
 
@@ -82,159 +118,127 @@ module _ (s l : List ℕ) (sh : Shape) (i at : ℕ) (x : Triple) (e : x ≡ trip
     unfolding rowText ended
     row-written o end u = written-then _ _ (rw e at w) u
 
--- ---- the lines of all rows: mid is where those of the first i end
+-- ---- the lines of all rows
 
 module _ (s l : List ℕ) (sh : Shape) (at : ℕ) where
-  pub rows-start : Room l at (rowsText s sh (sh .k)) → Written l at (rowsText s sh 0) l at
-  rows-start r =
-      rw (text-none s sh) (record { bytes = refl; ends = omega arith; kept = refl; inside = omega (arith, r .room) })
+  pub rows-start : Room l at (rowsText s sh) → Written l at (textsTo (rowText s sh) 0) l at
+  rows-start r = texts-start (rowText s sh) l at (omega (arith, r .room))
 
-  rows-grow : (i k : ℕ) → i < k → length (rowsText s sh i ++ rowText s sh i) ≤ length (rowsText s sh k)
-  rows-grow i =
-      le-ind (λ m. length (rowsText s sh i ++ rowText s sh i) ≤ length (rowsText s sh m)) (rw text-more (omega arith))
-      (λ m _ g. rw (text-more s sh m, length-append (rowsText s sh m)) (omega arith))
+  module _ (i mid : ℕ) (m : List ℕ) (w : Written l at (textsTo (rowText s sh) i) m mid) where
+    pub row-shown : Shows s sh → i < sh .k → ProofRoom s sh
+    row-shown h l = h .rows (omega arith)
 
-  module _ (i mid : ℕ) (m : List ℕ) (w : Written l at (rowsText s sh i) m mid) where
-    pub next-room : Room l at (rowsText s sh (sh .k)) → i < sh .k → Room m mid (rowText s sh i)
-    next-room r h =
-        room-then (rowsText s sh i) (rowText s sh i)
-        (record { room = omega (arith, r .room, rows-grow i (sh .k) h) }) w
+    pub next-room : Room l at (rowsText s sh) → i < sh .k → Room m mid (rowText s sh i)
+    unfolding rowsText
+    next-room r h = texts-room (rowText s sh) i w (sh .k) r h
 
-    pub rows-next : (o : List ℕ) (end : ℕ) → Written m mid (rowText s sh i) o end
-        → Written l at (rowsText s sh (i + 1)) o end
-    rows-next o end u = rw (add-one, text-more s sh i) (written-then (rowsText s sh i) (rowText s sh i) w u)
-
-    pub rows-end : sh .k ≤ i → i ≤ sh .k → Written l at (rowsText s sh (sh .k)) m mid
+    pub rows-end : sh .k ≤ i → i ≤ sh .k → Written l at (rowsText s sh) m mid
+    unfolding rowsText
     rows-end h g = let e : i ≡ sh .k = omega arith in rw e at w
 
--- ---- an acceptance: a prime marks a number as the machine reads it back
+-- no more rows are shown than a proof can have
+shown-few : (s : List ℕ) (sh : Shape) → Shows s sh → sh .k ≤ mostRows
+shown-few s sh h = go (sh .k) refl
+  where
+    go : (k : ℕ) → sh .k ≡ k → sh .k ≤ mostRows
+    go zero e = omega (arith, e)
+    go (suc k) e = h .rows (omega (arith, e)) .rows
 
-module _ (c s l : List ℕ) (k at scale : ℕ) (floor floor′ : ℤ) (es : scale ≡ scaleOf s) (ef : floor ≡ floorOf c)
-    (back : floor′ ≡ floor) where
-  pub first-room : Room l at (firstText c s k) → Room l at (acceptedLine k scale floor′)
-  unfolding firstText ended
-  first-room r = rw (back, ef, es) (room-first _ _ r)
+row-short : (s : List ℕ) (sh : Shape) (i : ℕ) → Bytes s → i < mostRows → length (rowText s sh i) ≤ 50
+unfolding rowText ended
+row-short s sh i b h =
+    let f = triple-narrow s sh i b in
+    let x = tripleOf s sh i in
+    simp length-append (omega (arith, line-short i x (omega arith) (f .p-fits) (f .q-fits) (f .r-fits)))
 
-  module _ (m : List ℕ) (mid : ℕ) (w : Written l at (acceptedLine k scale floor′) m mid) where
-    pub first-feed : Room l at (firstText c s k) → Room m mid (10 ∷ [])
-    unfolding firstText ended
-    first-feed r = room-then _ _ r (rw (back, ef, es) at w)
+rows-short : (s : List ℕ) (sh : Shape) → Bytes s → sh .k ≤ mostRows → length (rowsText s sh) ≤ mostRows * 50
+unfolding rowsText
+rows-short s sh b h =
+    omega (arith, texts-short (rowText s sh) 50 (sh .k) (λ i l. row-short s sh i b (omega arith)))
 
-    pub first-written : (o : List ℕ) (end : ℕ) → Written m mid (10 ∷ []) o end → Written l at (firstText c s k) o end
-    unfolding firstText ended
-    first-written o end u = written-then _ _ (rw (back, ef, es) at w) u
+-- ---- a proof that has k rows
 
--- ---- sheets that have what an acceptance prints
+module _ (s : List ℕ) (k : ℕ) where
+  pub no-header : length s < 8 → false ≡ hasRows s k
+  unfolding hasRows
+  no-header h = rw (lt-leb 8 (length s) h)
 
-module _ (c s : List ℕ) (k : ℕ) where
-  pub no-claim : length c < 8 → false ≡ reportable c s k
+  module _ (q : 8 ≤ length s) (n : ℕ) (en : n ≡ variables s) where
+    pub many-variables : mostVariables < n → false ≡ hasRows s k
+    unfolding hasRows
+    many-variables h = rw (le-leb 8 (length s) q, ← en, lt-leb n mostVariables h)
+
+    module _ (few : n ≤ mostVariables) where
+      pub many-rows : mostRows < k → false ≡ hasRows s k
+      unfolding hasRows
+      many-rows h = rw (le-leb 8 (length s) q, ← en, le-leb n mostVariables few, lt-leb k mostRows h)
+
+      pub rows-fit : k ≤ mostRows → (l : ℕ) → l ≡ proofLength (record { n = n; k = k })
+          → leb l (length s) ≡ hasRows s k
+      unfolding hasRows
+      rows-fit h l el = rw (le-leb 8 (length s) q, ← en, le-leb n mostVariables few, le-leb k mostRows h, el)
+
+-- ---- sheets that have what a report prints: of v, which is an acceptance of k rows
+
+module _ (c s : List ℕ) (v : Verdict) where
+  pub refusal-reported : (x : Sheet) → v ≡ Refused x → true ≡ reportable c s (says v)
   unfolding reportable
-  no-claim h = rw (lt-leb 8 (length c) h)
+  refusal-reported x h = rw (failed v _ refl x h)
 
-  module _ (p : 8 ≤ length c) where
-    pub no-proof : length s < 8 → false ≡ reportable c s k
+  module _ (k : ℕ) (h : v ≡ Accepted k) where
+    pub no-claim : length c < 8 → false ≡ reportable c s (says v)
     unfolding reportable
-    no-proof h = rw (le-leb 8 (length c) p, lt-leb 8 (length s) h)
+    no-claim l = rw (passed v _ refl k h, lt-leb 8 (length c) l)
 
-    module _ (q : 8 ≤ length s) (n : ℕ) (en : n ≡ variables s) where
-      long : leb 8 (length c) && leb 8 (length s) ≡ true
-      long = rw (le-leb 8 (length c) p, le-leb 8 (length s) q)
-
-      pub many-variables : mostVariables < n → false ≡ reportable c s k
-      unfolding reportable
-      many-variables h = rw (long, ← en, lt-leb n mostVariables h)
-
-      module _ (few : n ≤ mostVariables) where
-        pub many-rows : mostRows < k → false ≡ reportable c s k
-        unfolding reportable
-        many-rows h = rw (long, ← en, le-leb n mostVariables few, lt-leb k mostRows h)
-
-        pub rows-reportable : k ≤ mostRows → (l : ℕ) → l ≡ proofLength (record { n = n; k = k })
-            → leb l (length s) ≡ reportable c s k
-        unfolding reportable
-        rows-reportable h l el = rw (long, ← en, le-leb n mostVariables few, le-leb k mostRows h, el)
+    pub rows-reported : 8 ≤ length c → (b : Bool) → b ≡ hasRows s k → b ≡ reportable c s (says v)
+    unfolding reportable
+    rows-reported l b e = rw (passed v _ refl k h, le-leb 8 (length c) l) (e ∙ rw (h, accepted-value k))
 
 -- what such sheets have
-record Enough (c s : List ℕ) (k : ℕ) : Type 0 where
-  claim : 8 ≤ length c
-  proof : 8 ≤ length s
-  rows : ProofRoom s (shapeWith s k)
-
-enough : (c s : List ℕ) (k : ℕ) → reportable c s k ≡ true → Enough c s k
-unfolding reportable
-enough c s k h =
+room-had : (s : List ℕ) (k : ℕ) → hasRows s k ≡ true → ProofRoom s (shapeWith s k)
+unfolding hasRows
+room-had s k h =
     let p = and-eq-true-iff _ _ .0 h in
     let q = and-eq-true-iff _ _ .0 (p .0) in
-    let r = and-eq-true-iff _ _ .0 (q .0) in
-    let t = and-eq-true-iff _ _ .0 (r .0) in
-    record {
-      claim = leb-true _ _ (t .0);
-      proof = leb-true _ _ (t .1);
-      rows = record { few = leb-true _ _ (r .1); rows = leb-true _ _ (q .1); long = leb-true _ _ (p .1) };
-    }
+    let r = and-eq-true-iff (leb 8 (length s)) _ .0 (q .0) in
+    record { few = leb-true _ _ (r .1); rows = leb-true _ _ (q .1); long = leb-true _ _ (p .1) }
 
-module _ (c s : List ℕ) (k : ℕ) (h : reportable c s k ≡ true) where
-  pub claim-reportable : 8 ≤ length c
-  claim-reportable = enough c s k h .claim
+carried : (c s : List ℕ) (a : Answer) → reportable c s a ≡ true → Carries c s a
+unfolding reportable
+carried c s a h = record { claim = λ e. leb-true _ _ (both e .0); proof = λ e. room-had s (a .value) (both e .1) }
+  where
+    both : Passes a → (leb 8 (length c) ≡ true) × (hasRows s (a .value) ≡ true)
+    both e = and-eq-true-iff (leb 8 (length c)) (hasRows s (a .value)) .0 (rw e at h)
 
-  pub proof-reportable : 8 ≤ length s
-  proof-reportable = enough c s k h .proof
+-- ---- the report of a verdict: b is whether the sheets have what it prints
 
-  pub room-reportable : (n : ℕ) → n ≡ variables s → ProofRoom s (record { n = n; k = k })
-  room-reportable n e = rw e (enough c s k h .rows)
-
--- accepted_text
-module _ (c s l m : List ℕ) (k at mid : ℕ) (w : Written l at (firstText c s k) m mid) (n : ℕ)
-    (e : n ≡ variables s) where
-  pub rows-after : Room l at (acceptedText c s k) → Room m mid (rowsText s (record { n = n; k = k }) k)
-  unfolding acceptedText
-  rows-after r = rw e (room-then (firstText c s k) (rowsText s (shapeWith s k) k) r w)
-
-  pub accepted-written : (o : List ℕ) (end : ℕ) → Written m mid (rowsText s (record { n = n; k = k }) k) o end
-      → Written l at (acceptedText c s k) o end
-  unfolding acceptedText
-  accepted-written o end u = written-then (firstText c s k) (rowsText s (shapeWith s k) k) w (rw e at u)
-
--- ---- the report of a verdict
-
-module _ (c s l o : List ℕ) (v : Verdict) (end : ℕ) where
-  pub refused-report : (x : Sheet) (number index : ℕ) → v ≡ Refused x → number ≡ says v .number → index ≡ says v .value
-      → Written l 0 (refusedText number index) o end → Written l 0 (reportText c s (says v)) o end
-  unfolding reportText
-  refused-report x number index h en ei w = rw (failed v (says v) refl x h, ← en, ← ei) w
-
--- b is whether the sheets have what the report prints
-module _ (c s l : List ℕ) (k : ℕ) (b : Bool) (e : b ≡ reportable c s k) where
-  pub reported : b ≡ true → reportable c s k ≡ true
-  reported t = sym e ∙ t
-
-  module _ (v : Verdict) (h : v ≡ Accepted k) where
-    pub accepted-report : (o : List ℕ) (end : ℕ) → b ≡ true → Written l 0 (acceptedText c s k) o end
-        → Written l 0 (reportText c s (says v)) o end
-    unfolding reportText
-    accepted-report o end t w = rw (passed v (says v) refl k h, h, accepted-value k, ← e, t) w
-
-    pub empty-report : b ≡ false → Written l 0 (reportText c s (says v)) l 0
-    unfolding reportText
-    empty-report t =
-        rw (passed v (says v) refl k h, h, accepted-value k, ← e, t)
-        (record { bytes = refl; ends = refl; kept = refl; inside = omega arith })
-
--- it has room
 abbrev longest : ℕ
 longest = 53 + 50 * mostRows
 
-pub accepted-room : (c s l : List ℕ) (k : ℕ) (b : Bool) → Bytes c → Bytes s → b ≡ reportable c s k → b ≡ true
-    → length l ≡ longest → Room l 0 (acceptedText c s k)
-unfolding acceptedText
-accepted-room c s l k b bc bs eb t e =
-    let few = enough c s k (sym eb ∙ t) .rows .rows in
-    record {
-      room = rw (length-append (firstText c s k) (rowsText s (shapeWith s k) k))
-          (omega (arith, first-short c s k bc bs few, rows-short s (shapeWith s k) k bs few));
-    }
+module _ (c s l : List ℕ) (v : Verdict) (b : Bool) (e : b ≡ reportable c s (says v)) where
+  pub unreported : b ≡ false → Written l 0 (reportText c s (says v)) l 0
+  unfolding reportText
+  unreported t = rw (← e, t) (record { bytes = refl; ends = refl; kept = refl; inside = omega arith })
 
-pub refused-room : (l : List ℕ) (number index : ℕ) → Fits w32 number → Fits w64 index → length l ≡ longest
-    → Room l 0 (refusedText number index)
-refused-room l number index f g e =
-    record { room = omega (arith, refused-short number index (omega (arith, f .fits)) (omega (arith, g .fits))) }
+  module _ (t : b ≡ true) where
+    pub report-carried : Carries c s (says v)
+    report-carried = carried c s (says v) (sym e ∙ t)
+
+    -- first is where the first line ends, m and o are the buffer after it and after its line feed
+    module _ (m o : List ℕ) (first mid : ℕ) (w : Written l 0 (verdictLine c s (says v)) m first)
+        (u : Written m first (10 ∷ []) o mid) where
+      line-written : Written l 0 (ended (verdictLine c s (says v))) o mid
+      unfolding ended
+      line-written = written-then _ _ w u
+
+      -- sh has the rows that are shown
+      module _ (sh : Shape) (es : sh ≡ shownOf s (says v)) where
+        pub rows-room : Bytes s → Shows s sh → first ≤ 52 → length l ≡ longest → Room o mid (rowsText s sh)
+        rows-room bs h f el = record {
+          room = omega (arith, rows-short s sh bs (shown-few s sh h), w .kept, u .kept, u .ends, f, el);
+        }
+
+        pub report-written : (p : List ℕ) (end : ℕ) → Written o mid (rowsText s sh) p end
+            → Written l 0 (reportText c s (says v)) p end
+        unfolding reportText reportLines
+        report-written p end x = rw (← e, t) (written-then _ _ line-written (rw es at x))

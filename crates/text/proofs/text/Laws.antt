@@ -2,16 +2,17 @@
 use mathlib.Core.Path.{_≡_, refl, sym, _∙_, ap}
 use mathlib.Core.Bool.{true, false, true≢false}
 use mathlib.Core.List.{List, [], _∷_, _++_}
-use Prim.Native.Nat.{ℕ, zero, suc, _+_, _/_, _%_, _^_, _<_, _≤_}
-use native.Mathlib.Decide.{decLt}
+use Prim.Native.Nat.{ℕ, zero, suc, _+_, _*_, _/_, _%_, _^_, _<_, _≤_}
+use native.Mathlib.Decide.{decLt, le-ind}
 use native.Mathlib.Nat.{pow-succ'}
+use native.Mathlib.Numerals.{add-one}
 use native.Mathlib.Omega.{arith}
 use lib.IntN.{ℤ, pos, negsuc, natAbs}
 use lib.ListN.{length, set, length-append}
 use lib.Seq.{sets}
 use lib.Signed.{ltZ}
 use borrow.Author.Tests.{lt-ltb, le-ltb, ltb-true}
-use Rattle.text.specs.Text.{digits, natural, integer, numbered, Room, Written}
+use Rattle.text.specs.Text.{digits, natural, integer, numbered, textsTo, Room, Written}
 
 -- ---- one text after another
 
@@ -36,6 +37,46 @@ room-first a b h = record { room = omega (arith, h .room, length-append a b) }
 
 pub room-then : {l m : List ℕ} {at mid : ℕ} (a b : List ℕ) → Room l at (a ++ b) → Written l at a m mid → Room m mid b
 room-then a b h w = record { room = omega (arith, h .room, length-append a b, w .ends, w .kept) }
+
+-- ---- many texts, one after another: l has room for the first k of them, and m has the first i, which end at mid
+
+pub texts-none : (text : ℕ → List ℕ) → textsTo text 0 ≡ []
+unfolding textsTo
+texts-none text = refl
+
+texts-more : (text : ℕ → List ℕ) (i : ℕ) → textsTo text (suc i) ≡ textsTo text i ++ text i
+unfolding textsTo
+texts-more text i = refl
+
+texts-grow : (text : ℕ → List ℕ) (i k : ℕ) → i < k → length (textsTo text i ++ text i) ≤ length (textsTo text k)
+texts-grow text i =
+    le-ind (λ k. length (textsTo text i ++ text i) ≤ length (textsTo text k)) (rw texts-more (omega arith))
+    (λ k _ g. rw (texts-more text k, length-append (textsTo text k)) (omega arith))
+
+pub texts-start : (text : ℕ → List ℕ) (l : List ℕ) (at : ℕ) → at ≤ length l → Written l at (textsTo text 0) l at
+texts-start text l at h =
+    rw (texts-none text) (record { bytes = refl; ends = omega arith; kept = refl; inside = h })
+
+module _ {l m : List ℕ} {at mid : ℕ} (text : ℕ → List ℕ) (i : ℕ) (w : Written l at (textsTo text i) m mid) where
+  pub texts-room : (k : ℕ) → Room l at (textsTo text k) → i < k → Room m mid (text i)
+  texts-room k r h =
+      room-then (textsTo text i) (text i) (record { room = omega (arith, r .room, texts-grow text i k h) }) w
+
+  pub texts-next : {o : List ℕ} {end : ℕ} → Written m mid (text i) o end → Written l at (textsTo text (i + 1)) o end
+  texts-next u = rw (add-one, texts-more text i) (written-then (textsTo text i) (text i) w u)
+
+pub texts-same : (a b : ℕ → List ℕ) (k : ℕ) → ((i : ℕ) → i < k → a i ≡ b i) → textsTo a k ≡ textsTo b k
+texts-same a b zero h = rw (texts-none a, texts-none b)
+texts-same a b (suc k) h =
+    rw (texts-more a k, texts-more b k, texts-same a b k (λ i l. h i (omega arith)), h k (omega arith))
+
+-- texts of at most so many bytes each
+pub texts-short : (text : ℕ → List ℕ) (n k : ℕ) → ((i : ℕ) → i < k → length (text i) ≤ n)
+    → length (textsTo text k) ≤ k * n
+texts-short text n zero h = rw (texts-none text) (omega arith)
+texts-short text n (suc k) h =
+    rw (texts-more text k, length-append (textsTo text k) (text k))
+    (omega (arith, texts-short text n k (λ i l. h i (omega arith)), h k (omega arith)))
 
 -- ---- the digits of a number
 
