@@ -1,15 +1,15 @@
 -- Laws of text put over a buffer, one piece after another, and of how long numbers are.
 use mathlib.Core.Path.{_≡_, refl, sym, _∙_, ap}
 use mathlib.Core.Bool.{true, false, true≢false}
-use mathlib.Core.List.{List, [], _∷_, _++_}
+use mathlib.Core.List.{List, [], _∷_, _++_, append-nil}
 use Prim.Native.Nat.{ℕ, zero, suc, _+_, _*_, _/_, _%_, _^_, _<_, _≤_}
 use native.Mathlib.Decide.{decLt, le-ind}
 use native.Mathlib.Nat.{pow-succ'}
 use native.Mathlib.Numerals.{add-one}
 use native.Mathlib.Omega.{arith}
 use lib.IntN.{ℤ, pos, negsuc, natAbs}
-use lib.ListN.{length, set, length-append}
-use lib.Seq.{sets}
+use lib.ListN.{length, set, length-append, drop-of-length-le}
+use lib.Seq.{sets, sets-eq}
 use lib.Signed.{ltZ}
 use borrow.Author.Tests.{lt-ltb, le-ltb, ltb-true}
 use Rattle.text.specs.Text.{digits, natural, integer, numbered, textsTo, Room, Written}
@@ -30,6 +30,12 @@ written-then {l} {m} {o} {at} {mid} {end} a b p q = record {
   kept = q .kept ∙ p .kept;
   inside = q .inside;
 }
+
+-- a text over all of a buffer
+pub written-all : {l m : List ℕ} {end : ℕ} (t : List ℕ) → Written l 0 t m end → end ≡ length l → m ≡ t
+written-all {l} {m} {end} t w e =
+    let n : length l ≡ length t = omega (arith, w .ends) in
+    w .bytes ∙ sets-eq t l 0 (omega (arith, n)) ∙ rw (drop-of-length-le l {i = 0 + length t} (omega (arith, n))) (append-nil t)
 
 -- room for both is room for the first, and then for the second
 pub room-first : {l : List ℕ} {at : ℕ} (a b : List ℕ) → Room l at (a ++ b) → Room l at a
