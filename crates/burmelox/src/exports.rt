@@ -6,14 +6,17 @@ use evaluation::evaluations::evaluate;
 use floors::search::Searched;
 use floors::search::search;
 use judging::check::check;
+use paging::page_check::page_check;
 ghost use mathlib.Core.Path.{_≡_};
 ghost use lib.ListN.{length};
 ghost use Rattle.answers.specs.Answers.{says, Short};
 ghost use Rattle.judging.specs.Check.{checkAnswer, outputOf};
-ghost use Rattle.judging.specs.Promises.{CheckPromises};
+ghost use Rattle.judging.specs.Promises.{LongEnough, CheckPromises};
 ghost use Rattle.evaluation.specs.Evaluations.{evaluationAnswer, evaluationOf, EvaluationPromises};
 ghost use Rattle.floors.specs.Search.{answerOf, searchOf, searchOutput};
 ghost use Rattle.floors.specs.Promises.{SearchPromises};
+ghost use Rattle.paging.specs.PageCheck.{pageAnswer, pageOutput, pageAfter};
+ghost use Rattle.paging.specs.Promises.{PagePromises};
 ghost use Rattle.burmelox.specs.Exports.{numberIn, codeOf, Accepted, Coded, toldValue, Stores, toldFloor, toldTried, Finds, Leaves};
 
 // What a refusal's sheet and number are multiplied by.
@@ -45,9 +48,33 @@ pub extern "C" fn burmelox_check(
     ensures written { λ r. ⌜ now (output .exit)
         ≡ outputOf (now (claim .entry)) (now (proof .entry)) (now (limits .entry)) (now (output .entry)) ⌝ }
     ensures promises { λ r. ⌜ CheckPromises (now (claim .entry)) (now (proof .entry)) (now (limits .entry))
-        (now (output .entry)) (Accepted r) r (now (output .exit)) ⌝ }
+        (now (output .entry)) (LongEnough (now (proof .entry)) (now (output .entry))) (Accepted r) r
+        (now (output .exit)) ⌝ }
 {
     code(check(claim, proof, limits, output))
+}
+
+// The same with a page of 2,920 bytes for the verdict, which every refusal writes but that of a page of another length.
+#[no_mangle]
+pub extern "C" fn burmelox_check_page(
+    claim: &[u8],
+    proof: &[u8],
+    limits: &[u8],
+    output: &mut [u8],
+    page: &mut [u8],
+) -> u64
+    ensures code { λ r. ⌜ r ≡ codeOf (pageAnswer (now (claim .entry)) (now (proof .entry)) (now (limits .entry))
+        (length (now (output .entry))) (length (now (page .entry)))) ⌝ }
+    ensures answer { λ r. ⌜ Coded (pageAnswer (now (claim .entry)) (now (proof .entry)) (now (limits .entry))
+        (length (now (output .entry))) (length (now (page .entry)))) r ⌝ }
+    ensures written { λ r. ⌜ now (output .exit) ≡ pageOutput (now (claim .entry)) (now (proof .entry))
+        (now (limits .entry)) (now (output .entry)) (length (now (page .entry))) ⌝ }
+    ensures page { λ r. ⌜ now (page .exit) ≡ pageAfter (now (claim .entry)) (now (proof .entry))
+        (now (limits .entry)) (length (now (output .entry))) (now (page .entry)) ⌝ }
+    ensures promises { λ r. ⌜ PagePromises (now (claim .entry)) (now (proof .entry)) (now (limits .entry))
+        (now (output .entry)) (now (page .entry)) (Accepted r) r (now (output .exit)) (now (page .exit)) ⌝ }
+{
+    code(page_check(claim, proof, limits, output, page))
 }
 
 // Evaluates a claim's polynomial: 0 and the value, or the refusal's code and the value as it was.

@@ -16,7 +16,7 @@ use Rattle.rows.specs.ProofSheet.{scaleOf, tripleFor}
 use Rattle.limits.specs.LimitsSheet.{noLimits}
 use Rattle.weighing.specs.Exact.{weightsFor}
 use Rattle.judging.specs.Unlimited.{plainTargets, plainAnswer, plainOutput, CheckUnlimited}
-use Rattle.judging.specs.Promises.{CheckPromises}
+use Rattle.judging.specs.Promises.{LongEnough, CheckPromises}
 use Rattle.text.specs.Text.{ascii}
 use Rattle.text.specs.Lines.{acceptedLine, refusedLine}
 use Rattle.report.specs.Reports.{ended, linesOf, reportText}
@@ -52,8 +52,8 @@ pub record IsPrinted (c s text : List ℕ) : Type 0 where
   pub refusal : blameless (plainAnswer c s (length s)) ≡ false
       → text ≡ ended (refusedLine (plainAnswer c s (length s) .number) (plainAnswer c s (length s) .value))
   -- what the check promises, by the text's first word, with k and the shifted rows as its lines have them
-  pub promises : CheckPromises c s (noLimits (variables c)) (zeros (length s)) (Accepts text) (rowCount s)
-      (plainOutput c s (zeros (length s)))
+  pub promises : CheckPromises c s (noLimits (variables c)) (zeros (length s)) (LongEnough s (zeros (length s)))
+      (Accepts text) (rowCount s) (plainOutput c s (zeros (length s)))
   -- where it speaks of well-formed sheets and of targets, these are those of before there were limits
   pub plain : CheckUnlimited c s (noLimits (variables c))
   -- Demand 3: "the polynomial is at least the floor", by note 3 "at whole points with masked variables at least 0"

@@ -220,7 +220,7 @@ found-promises c s ls lo hi out bs b tried k e o eo = record {
   counts = found-counts c s ls lo hi (length out) b tried k e;
   floors = found-floors c s ls lo hi (length out) b tried k e;
   checked =
-      check-promises (withFloor c b) s ls out _ k (λ h. h, λ h. h)
+      check-promises (withFloor c b) s ls out _ _ k (λ r. r) (λ h. h, λ h. h)
       (λ _. walked c s ls lo hi (length out) b tried k e .rows-are) bs o eo;
 }
 

@@ -16,7 +16,7 @@ use Rattle.sheets.specs.ClaimSheet.{withFloor, termsOf}
 use Rattle.limits.specs.LimitsSheet.{domainOf}
 use Rattle.checks.specs.Input.{WellFormed}
 use Rattle.judging.specs.Check.{checkAnswer, outputOf}
-use Rattle.judging.specs.Promises.{CheckPromises}
+use Rattle.judging.specs.Promises.{LongEnough, CheckPromises}
 
 -- a range that 22 lets pass, in plain numbers
 pub record RightRange (lo hi : ℤ) : Type 0 where
@@ -42,7 +42,8 @@ pub record FloorPromises (c s l : List ℕ) (lo hi : ℤ) (out : List ℕ) (b : 
   -- Demand 3: "the polynomial is at least the floor", where mask and limits admit it, at fractions of an offset too
   pub floors : Floors (domainOf c l) b (termsOf c)
   -- and all else that its check promises
-  pub checked : CheckPromises (withFloor c b) s l out (Passes (checkAnswer (withFloor c b) s l (length out))) k o
+  pub checked : CheckPromises (withFloor c b) s l out (LongEnough s out)
+      (Passes (checkAnswer (withFloor c b) s l (length out))) k o
 
 -- a floor is found, with the number of floors tried and the number of rows
 pub record Some (Finds : ℤ → ℕ → ℕ → Type 0) : Type 0 where
@@ -57,10 +58,10 @@ pub record SearchPromises (c s l : List ℕ) (lo hi : ℤ) (out : List ℕ) (Fin
     (o : List ℕ) : Type 0 where
   pub found : (b : ℤ) (tried k : ℕ) → Finds b tried k → FloorPromises c s l lo hi out b tried k o
   -- where some floor of a right range is accepted, one is found
-  pub finds : WellFormed c s l → length s ≤ length out → RightRange lo hi
+  pub finds : WellFormed c s l → LongEnough s out → RightRange lo hi
       → (b : ℤ) → lo ≤ℤ b → b ≤ℤ hi → Passes (checkAnswer (withFloor c b) s l (length out)) → Some Finds
   -- 23, "no floor accepted": exactly where the check refuses every floor of a right range
-  pub none : FindsNone ↔ (WellFormed c s l × (length s ≤ length out) × RightRange lo hi
+  pub none : FindsNone ↔ (WellFormed c s l × LongEnough s out × RightRange lo hi
       × ((b : ℤ) → lo ≤ℤ b → b ≤ℤ hi → blameless (checkAnswer (withFloor c b) s l (length out)) ≡ false))
   -- "both write nothing", and so does every other refusal
   pub leaves : (Some Finds → ⊥) → o ≡ out

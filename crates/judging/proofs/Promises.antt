@@ -1,13 +1,13 @@
 -- The promises of the check, from what its answer is.
-use mathlib.Core.Path.{_≡_, _∙_}
+use mathlib.Core.Path.{_≡_, sym, _∙_, ap}
 use mathlib.Core.Bool.{false}
-use mathlib.Core.List.{List, _++_, append-nil}
+use mathlib.Core.List.{List, [], _++_, append-nil}
 use mathlib.Core.Logic.{_↔_}
 use Prim.Native.Nat.{ℕ, _<_, _≤_}
 use native.Mathlib.Omega.{arith}
 use lib.IntN.{ℤ}
-use lib.ListN.{length, take, drop}
-use lib.Seq.{drop-length, take-at, drop-at}
+use lib.ListN.{length, take, drop, length-append}
+use lib.Seq.{take-at, drop-at}
 use Rattle.integers.proofs.words.Laws.{Bytes}
 use Rattle.bounds.specs.Bounds.{greatestWeight}
 use Rattle.answers.specs.Answers.{accepted, blameless, Passes, Short}
@@ -18,23 +18,23 @@ use Rattle.squares.specs.Decomposition.{AddsUp}
 use Rattle.squares.specs.Targets.{lowered, target}
 use Rattle.squares.specs.Floor.{Floors}
 use Rattle.squares.proofs.Floor.{floor}
-use Rattle.sheets.specs.Layout.{variables, rowCount}
+use Rattle.sheets.specs.Layout.{variables, rowCount, shapeOf, ProofRoom}
 use Rattle.sheets.specs.ClaimSheet.{floorOf, termsOf}
 use Rattle.sheets.proofs.claim_sheet.Laws.{terms-sized}
-use Rattle.rows.specs.ProofSheet.{scaleOf, rowsOf}
+use Rattle.rows.specs.ProofSheet.{scaleOf, tripleOf, rowsOf, tripleFor}
 use Rattle.limits.specs.LimitsSheet.{domainOf}
 use Rattle.checks.specs.Input.{WellFormed}
 use Rattle.checks.proofs.input.Laws.{input-passes, input-formed, input-enough, input-short}
 use Rattle.targets.specs.Targets.{aimOf}
 use Rattle.targets.proofs.targets.Laws.{targets-are}
 use Rattle.sharing.specs.Shifts.{shiftedRows, CheckedSheets}
-use Rattle.sharing.proofs.shifts.Laws.{sheets-checked, rows-stay-placed, rows-stay}
-use Rattle.weighing.specs.Exact.{exactProof, AllWithin}
+use Rattle.sharing.proofs.shifts.Laws.{sheets-checked, claim-eight, rows-stay-placed, rows-stay}
+use Rattle.weighing.specs.Exact.{weightsFor, exactProof, AllWithin}
 use Rattle.weighing.specs.Weighed.{weighedAnswer}
 use Rattle.weighing.proofs.weighed.Laws.{weighed-within, weighed-hold, weighed-adds, weighed-accepted, weighed-short}
-use Rattle.weighing.proofs.exact.Laws.{exact-length, exact-scale, exact-rows, same-within, same-proof}
+use Rattle.weighing.proofs.exact.Laws.{exact-length, exact-variables, exact-scale, exact-weights, exact-rows, same-within, same-proof}
 use Rattle.judging.specs.Check.{targetsOf, checkAnswer, outputOf}
-use Rattle.judging.specs.Promises.{Decomposes, CheckPromises}
+use Rattle.judging.specs.Promises.{LongEnough, Decomposes, CheckPromises}
 
 module _ (c s l : List ℕ) where
   abbrev τ : Exponents → ℤ
@@ -99,12 +99,6 @@ module _ (c s l : List ℕ) where
       accepts room (accepted-formed room h) (accepted-enough room h) (accepted-within room h)
       (accepted-decomposes room h)
 
-  -- an output as long as the proof is the exact proof
-  pub accepted-exact : (out : List ℕ) → length out ≡ length s → Passes (checkAnswer c s l (length out))
-      → outputOf c s l out ≡ exactProof τ s
-  unfolding outputOf
-  accepted-exact out e h = rw (h, ← e, drop-length out) (append-nil (exactProof τ s))
-
   -- demand 2, the decision
   pub decision : (room : ℕ) → WellFormed c s l → length s ≤ room
       → (checkAnswer c s l room ≡ accepted (rowCount s))
@@ -165,20 +159,22 @@ module _ (c s l out : List ℕ) where
       × (rowsOf (take (length s) (outputOf c s l out)) ≡ shiftedRows (targetsOf c s l) s)
   unfolding targetsOf
   written-reads h =
+      let own = sheets-checked c s l (accepted-formed c s l (length out) h) in
+      let exact = exactProof (targetsOf c s l) s in
       rw (written-first h) (
-        exact-scale (targetsOf c s l) s,
-        exact-rows c s (aimOf c s l) (sheets-checked c s l (accepted-formed c s l (length out) h))
-            (accepted-within c s l (length out) h),
+        ap scaleOf (sym (append-nil exact)) ∙ exact-scale (targetsOf c s l) s [] (own .proof .header .room),
+        exact-rows c s (aimOf c s l) own (accepted-within c s l (length out) h),
       )
 
   refused-kept : (Passed → ⊥) → outputOf c s l out ≡ out
   refused-kept n = passes-or-fails (checkAnswer c s l (length out)) (λ h. absurd (n h)) kept
 
-  pub check-promises : (Accepted : Type 0) (k : ℕ) → Accepted ↔ Passed → (Passed → k ≡ rowCount s) → Bytes s
-      → (o : List ℕ) → o ≡ outputOf c s l out → CheckPromises c s l out Accepted k o
-  check-promises Accepted k meant counted b o e = record {
-    decides = λ f e.
-        let d = decision c s l (length out) f e in (
+  pub check-promises : (Enough Accepted : Type 0) (k : ℕ) → (Enough → LongEnough s out) → Accepted ↔ Passed
+      → (Passed → k ≡ rowCount s) → Bytes s → (o : List ℕ) → o ≡ outputOf c s l out
+      → CheckPromises c s l out Enough Accepted k o
+  check-promises Enough Accepted k enough meant counted b o e = record {
+    decides = λ f r.
+        let d = decision c s l (length out) f (enough r) in (
           λ a. d .0 (accepted-rows c s l (length out) (meant .0 a)),
           λ p. meant .1 (accepted-passes _ _ (d .1 p)),
         );
@@ -188,6 +184,59 @@ module _ (c s l out : List ℕ) where
     leaves = λ n. e ∙ refused-kept (λ h. n (meant .1 h));
     floors = λ a. floor-kept c s l (length out) (meant .0 a);
     keeps = λ f r d.
-        let h = accepted-passes _ _ (exact-accepted c s l f d (length out) r) in
+        let h = accepted-passes _ _ (exact-accepted c s l f d (length out) (enough r)) in
         (meant .1 h, e ∙ written h ∙ rw (exact-bytes c s l f d b));
   }
+
+  -- of an entry point that refuses before it checks
+  pub never-promises : (Enough Accepted : Type 0) (k : ℕ) → (Enough → ⊥) → (Accepted → ⊥) → (o : List ℕ) → o ≡ out
+      → CheckPromises c s l out Enough Accepted k o
+  never-promises Enough Accepted k short refused o e = record {
+    decides = λ f r. absurd (short r);
+    counts = λ a. absurd (refused a);
+    reads = λ a. absurd (refused a);
+    rest = rw e;
+    leaves = λ n. e;
+    floors = λ a. absurd (refused a);
+    keeps = λ f r d. absurd (short r);
+  }
+
+-- ---- what an acceptance leaves in the output, read as a proof of k rows
+
+module _ (c s l out : List ℕ) (h : Passes (checkAnswer c s l (length out))) where
+  own-sheets : CheckedSheets c s (aimOf c s l)
+  own-sheets = sheets-checked c s l (accepted-formed c s l (length out) h)
+
+  proof-room : ProofRoom s (shapeOf s)
+  proof-room = own-sheets .proof .header .room
+
+  abbrev left : List ℕ
+  left = outputOf c s l out
+
+  left-variables : variables left ≡ variables s
+  left-variables =
+      rw (written c s l out h) (exact-variables (targetsOf c s l) s (drop (length s) out) proof-room)
+
+  pub claim-left : 8 ≤ length c
+  claim-left = claim-eight c s _ own-sheets
+
+  pub room-left : ProofRoom left (record { n = variables left; k = rowCount s })
+  room-left = rw left-variables (record {
+    few = proof-room .few;
+    rows = proof-room .rows;
+    long = rw (written c s l out h) (omega (
+      arith,
+      length-append (exactProof (targetsOf c s l) s) (drop (length s) out),
+      exact-length (targetsOf c s l) s,
+      proof-room .long,
+    ));
+  })
+
+  pub scale-left : scaleOf left ≡ scaleOf s
+  scale-left = rw (written c s l out h) (exact-scale (targetsOf c s l) s (drop (length s) out) proof-room)
+
+  pub weights-left : (i : ℕ) → i < rowCount s
+      → tripleOf left (record { n = variables left; k = rowCount s }) i ≡ tripleFor (weightsFor (targetsOf c s l) s i)
+  weights-left i m =
+      rw left-variables (rw (written c s l out h)
+      (exact-weights (targetsOf c s l) s (drop (length s) out) proof-room (accepted-within c s l (length out) h) i m))

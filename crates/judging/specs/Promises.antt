@@ -24,12 +24,16 @@ pub record Decomposes (c s l : List ℕ) (rows : List Row) : Type 0 where
   pub hold : All (λ a. Holds (a .weights)) rows
   pub adds-up : AddsUp (variables c) (targetsOf c s l) (slots rows)
 
--- `Accepted` says that the entry point accepted, and k is the number of rows that it then says, both as its caller sees
--- them; o is the output afterwards
-pub record CheckPromises (c s l out : List ℕ) (Accepted : Type 0) (k : ℕ) (o : List ℕ) : Type 0 where
+-- "The output is long enough when it has at least the proof's length."
+abbrev pub LongEnough : List ℕ → List ℕ → Type 0
+LongEnough s out = length s ≤ length out
+
+-- `Enough` says that the output counts as long enough, `Accepted` that the entry point accepted, and k is the number of
+-- rows that it then says, all as its caller sees them; o is the output afterwards
+pub record CheckPromises (c s l out : List ℕ) (Enough Accepted : Type 0) (k : ℕ) (o : List ℕ) : Type 0 where
   -- Demand 2: "A well-formed claim and proof, with output enough, are accepted exactly when the weights, shifted by the
   -- published sharing rule, stay within ±2^30 and form, row by row, a decomposition"
-  pub decides : WellFormed c s l → length s ≤ length out
+  pub decides : WellFormed c s l → Enough
       → Accepted ↔ (AllWithin greatestWeight (targetsOf c s l) s × Decomposes c s l (shiftedRows (targetsOf c s l) s))
   -- "The verdict carries k"
   pub counts : Accepted → k ≡ rowCount s
@@ -47,5 +51,5 @@ pub record CheckPromises (c s l out : List ℕ) (Accepted : Type 0) (k : ℕ) (o
   -- Demand 3: "whenever a claim and proof are well-formed, the proposed weights already add up to the target at every
   -- point, every row holds with them and the output is long enough, the proof is accepted. The output's first bytes
   -- then equal the proof, byte by byte, and its later bytes keep their values"
-  pub keeps : WellFormed c s l → length s ≤ length out → Decomposes c s l (rowsOf s)
+  pub keeps : WellFormed c s l → Enough → Decomposes c s l (rowsOf s)
       → Accepted × (o ≡ s ++ drop (length s) out)

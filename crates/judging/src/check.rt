@@ -8,7 +8,7 @@ ghost use mathlib.Core.Path.{_≡_};
 ghost use lib.ListN.{length};
 ghost use Rattle.answers.specs.Answers.{says, Passes};
 ghost use Rattle.judging.specs.Check.{checkAnswer, outputOf};
-ghost use Rattle.judging.specs.Promises.{CheckPromises};
+ghost use Rattle.judging.specs.Promises.{LongEnough, CheckPromises};
 
 // Checks a claim and its proof within limits. Where they are accepted the output's first bytes become the exact proof,
 // and the later ones keep their values; a refusal writes nothing.
@@ -18,7 +18,8 @@ pub fn check(claim: &[u8], proof: &[u8], limits: &[u8], output: &mut [u8]) -> Ve
     ensures written { λ r. ⌜ now (output .exit)
         ≡ outputOf (now (claim .entry)) (now (proof .entry)) (now (limits .entry)) (now (output .entry)) ⌝ }
     ensures promises { λ r. ⌜ CheckPromises (now (claim .entry)) (now (proof .entry)) (now (limits .entry))
-        (now (output .entry)) (Passes (says r)) (says r .value) (now (output .exit)) ⌝ }
+        (now (output .entry)) (LongEnough (now (proof .entry)) (now (output .entry))) (Passes (says r)) (says r .value)
+        (now (output .exit)) ⌝ }
 {
     let formed = check_input(claim, proof, limits, output.len());
     let Verdict::Accepted(_) = formed else {

@@ -15,7 +15,7 @@ use Rattle.answers.specs.declared.answers.Verdict.the-variants as Verdicts
 use Rattle.answers.proofs.answers.Laws.{passes-or-fails, accepted-passes, failed, accepted-numbers, refused-number, passed-sheet, sheet-passed}
 use Rattle.sheets.specs.Layout.{rowCount}
 use Rattle.judging.specs.Check.{checkAnswer, outputOf}
-use Rattle.judging.specs.Promises.{CheckPromises}
+use Rattle.judging.specs.Promises.{LongEnough, CheckPromises}
 use Rattle.judging.proofs.Promises.{accepted-rows, check-short, check-promises}
 use Rattle.evaluation.specs.Evaluations.{value, tells, evaluationAnswer, evaluationOf, EvaluationPromises}
 use Rattle.evaluation.specs.declared.evaluations.Evaluation.{Evaluation}
@@ -29,6 +29,10 @@ use Rattle.floors.specs.declared.search.Searched.{Searched}
 use Rattle.floors.specs.declared.search.Searched.the-variants as Outcomes
 use Rattle.floors.proofs.Promises.{told-short, told-accepted, told-fails, told-none, search-promises}
 use Rattle.floors.proofs.search.Laws.{tells-found, tells-refusal as tells-unfound, answer-found, answer-refusal}
+use Rattle.paging.specs.PageCheck.{pageAnswer, pageOutput, pageAfter}
+use Rattle.paging.specs.Promises.{PagePromises}
+use Rattle.paging.proofs.Promises.{page-rows, page-promises}
+use Rattle.paging.proofs.page_check.Laws.{page-short}
 use Rattle.burmelox.specs.Exports.{sheetUnit, numberUnit, codeOf, sheetIn, numberIn, indexIn, Accepted, Coded, toldValue, Stores, toldFloor, toldTried, Finds, Leaves}
 
 -- ---- code: x, m and i are the verdict's numbers
@@ -91,10 +95,33 @@ module _ (c s ls out : List ℕ) (v : Verdict) (e : says v ≡ checkAnswer c s l
         coded answer r check-code (check-short c s ls (length out) (omega arith) bc bs) (rowCount s)
         (accepted-rows c s ls (length out))
 
-    pub check-promised : (o : List ℕ) → o ≡ outputOf c s ls out → CheckPromises c s ls out (Accepted r) r o
+    pub check-promised : (o : List ℕ) → o ≡ outputOf c s ls out
+        → CheckPromises c s ls out (LongEnough s out) (Accepted r) r o
     check-promised =
-        check-promises c s ls out _ _ (check-coded .accepted)
+        check-promises c s ls out _ _ _ (λ e. e) (check-coded .accepted)
         (λ h. accepted-code _ _ check-code _ (accepted-rows c s ls (length out) h)) bs
+
+-- ---- burmelox_check_page: v is the verdict, r its code, o and p are the output and the page afterwards
+
+module _ (c s ls out page : List ℕ) (v : Verdict) (e : says v ≡ pageAnswer c s ls (length out) (length page))
+    (bc : Bytes c) (bs : Bytes s) where
+  pub paged-short : Short 65536 (says v)
+  paged-short = rw e (page-short c s ls (length out) (length page) (omega arith) bc bs)
+
+  module _ (r : ℕ) (er : r ≡ codeOf (says v)) where
+    pub page-code : r ≡ codeOf (pageAnswer c s ls (length out) (length page))
+    page-code = er ∙ ap codeOf e
+
+    pub page-coded : Coded (pageAnswer c s ls (length out) (length page)) r
+    page-coded =
+        coded _ r page-code (page-short c s ls (length out) (length page) (omega arith) bc bs) (rowCount s)
+        (page-rows c s ls out page)
+
+    pub page-promised : (o p : List ℕ) → o ≡ pageOutput c s ls out (length page)
+        → p ≡ pageAfter c s ls (length out) page → PagePromises c s ls out page (Accepted r) r o p
+    page-promised o p =
+        page-promises c s ls out page _ _ (page-coded .accepted)
+        (λ h. accepted-code _ _ page-code _ (page-rows c s ls out page h)) bc bs o p
 
 -- ---- burmelox_evaluate: t is the evaluation, r the answer, `after` what is stored
 

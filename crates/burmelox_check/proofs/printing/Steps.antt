@@ -4,33 +4,27 @@ use mathlib.Core.Bool.{false}
 use mathlib.Core.List.{List, [], _∷_}
 use Prim.Native.Nat.{ℕ, zero, suc, _+_, _-_, _*_, _<_, _≤_}
 use native.Mathlib.Omega.{arith}
-use lib.IntN.{ℤ}
 use lib.ListN.{length, getD, set, take, drop, replicate, length-drop, length-replicate}
 use lib.Seq.{take-all, getD-drop}
 use Rattle.integers.proofs.words.Laws.{Bytes}
 use Rattle.answers.specs.Answers.{says, blameless, Passes}
 use Rattle.answers.specs.declared.answers.Verdict.{Verdict}
 use Rattle.answers.proofs.answers.Laws.{passes-or-fails}
-use Rattle.points.specs.Points.{Exponents}
 use Rattle.squares.proofs.Floor.{admits-allowed}
-use Rattle.sheets.specs.Layout.{variables, rowCount, shapeOf, ProofRoom}
-use Rattle.rows.specs.ProofSheet.{scaleOf, tripleOf, tripleFor}
+use Rattle.sheets.specs.Layout.{variables, rowCount}
+use Rattle.rows.specs.ProofSheet.{scaleOf, tripleFor}
 use Rattle.limits.specs.LimitsSheet.{domainOf, noLimits}
 use Rattle.limits.proofs.limits_sheet.Laws.{none-bytes, none-length}
 use Rattle.limits.proofs.limit_checks.Laws.{none-limited}
-use Rattle.targets.specs.Targets.{aimOf}
-use Rattle.sharing.specs.Shifts.{CheckedSheets}
-use Rattle.sharing.proofs.shifts.Laws.{sheets-checked}
-use Rattle.weighing.specs.Exact.{weightsFor, exactProof}
-use Rattle.weighing.proofs.exact.Laws.{exact-length, exact-variables, exact-scale, exact-weights}
+use Rattle.weighing.specs.Exact.{weightsFor}
 use Rattle.judging.specs.Check.{targetsOf, checkAnswer, outputOf}
-use Rattle.judging.specs.Unlimited.{plainTargets, plainAnswer, plainOutput, CheckUnlimited}
-use Rattle.judging.specs.Promises.{CheckPromises}
+use Rattle.judging.specs.Unlimited.{plainAnswer, plainOutput, CheckUnlimited}
+use Rattle.judging.specs.Promises.{LongEnough, CheckPromises}
 use Rattle.judging.proofs.Unlimited.{plain-targets, check-unlimited}
-use Rattle.judging.proofs.Promises.{check-promises, accepted-formed, accepted-within, accepted-rows, accepted-exact}
+use Rattle.judging.proofs.Promises.{check-promises, accepted-rows, claim-left, room-left, scale-left, weights-left}
 use Rattle.text.specs.Text.{Written}
 use Rattle.text.specs.Lines.{refusedLine}
-use Rattle.report.specs.Reports.{ended, shapeWith, reportText}
+use Rattle.report.specs.Reports.{ended, reportText}
 use Rattle.report.proofs.reports.Laws.{accepted-word, refused-word, accepted-lines, refused-lines}
 use Rattle.burmelox_check.specs.Input.{claimEnd, claimPart, proofPart}
 use Rattle.burmelox_check.specs.Printing.{zeros, sheetsText, programText, acceptedLines, IsPrinted, Accepts, PrintsLines}
@@ -108,45 +102,19 @@ module _ (c s : List ℕ) where
   answers : (room : ℕ) → checkAnswer c s ls room ≡ plainAnswer c s room
   answers = unlimited c s .answer
 
-  module _ (p : Passes (plainAnswer c s (length s))) where
-    h : Passes (checkAnswer c s ls (length s))
-    h = rw answers p
-
-    own : CheckedSheets c s (aimOf c s ls)
-    own = sheets-checked c s ls (accepted-formed c s ls (length s) h)
-
-    targets : targetsOf c s ls ≡ plainTargets c s
-    targets = plain-targets c s ls (none-limited (variables c))
-
-    abbrev τ : Exponents → ℤ
-    τ = targetsOf c s ls
-
-    abbrev exact : List ℕ
-    exact = exactProof τ s
-
-    same : shapeWith exact (rowCount s) ≡ shapeOf s
-    same = rw (exact-variables τ s)
-
-    room : ProofRoom exact (shapeWith exact (rowCount s))
-    room = rw same (record {
-      few = own .proof .header .room .few;
-      rows = own .proof .header .room .rows;
-      long = rw (exact-length τ s) (own .proof .header .room .long);
-    })
-
-    weights : (i : ℕ) → i < rowCount s
-        → tripleOf exact (shapeWith exact (rowCount s)) i ≡ tripleFor (weightsFor τ s i)
-    weights i l =
-        rw same (exact-weights τ s (own .proof .header .room .long) (accepted-within c s ls (length s) h) i l)
-
-    accepted-text : sheetsText c s (zeros (length s)) ≡ acceptedLines c s
-    unfolding sheetsText acceptedLines
-    accepted-text =
-        let out = zeros (length s) in
-        rw (← (unlimited c s .output out), ← (answers (length out)), ← targets)
-        (rw (accepted-exact c s ls out as-long (rw as-long h), as-long, accepted-rows c s ls (length s) h)
-        (accepted-lines c exact (rowCount s) (omega (arith, own .claim .sized)) room (scaleOf s)
-        (λ i. tripleFor (weightsFor τ s i)) (exact-scale τ s) weights))
+  accepted-text : Passes (plainAnswer c s (length s)) → sheetsText c s (zeros (length s)) ≡ acceptedLines c s
+  unfolding sheetsText acceptedLines
+  accepted-text h =
+      let out = zeros (length s) in
+      let p : Passes (checkAnswer c s ls (length out)) = rw (as-long, answers) h in
+      rw (
+        ← (unlimited c s .output out),
+        ← (answers (length out)),
+        ← (plain-targets c s ls (none-limited (variables c))),
+        accepted-rows c s ls (length out) p,
+      )
+      (accepted-lines c (outputOf c s ls out) (rowCount s) (claim-left c s ls out p) (room-left c s ls out p) (scaleOf s)
+      (λ i. tripleFor (weightsFor (targetsOf c s ls) s i)) (scale-left c s ls out p) (weights-left c s ls out p))
 
   refused-text : blameless (plainAnswer c s (length s)) ≡ false
       → sheetsText c s (zeros (length s))
@@ -168,10 +136,10 @@ module _ (c s : List ℕ) where
       absurd (omega (arith, w)))
 
   text-promises : Bytes s
-      → CheckPromises c s ls (zeros (length s)) (Accepts (sheetsText c s (zeros (length s)))) (rowCount s)
-      (plainOutput c s (zeros (length s)))
+      → CheckPromises c s ls (zeros (length s)) (LongEnough s (zeros (length s)))
+      (Accepts (sheetsText c s (zeros (length s)))) (rowCount s) (plainOutput c s (zeros (length s)))
   text-promises b =
-      check-promises c s ls (zeros (length s)) _ _
+      check-promises c s ls (zeros (length s)) _ _ _ (λ r. r)
       (λ h. rw (as-long, answers) (begins-passed h), λ h. passed-begins (rw (as-long, answers) at h))
       (λ h. refl) b _ (rw (unlimited c s .output (zeros (length s))))
 

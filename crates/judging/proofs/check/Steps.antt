@@ -19,7 +19,7 @@ use Rattle.sharing.proofs.shifts.Laws.{sheets-checked, claim-eight, proof-eight
 use Rattle.weighing.specs.Weighed.{weighedAnswer}
 use Rattle.weighing.specs.Exact.{Writable, exactProof}
 use Rattle.judging.specs.Check.{targetsOf, checkAnswer, outputOf}
-use Rattle.judging.specs.Promises.{CheckPromises}
+use Rattle.judging.specs.Promises.{LongEnough, CheckPromises}
 use Rattle.judging.proofs.Promises.{accepted-formed, accepted-enough, accepted-within, accepted-rows, check-promises}
 
 -- ---- check: v is the verdict on 1 to 15, 24 and 25
@@ -55,9 +55,9 @@ module _ (c s l : List ℕ) (room : ℕ) (v : Verdict) (e : says v ≡ inputAnsw
 
 module _ (c s l out : List ℕ) (v : Verdict) (e : says v ≡ checkAnswer c s l (length out)) where
   pub promises : Bytes s → (o : List ℕ) → o ≡ outputOf c s l out
-      → CheckPromises c s l out (Passes (says v)) (says v .value) o
+      → CheckPromises c s l out (LongEnough s out) (Passes (says v)) (says v .value) o
   promises =
-      check-promises c s l out _ _ (λ h. rw e at h, λ h. rw e h)
+      check-promises c s l out _ _ _ (λ r. r) (λ h. rw e at h, λ h. rw e h)
       (λ h. accepted-numbers _ _ (e ∙ accepted-rows c s l (length out) h) .1)
 
   module _ (x : Sheet) (h : v ≡ Refused x) where

@@ -1,24 +1,26 @@
--- Laws of pages: how long their parts are.
-use mathlib.Core.Path.{_≡_, _∙_}
+-- Laws of pages: how long their parts are, and what they show.
+use mathlib.Core.Path.{_≡_, refl, _∙_, ap}
 use mathlib.Core.Bool.{Bool, true, false, cond}
 use mathlib.Core.List.{List, [], _++_}
-use Prim.Native.Nat.{ℕ, suc, _+_, _*_, _-_, _<_, _≤_, _^_}
+use Prim.Native.Nat.{ℕ, suc, _-_, _<_, _≤_}
 use native.Mathlib.Decide.{decLt}
 use native.Mathlib.Omega.{arith}
 use lib.Dec.{ltb}
 use lib.IntN.{ℤ, pos}
-use lib.ListN.{length, length-append, length-replicate}
+use lib.ListN.{length, drop, length-append, length-replicate}
+use lib.Seq.{drop-at}
 use borrow.Author.Tests.{lt-ltb, le-ltb}
 use mir.Syntax.{w32}
 use mir.Val.{SFits}
 use Rattle.integers.proofs.Integers.{ints, sizes}
-use Rattle.rows.specs.ProofSheet.{Narrow}
+use Rattle.answers.specs.Answers.{Answer}
+use Rattle.rows.specs.ProofSheet.{tripleOf, Narrow}
 use Rattle.rows.specs.declared.proof_sheet.Triple.{Triple}
-use Rattle.text.specs.Text.{ascii, integer}
-use Rattle.text.specs.Columns.{spaces, column}
-use Rattle.text.proofs.text.Laws.{integer-short}
+use Rattle.text.specs.Text.{ascii, integer, textsTo}
+use Rattle.text.proofs.text.Laws.{integer-short, texts-same}
 use Rattle.text.proofs.columns.Laws.{column-length}
-use Rattle.pages.specs.Pages.{pageWidth, pageRows, pageLine, laterColumns, weightColumns, rowColumns, rowShown, moreShown, tableText}
+use Rattle.report.specs.Reports.{shownOf, verdictLine}
+use Rattle.pages.specs.Pages.{pageWidth, pageRows, pageLine, laterColumns, weightColumns, rowColumns, rowShown, moreShown, tableText, tableLine, pageOf, verdictPage}
 
 pub line-length : (text : List ℕ) → length text ≤ pageWidth → length (pageLine text) ≡ suc pageWidth
 unfolding pageLine
@@ -66,3 +68,42 @@ module _ (x : ℕ → Triple) (k : ℕ) (narrow : (i : ℕ) → Narrow (x i)) wh
       go : Dec (i < pageRows) → length (cond (ltb i pageRows) (rowShown x k i) (cond (ltb pageRows k) (ascii "more") [])) ≤ 40
       go (yes h) = rw (lt-ltb i pageRows h) (shown-short i h)
       go (no h) = rw (le-ltb i pageRows (omega arith)) (more (ltb pageRows k))
+
+-- ---- what a page shows
+
+pub verdict-shown : (c s : List ℕ) (a : Answer)
+    → verdictPage c s a ≡ pageOf (verdictLine c s a) (tripleOf s (shownOf s a)) (shownOf s a .k)
+unfolding verdictPage
+verdict-shown c s a = refl
+
+module _ (first : List ℕ) (x y : ℕ → Triple) (k : ℕ) (same : (i : ℕ) → i < k → x i ≡ y i) where
+  row-same : (i : ℕ) → rowShown x k i ≡ rowShown y k i
+  unfolding rowShown
+  row-same i = go (decLt i k)
+    where
+      go : Dec (i < k) → cond (ltb i k) (rowColumns i (x i)) [] ≡ cond (ltb i k) (rowColumns i (y i)) []
+      go (yes h) = rw (same i h)
+      go (no h) = rw (le-ltb i k (omega arith))
+
+  -- only the weights of the first k rows count
+  pub page-same : pageOf first x k ≡ pageOf first y k
+  unfolding pageOf tableLine tableText
+  page-same =
+      ap (λ (l : List ℕ). pageLine first ++ l)
+      (texts-same (tableLine x k) (tableLine y k) (suc pageRows) (λ i h. rw (row-same i)))
+
+-- no rows leave lines 2 to 40 blank
+none-blank : (x : ℕ → Triple) (i : ℕ) → tableLine x 0 i ≡ pageLine []
+unfolding tableLine tableText rowShown moreShown
+none-blank x i = rw (le-ltb i 0 (omega arith)) (ap pageLine (go (ltb i pageRows)))
+  where
+    go : (b : Bool) → _≡_ {A = List ℕ} (cond b [] []) []
+    go true = refl
+    go false = refl
+
+pub page-blank : (first : List ℕ) (x : ℕ → Triple) → length first ≤ pageWidth
+    → drop (suc pageWidth) (pageOf first x 0) ≡ textsTo (λ i. pageLine []) (suc pageRows)
+unfolding pageOf
+page-blank first x h =
+    drop-at (pageLine first) (textsTo (tableLine x 0) (suc pageRows)) (suc pageWidth) (line-length first h)
+    ∙ texts-same (tableLine x 0) (λ i. pageLine []) (suc pageRows) (λ i l. none-blank x i)

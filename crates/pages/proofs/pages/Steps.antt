@@ -1,10 +1,8 @@
 -- The steps of the functions that put a page.
 use mathlib.Core.Path.{_≡_, refl, _∙_, ap}
-use mathlib.Core.Bool.{true, false}
 use mathlib.Core.List.{List, [], _∷_, _++_, append-nil}
-use Prim.Native.Nat.{ℕ, zero, suc, _+_, _*_, _-_, _<_, _≤_}
+use Prim.Native.Nat.{ℕ, suc, _+_, _*_, _-_, _<_, _≤_}
 use native.Mathlib.Omega.{arith}
-use lib.Dec.{ltb}
 use lib.IntN.{ℤ, pos}
 use lib.ListN.{length, take, drop, length-replicate, getD-replicate, drop-of-length-le}
 use lib.Seq.{take-length}
@@ -19,7 +17,7 @@ use Rattle.sheets.specs.declared.layout.Shape.{Shape}
 use Rattle.rows.specs.ProofSheet.{tripleOf, Narrow}
 use Rattle.rows.specs.declared.proof_sheet.Triple.{Triple}
 use Rattle.rows.proofs.proof_sheet.Laws.{triple-narrow}
-use Rattle.text.specs.Text.{integer, textsTo, Room, Written}
+use Rattle.text.specs.Text.{integer, textsTo, Written}
 use Rattle.text.specs.Columns.{spaces, column, Blank}
 use Rattle.text.proofs.text.Laws.{written-then, written-all, texts-start}
 use Rattle.text.proofs.columns.Laws.{column-length, blank-then, blank-over}

@@ -13,7 +13,7 @@ use Rattle.sheets.specs.Layout.{ProofRoom}
 use Rattle.sheets.specs.ClaimSheet.{floorOf}
 use Rattle.rows.specs.ProofSheet.{scaleOf, tripleOf}
 use Rattle.rows.specs.declared.proof_sheet.Triple.{Triple}
-use Rattle.text.specs.Text.{ascii, textsTo}
+use Rattle.text.specs.Text.{ascii}
 use Rattle.text.specs.Lines.{acceptedLine, rowLine, refusedLine}
 use Rattle.text.proofs.text.Laws.{texts-none, texts-same}
 use Rattle.text.proofs.lines.Laws.{accepted-begins, refused-begins}

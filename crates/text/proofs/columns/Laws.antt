@@ -6,7 +6,7 @@ use native.Mathlib.Omega.{arith}
 use lib.IntN.{ℤ}
 use lib.ListN.{length, getD, set, length-append, length-replicate}
 use lib.Seq.{sets, set-getD, getD-set-other}
-use Rattle.text.specs.Text.{integer, Room, Written}
+use Rattle.text.specs.Text.{integer, Written}
 use Rattle.text.specs.Columns.{spaces, column, Blank}
 use Rattle.text.proofs.text.Laws.{sets-joined}
 

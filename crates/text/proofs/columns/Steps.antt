@@ -5,14 +5,14 @@ use mathlib.Core.List.{List}
 use Prim.Native.Nat.{ℕ, suc, _+_, _-_, _/_, _<_, _≤_}
 use native.Mathlib.Omega.{arith}
 use lib.IntN.{ℤ, pos, natAbs}
-use lib.ListN.{length, length-append, length-replicate}
+use lib.ListN.{length, length-append}
 use lib.Signed.{ltZ}
 use mir.Syntax.{w64}
 use mir.Val.{Fits}
 use Rattle.text.specs.Text.{natural, integer, Room, Written}
 use Rattle.text.specs.Columns.{column, Blank}
 use Rattle.text.proofs.text.Laws.{natural-before, natural-last, natural-short, unsigned, minus}
-use Rattle.text.proofs.columns.Laws.{column-length, blank-over}
+use Rattle.text.proofs.columns.Laws.{blank-over}
 
 -- ---- digit_count: so many digits were taken off n, and those of `left` are to come
 

@@ -1,11 +1,11 @@
 -- Laws of the exact proof: its rows are the shifted rows, and weights that add up leave the proof as it was.
 use mathlib.Core.Path.{_≡_, refl, sym, _∙_, ap}
-use mathlib.Core.List.{List}
-use Prim.Native.Nat.{ℕ, _≤_, _<_}
+use mathlib.Core.List.{List, _++_}
+use Prim.Native.Nat.{ℕ, _<_}
 use native.Mathlib.Omega.{arith}
 use lib.Dec.{lit<}
 use lib.IntN.{ℤ}
-use lib.ListN.{length}
+use lib.ListN.{length, getD, length-append, List·getD-append}
 use Rattle.integers.proofs.Integers.{fits-within}
 use Rattle.integers.proofs.words.Laws.{Bytes}
 use Rattle.bounds.specs.Bounds.{greatestWeight}
@@ -13,10 +13,12 @@ use Rattle.points.specs.Points.{Exponents}
 use Rattle.squares.specs.Rows as Formal
 use Rattle.squares.specs.Rows.{slots}
 use Rattle.squares.specs.Decomposition.{AddsUp}
-use Rattle.sheets.specs.Layout.{variables, rowCount, shapeOf, proofLength}
+use Rattle.sheets.specs.Layout.{variables, rowCount, shapeOf, ProofRoom}
 use Rattle.rows.specs.ProofSheet.{scaleOf, tripleOf, rowOf, rowsOf, tripleFor, Narrow}
 use Rattle.rows.specs.declared.proof_sheet.Triple.{Triple}
-use Rattle.writing.proofs.writing.Laws.{rows-length, rows-before, rows-scale, rows-read, sheet-read, row-again, sheet-again}
+use Rattle.rows.proofs.proof_sheet.Laws.{scale-same}
+use Rattle.writing.specs.Writing.{withRows}
+use Rattle.writing.proofs.writing.Laws.{rows-length, rows-before, rows-append, rows-read, sheet-read, row-again, sheet-again}
 use Rattle.checks.specs.ProofChecks.{Within, ProofFacts}
 use Rattle.targets.specs.Targets.{targetOf}
 use Rattle.targets.specs.declared.targets.Aim.{Aim}
@@ -43,27 +45,39 @@ exact-rows c s t given w =
     (λ i l. keeps-kind τ s i) refl
     ∙ sym (rows-are τ s)
 
--- ---- the exact proof read: the proof's length, variables and scale, and the shifted weights of every row
+-- ---- the exact proof read, whatever comes after it: the proof's length, variables and scale, and the shifted weights of
+-- every row
 
 module _ (τ : Exponents → ℤ) (s : List ℕ) where
   pub exact-length : length (exactProof τ s) ≡ length s
   unfolding exactProof
   exact-length = rows-length (weightsFor τ s) s (shapeOf s) (rowCount s)
 
-  pub exact-variables : variables (exactProof τ s) ≡ variables s
-  unfolding exactProof
-  exact-variables = rows-before (weightsFor τ s) s (shapeOf s) (rowCount s) 0 (omega arith)
+  module _ (rest : List ℕ) (r : ProofRoom s (shapeOf s)) where
+    abbrev so : List ℕ
+    so = withRows (weightsFor τ s) (s ++ rest) (shapeOf s) (rowCount s)
 
-  pub exact-scale : scaleOf (exactProof τ s) ≡ scaleOf s
-  unfolding exactProof
-  exact-scale = rows-scale (weightsFor τ s) s (shapeOf s) (rowCount s)
+    is-written : exactProof τ s ++ rest ≡ so
+    unfolding exactProof
+    is-written = sym (rows-append (weightsFor τ s) s (shapeOf s) rest (rowCount s) (omega arith) (r .long))
 
-  pub exact-weights : proofLength (shapeOf s) ≤ length s → AllWithin greatestWeight τ s
-      → (i : ℕ) → i < rowCount s → tripleOf (exactProof τ s) (shapeOf s) i ≡ tripleFor (weightsFor τ s i)
-  unfolding exactProof
-  exact-weights r w i l =
-      rows-read (weightsFor τ s) s (shapeOf s) (rowCount s) i l (omega arith) r
-      (λ j m. within-narrow _ (w .within j m))
+    same-header : (j : ℕ) → j < 8 → getD (exactProof τ s ++ rest) j 0 ≡ getD s j 0
+    same-header j h =
+        rw is-written (rows-before (weightsFor τ s) (s ++ rest) (shapeOf s) (rowCount s) j (omega arith)
+        ∙ List·getD-append s rest 0 j (omega (arith, r .long)))
+
+    pub exact-variables : variables (exactProof τ s ++ rest) ≡ variables s
+    exact-variables = same-header 0 (omega arith)
+
+    pub exact-scale : scaleOf (exactProof τ s ++ rest) ≡ scaleOf s
+    exact-scale = scale-same (exactProof τ s ++ rest) s (record { n = 0; k = 0 }) same-header
+
+    pub exact-weights : AllWithin greatestWeight τ s → (i : ℕ) → i < rowCount s
+        → tripleOf (exactProof τ s ++ rest) (shapeOf s) i ≡ tripleFor (weightsFor τ s i)
+    exact-weights w i l =
+        rw is-written
+        (rows-read (weightsFor τ s) (s ++ rest) (shapeOf s) (rowCount s) i l (omega arith)
+        (omega (arith, r .long, length-append s rest)) (λ j m. within-narrow _ (w .within j m)))
 
 -- ---- where the proposed weights add up, they stay, and so does the proof
 

@@ -19,9 +19,9 @@ use Rattle.squares.specs.Rows.{Row}
 use Rattle.squares.specs.declared.rows.Weights.{Weights}
 use Rattle.sheets.specs.Layout.{shapeOf, place, tripleAt, proofLength, ProofRoom}
 use Rattle.sheets.specs.declared.layout.Shape.{Shape}
-use Rattle.rows.specs.ProofSheet.{scaleOf, vOf, wOf, wordsAt, tripleOf, rowOf, rowsOf, tripleFor, Suits, Narrow}
+use Rattle.rows.specs.ProofSheet.{vOf, wOf, wordsAt, tripleOf, rowOf, rowsOf, tripleFor, Suits, Narrow}
 use Rattle.rows.specs.declared.proof_sheet.Triple.{Triple}
-use Rattle.rows.proofs.proof_sheet.Laws.{words-p, words-q, words-r, words-are, triple-at, scale-same, v-same, w-same, row-is, rows-table, suits-read, lone-again}
+use Rattle.rows.proofs.proof_sheet.Laws.{words-p, words-q, words-r, words-are, triple-at, v-same, w-same, row-is, rows-table, suits-read, lone-again}
 use Rattle.writing.specs.Writing.{withTriple, withWeights, withRows}
 
 -- ---- one triple
@@ -111,9 +111,6 @@ module _ (weights : ℕ → Weights) (s : List ℕ) (sh : Shape) where
   unfolding withRows withWeights
   rows-before zero j h = refl
   rows-before (suc i) j h = triple-before (so i) (tripleAt sh i) (next i) j (omega arith) ∙ rows-before i j h
-
-  pub rows-scale : (i : ℕ) → scaleOf (so i) ≡ scaleOf s
-  rows-scale i = scale-same (so i) s sh (rows-before i)
 
   -- and so does what comes after the proof
   pub rows-append : (l : List ℕ) (i : ℕ) → i ≤ sh .k → proofLength sh ≤ length s

@@ -1,14 +1,11 @@
-use borrow.Author.Needs.{needs}
 use Prim.Native.Nat.{_-_, _≤_}
+use borrow.Author.Needs.{needs}
 use Rattle.text.specs.Text.{textsTo, Written}
 use Rattle.text.proofs.text.Laws.{texts-next}
 use Rattle.report.specs.Reports.{rowText}
 use Rattle.report.proofs.reports.Steps.{row-shown, next-room, rows-end, rows-start}
 use Rattle.report.proofs.reports.rows_text.Statement.{statement}
 use Rattle.report.proofs.reports.rows_text.Tie as tie
-use Rattle.report.proofs.reports.rows_text.Reads as reads
-use Rattle.report.proofs.reports.rows_text.Lts as lts
-use Rattle.report.proofs.reports.row_text.Reads as row-text-reads
 
 abbrev Inv-loop : tie.InvT-loop
 Inv-loop proof shape out₀ at end₀ i₀ out end i = (i ≤ shape .k) × (Written out₀ at (textsTo (rowText proof shape) i) out end)
@@ -22,17 +19,8 @@ loop-holds c = search (needs, rows-start)
 row-text-requires : tie.Need-row-text-requires Inv-loop μ-loop
 row-text-requires c κs = (search row-shown, search needs, search next-room)
 
-add-i : tie.Need-add-i Inv-loop μ-loop
-add-i c = search needs
-
-loop-less : tie.Need-loop-less Inv-loop μ-loop
-loop-less c = search needs
-
 loop-again : tie.Need-loop-again Inv-loop μ-loop
 loop-again c = search (needs, texts-next)
-
-same-length : tie.Need-same-length Inv-loop μ-loop
-same-length c = search needs
 
 returns : tie.Need-returns Inv-loop μ-loop
 returns c = search rows-end
@@ -40,13 +28,5 @@ returns c = search rows-end
 pub rows-text-spec : {M : Type 1} → statement M
 rows-text-spec =
     tie.close
-    (tie.spec
-    Inv-loop
-    μ-loop
-    loop-holds
-    row-text-requires
-    add-i
-    loop-less
-    loop-again
-    same-length
-    returns)
+    (tie.spec Inv-loop μ-loop loop-holds row-text-requires (λ c. search needs) (λ c. search needs) loop-again
+    (λ c. search needs) returns)

@@ -1,13 +1,11 @@
-use borrow.Author.Needs.{needs}
 use mathlib.Core.Path.{_≡_}
 use Prim.Native.Nat.{suc, _+_, _≤_}
 use lib.ListN.{length}
+use borrow.Author.Needs.{needs}
 use Rattle.text.specs.Text.{natural}
 use Rattle.text.proofs.columns.Steps.{count-bound, count-next, count-end, count-few}
 use Rattle.text.proofs.columns.digit_count.Statement.{statement}
 use Rattle.text.proofs.columns.digit_count.Tie as tie
-use Rattle.text.proofs.columns.digit_count.Reads as reads
-use Rattle.text.proofs.columns.digit_count.Lts as lts
 
 abbrev Inv-loop : tie.InvT-loop
 Inv-loop n left₀ count₀ left count = (count + length (natural left) ≡ suc (length (natural n))) × (length (natural n) ≤ 20)
@@ -18,12 +16,6 @@ abbrev μ-loop : tie.MeasureT-loop
 loop-holds : tie.Need-loop-holds Inv-loop μ-loop
 loop-holds c = search (needs, count-bound)
 
-add-count : tie.Need-add-count Inv-loop μ-loop
-add-count c = search needs
-
-loop-less : tie.Need-loop-less Inv-loop μ-loop
-loop-less c = search needs
-
 loop-again : tie.Need-loop-again Inv-loop μ-loop
 loop-again c = search (needs, count-next)
 
@@ -32,4 +24,5 @@ returns c = (search count-end, search count-few)
 
 pub digit-count-spec : {M : Type 1} → statement M
 digit-count-spec =
-    tie.close (tie.spec Inv-loop μ-loop loop-holds add-count loop-less loop-again returns)
+    tie.close
+    (tie.spec Inv-loop μ-loop loop-holds (λ c. search needs) (λ c. search needs) loop-again returns)
