@@ -1,4 +1,4 @@
--- The cases of checks and of searches, computed.
+-- The cases of checks, of searches and of pages, computed.
 use mathlib.Core.Path.{refl}
 use mathlib.Core.List.{[], _∷_}
 use lib.IntN.{negsuc}
@@ -32,11 +32,18 @@ use Rattle.weighing.specs.Exact.{weightsFor, exactProof}
 use Rattle.weighing.specs.Weighed.{rowsJudged, weighedAnswer}
 use Rattle.judging.specs.Check.{targetsOf, checkAnswer, outputOf}
 use Rattle.floors.specs.Search as F
+use Rattle.text.specs.Text.{digits, natural, integer, textsTo, counted, numbered}
+use Rattle.text.specs.Columns.{column}
+use Rattle.text.specs.Lines.{scaleText, acceptedLine, refusedLine}
+use Rattle.report.specs.Reports.{shownOf, verdictLine}
+use Rattle.pages.specs.Pages.{pageLine, laterColumns, weightColumns, rowColumns, rowShown, moreShown, tableText, tableLine, pageOf}
+use Rattle.paging.specs.PageCheck.{pageAnswer, pageOutput, shiftedTriple, checkedPage, pageAfter}
 use Rattle.worked.specs.Sheets.{joined, word, words, claimOf, proofOf, squareWith, square, squareProof, oneRow, bare, noRows, motzkin, motzkinProof, motzkinExchanged, motzkinBytes, motzkinProofBytes, oneTerm, masked, maskedSquare, maskedProduct, productProof, maskedCube, cubeProof, limit, unlimited, limitsWith, oneLimit, minusSquare, parabola, oneAtOne, line, bareProof, lineProof, atZero}
 use Rattle.worked.specs.Judging.{spare, acceptsIn, refusesIn, accepts, refuses, motzkinExact, marked, tabled, withMask, worked, withLimits, cases, Worked, Targets, Exchanged}
 use Rattle.worked.specs.Searches as S
+use Rattle.worked.specs.Pages as Pages
 
-computed : Worked × S.Worked × Targets
+computed : Worked × S.Worked × Targets × Pages.Worked × Pages.Lines
 unfolding
     u32At i32At withBits withI32 floorDiv floorMod share table bytesAt every everyPair samePoint risesTo midpointOf
     evenSum hasMidpoint exponentsWithin keepsSign gathered coefficient slotsAt lowered worst target floorOf
@@ -53,8 +60,11 @@ unfolding
     checkAnswer outputOf bare noRows motzkin motzkinProof motzkinExchanged motzkinBytes motzkinProofBytes oneTerm
     masked maskedSquare maskedProduct productProof maskedCube cubeProof spare accepts refuses motzkinExact marked
     tabled withMask worked withFloor F.rangeWrong F.rangeAnswer F.floorCount F.floorAfter F.accepts F.refusedBefore
-    F.toldAfter F.searchOf F.outputBy F.searchOutput S.finds S.refuses S.heavy S.loneZero S.cases S.ranges S.worked
-computed = (refl, (refl, refl), (refl, refl, refl, refl))
+    F.toldAfter F.searchOf F.outputBy F.searchOutput S.finds S.refuses S.heavy S.loneZero S.cases S.ranges S.worked digits natural integer textsTo counted numbered
+    column scaleText acceptedLine refusedLine shownOf verdictLine pageLine laterColumns weightColumns rowColumns
+    rowShown moreShown tableText tableLine pageOf pageAnswer pageOutput shiftedTriple checkedPage pageAfter
+    Pages.paper Pages.shows Pages.refusesPage Pages.cases Pages.worked Pages.heavy Pages.lastLines
+computed = (refl, (refl, refl), (refl, refl, refl, refl), refl, (refl, refl, refl, refl))
 
 pub all-worked : Worked
 all-worked = computed .0
@@ -64,6 +74,12 @@ all-searched = computed .1
 
 pub all-targets : Targets
 all-targets = computed .2
+
+pub all-pages : Pages.Worked
+all-pages = computed .3
+
+pub all-lines : Pages.Lines
+all-lines = computed .4
 
 -- the second sheet has H's second row first, then its first
 pub rows-exchanged : Exchanged

@@ -6,3 +6,4 @@ pub mod Searches
 pub mod Evaluations
 pub mod Fractions
 pub mod Reports
+pub mod Pages
