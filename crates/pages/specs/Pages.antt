@@ -1,10 +1,11 @@
 -- Pages: the verdict on paper, for a post of a site.
+use mathlib.Core.Path.{_≡_}
 use mathlib.Core.Bool.{cond}
 use mathlib.Core.List.{List, [], _++_}
-use Prim.Native.Nat.{ℕ, suc, _*_, _-_}
+use Prim.Native.Nat.{ℕ, suc, _+_, _*_, _-_, _<_}
 use lib.Dec.{ltb}
 use lib.IntN.{ℤ, pos}
-use lib.ListN.{length}
+use lib.ListN.{length, getD}
 use Rattle.answers.specs.Answers.{Answer}
 use Rattle.rows.specs.ProofSheet.{tripleOf}
 use Rattle.rows.specs.declared.proof_sheet.Triple.{Triple}
@@ -26,6 +27,11 @@ pageLength = pageLines * suc pageWidth
 -- "lines 2 to 39 the first 38 rows"
 abbrev pub pageRows : ℕ
 pageRows = 38
+
+-- such lines, and nothing else
+pub record Lined (page : List ℕ) : Type 0 where
+  pub long : length page ≡ pageLength
+  pub fed : (i : ℕ) → i < pageLines → getD page (i * suc pageWidth + pageWidth) 0 ≡ 10
 
 -- a line with its text, "the rest spaces"
 unfoldable pub pageLine : List ℕ → List ℕ

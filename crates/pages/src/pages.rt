@@ -18,7 +18,7 @@ ghost use Rattle.rows.specs.ProofSheet.{tripleOf, Narrow};
 ghost use Rattle.text.specs.Text.{textsTo, Written};
 ghost use Rattle.text.specs.Columns.{Blank};
 ghost use Rattle.report.specs.Reports.{Carries, Shows};
-ghost use Rattle.pages.specs.Pages.{pageWidth, pageLength, pageRows, laterColumns, weightColumns, rowColumns, rowShown, tableText, tableLine, verdictPage};
+ghost use Rattle.pages.specs.Pages.{pageWidth, pageLength, pageRows, Lined, laterColumns, weightColumns, rowColumns, rowShown, tableText, tableLine, verdictPage};
 
 // How many characters a line has before its line feed, and how many rows a page shows.
 const PAGE_WIDTH: usize = 72;
@@ -113,7 +113,7 @@ fn table(proof: &[u8], shape: Shape, out: &mut [u8], at: usize) -> usize
 fn lay_out(claim: &[u8], proof: &[u8], verdict: Verdict, lines: &mut [u8; PAGE_LENGTH])
     requires { ⌜ (Carries (now claim) (now proof) (says verdict)) × (Blank (now lines) 0 pageLength) ⌝ }
     ensures { λ _. ⌜ (now (lines .exit) ≡ verdictPage (now (claim .entry)) (now (proof .entry)) (says verdict))
-        × (length (now (lines .exit)) ≡ pageLength) ⌝ }
+        × (Lined (now (lines .exit))) ⌝ }
 {
     verdict_line(claim, proof, verdict, lines, 0);
     let later = put_byte(b'\n', lines, PAGE_WIDTH);
@@ -123,7 +123,8 @@ fn lay_out(claim: &[u8], proof: &[u8], verdict: Verdict, lines: &mut [u8; PAGE_L
 // The page of a verdict on a claim, with its exact proof where it is accepted.
 pub fn put_page(claim: &[u8], proof: &[u8], verdict: Verdict, page: &mut [u8])
     requires { ⌜ (Carries (now claim) (now proof) (says verdict)) × (length (now page) ≡ pageLength) ⌝ }
-    ensures { λ _. ⌜ now (page .exit) ≡ verdictPage (now (claim .entry)) (now (proof .entry)) (says verdict) ⌝ }
+    ensures { λ _. ⌜ (now (page .exit) ≡ verdictPage (now (claim .entry)) (now (proof .entry)) (says verdict))
+        × (Lined (now (page .exit))) ⌝ }
 {
     let mut lines = [32u8; PAGE_LENGTH];
     lay_out(claim, proof, verdict, &mut lines);

@@ -21,7 +21,7 @@ use Rattle.text.specs.Lines.{acceptedLine}
 use Rattle.text.proofs.lines.Laws.{refusal-short}
 use Rattle.report.specs.Reports.{verdictLine}
 use Rattle.report.proofs.reports.Laws.{refused-line, accepted-line, none-shown, all-shown}
-use Rattle.pages.specs.Pages.{pageWidth, pageLength, pageRows, pageLine, pageOf}
+use Rattle.pages.specs.Pages.{pageWidth, pageLength, pageRows, Lined, pageLine, pageOf}
 use Rattle.pages.proofs.pages.Laws.{page-blank}
 use Rattle.paging.specs.PageCheck.{pageAnswer, pageOutput, shiftedTriple, checkedPage, pageAfter}
 use Rattle.paging.specs.Promises.{RightPage, PagePromises}
@@ -66,7 +66,7 @@ module _ (c s l out page : List ℕ) where
 
   module _ (Accepted : Type 0) (k : ℕ) (meant : Accepted ↔ Passes answer) (counted : Passes answer → k ≡ rowCount s)
       (bc : Bytes c) (bs : Bytes s) (o p : List ℕ) (eo : o ≡ pageOutput c s l out (length page))
-      (ep : p ≡ pageAfter c s l (length out) page) where
+      (ep : p ≡ pageAfter c s l (length out) page) (lined : RightPage page → Lined p) where
     refused-wrong : (RightPage page → ⊥) → Accepted → ⊥
     refused-wrong n a = n (sized (meant .0 a))
 
@@ -101,6 +101,7 @@ module _ (c s l out page : List ℕ) where
       checked = checked;
       same = λ e. (same-verdict e, eo ∙ right-output c s l out page e);
       wrong = λ n. (refused-wrong n, eo ∙ wrong-output c s l out page n, ep ∙ wrong-page c s l out page n);
+      lined = lined;
       shows = λ a.
           let h = meant .0 a in
           let e = sized h in

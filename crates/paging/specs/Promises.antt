@@ -12,7 +12,7 @@ use Rattle.judging.specs.Check.{checkAnswer, outputOf}
 use Rattle.judging.specs.Promises.{LongEnough, CheckPromises}
 use Rattle.text.specs.Text.{textsTo}
 use Rattle.text.specs.Lines.{acceptedLine}
-use Rattle.pages.specs.Pages.{pageWidth, pageLength, pageRows, pageLine, pageOf}
+use Rattle.pages.specs.Pages.{pageWidth, pageLength, pageRows, Lined, pageLine, pageOf}
 use Rattle.paging.specs.PageCheck.{shiftedTriple}
 
 -- a page buffer that 26 lets pass
@@ -27,6 +27,8 @@ pub record PagePromises (c s l out page : List ℕ) (Accepted : Type 0) (k : ℕ
   -- with a right page it is the check of before, and with any other it is refused and writes nothing at all
   pub same : RightPage page → (Accepted ↔ Passes (checkAnswer c s l (length out))) × (o ≡ outputOf c s l out)
   pub wrong : (RightPage page → ⊥) → (Accepted → ⊥) × (o ≡ out) × (p ≡ page)
+  -- "40 lines of 72 characters, each ended by a line feed"
+  pub lined : RightPage page → Lined p
   -- an acceptance shows k, S, b and the shifted weights
   pub shows : Accepted → p ≡ pageOf (acceptedLine (rowCount s) (scaleOf s) (floorOf c)) (shiftedTriple c s l) (rowCount s)
   -- "a refused verdict leaves lines 2 to 40 blank"

@@ -118,10 +118,11 @@ module _ (c s ls out page : List ℕ) (v : Verdict) (e : says v ≡ pageAnswer c
         (page-rows c s ls out page)
 
     pub page-promised : (o p : List ℕ) → o ≡ pageOutput c s ls out (length page)
-        → p ≡ pageAfter c s ls (length out) page → PagePromises c s ls out page (Accepted r) r o p
-    page-promised o p =
+        → p ≡ pageAfter c s ls (length out) page → (A : Type 0) (k : ℕ) → PagePromises c s ls out page A k o p
+        → PagePromises c s ls out page (Accepted r) r o p
+    page-promised o p eo ep A k given =
         page-promises c s ls out page _ _ (page-coded .accepted)
-        (λ h. accepted-code _ _ page-code _ (page-rows c s ls out page h)) bc bs o p
+        (λ h. accepted-code _ _ page-code _ (page-rows c s ls out page h)) bc bs o p eo ep (given .lined)
 
 -- ---- burmelox_evaluate: t is the evaluation, r the answer, `after` what is stored
 

@@ -1,14 +1,14 @@
 -- Laws of pages: how long their parts are, and what they show.
 use mathlib.Core.Path.{_≡_, refl, _∙_, ap}
 use mathlib.Core.Bool.{Bool, true, false, cond}
-use mathlib.Core.List.{List, [], _++_}
-use Prim.Native.Nat.{ℕ, suc, _-_, _<_, _≤_}
+use mathlib.Core.List.{List, [], _++_, append-assoc}
+use Prim.Native.Nat.{ℕ, zero, suc, _+_, _*_, _-_, _<_, _≤_}
 use native.Mathlib.Decide.{decLt}
 use native.Mathlib.Omega.{arith}
 use lib.Dec.{ltb}
 use lib.IntN.{ℤ, pos}
-use lib.ListN.{length, drop, length-append, length-replicate}
-use lib.Seq.{drop-at}
+use lib.ListN.{length, getD, drop, length-append, length-replicate, List·getD-append}
+use lib.Seq.{drop-at, getD-at, getD-append-add}
 use borrow.Author.Tests.{lt-ltb, le-ltb}
 use mir.Syntax.{w32}
 use mir.Val.{SFits}
@@ -17,14 +17,22 @@ use Rattle.answers.specs.Answers.{Answer}
 use Rattle.rows.specs.ProofSheet.{tripleOf, Narrow}
 use Rattle.rows.specs.declared.proof_sheet.Triple.{Triple}
 use Rattle.text.specs.Text.{ascii, integer, textsTo}
-use Rattle.text.proofs.text.Laws.{integer-short, texts-same}
+use Rattle.text.specs.Columns.{spaces}
+use Rattle.text.proofs.text.Laws.{integer-short, texts-length, texts-byte, texts-same}
 use Rattle.text.proofs.columns.Laws.{column-length}
 use Rattle.report.specs.Reports.{shownOf, verdictLine}
-use Rattle.pages.specs.Pages.{pageWidth, pageRows, pageLine, laterColumns, weightColumns, rowColumns, rowShown, moreShown, tableText, tableLine, pageOf, verdictPage}
+use Rattle.pages.specs.Pages.{pageWidth, pageLines, pageRows, Lined, pageLine, laterColumns, weightColumns, rowColumns, rowShown, moreShown, tableText, tableLine, pageOf, verdictPage}
 
 pub line-length : (text : List ℕ) → length text ≤ pageWidth → length (pageLine text) ≡ suc pageWidth
 unfolding pageLine
 line-length text h = simp (length-append, length-replicate) (omega arith)
+
+line-feed : (text : List ℕ) → length text ≤ pageWidth → getD (pageLine text) pageWidth 0 ≡ 10
+unfolding pageLine
+line-feed text h =
+    rw (← (append-assoc text (spaces (pageWidth - length text)) (ascii "\n")))
+    (getD-at (text ++ spaces (pageWidth - length text)) 10 [] 0 pageWidth
+    (simp (length-append, length-replicate) (omega arith)))
 
 -- a weight has at most 11 characters, an index on a page 2
 pub weight-narrow : (z : ℤ) → SFits w32 z → length (integer z) ≤ 12
@@ -68,6 +76,35 @@ module _ (x : ℕ → Triple) (k : ℕ) (narrow : (i : ℕ) → Narrow (x i)) wh
       go : Dec (i < pageRows) → length (cond (ltb i pageRows) (rowShown x k i) (cond (ltb pageRows k) (ascii "more") [])) ≤ 40
       go (yes h) = rw (lt-ltb i pageRows h) (shown-short i h)
       go (no h) = rw (le-ltb i pageRows (omega arith)) (more (ltb pageRows k))
+
+  pub page-lined : (first : List ℕ) → length first ≤ pageWidth → Lined (pageOf first x k)
+  unfolding pageOf tableLine
+  page-lined first h = record {
+    long = rw (length-append (pageLine first) table, line-length first h, texts-length lines _ (suc pageRows) all);
+    fed = go;
+  }
+    where
+      lines : ℕ → List ℕ
+      lines = tableLine x k
+
+      table : List ℕ
+      table = textsTo lines (suc pageRows)
+
+      short : (i : ℕ) → length (tableText x k i) ≤ pageWidth
+      short i = omega (arith, table-short i)
+
+      all : (i : ℕ) → length (lines i) ≡ suc pageWidth
+      all i = line-length (tableText x k i) (short i)
+
+      go : (i : ℕ) → i < pageLines → getD (pageLine first ++ table) (i * suc pageWidth + pageWidth) 0 ≡ 10
+      go zero l =
+          List·getD-append (pageLine first) table 0 pageWidth (omega (arith, line-length first h)) ∙ line-feed first h
+      go (suc i) l =
+          let e : suc i * suc pageWidth + pageWidth ≡ length (pageLine first) + (i * suc pageWidth + pageWidth) =
+          omega (arith, line-length first h) in
+          rw e (getD-append-add (pageLine first) table (i * suc pageWidth + pageWidth) 0
+          ∙ texts-byte lines (suc pageWidth) (suc pageRows) i pageWidth all (omega arith) (omega arith)
+          ∙ line-feed (tableText x k i) (short i))
 
 -- ---- what a page shows
 

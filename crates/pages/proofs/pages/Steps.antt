@@ -22,8 +22,8 @@ use Rattle.text.specs.Columns.{spaces, column, Blank}
 use Rattle.text.proofs.text.Laws.{written-then, written-all, texts-start}
 use Rattle.text.proofs.columns.Laws.{column-length, blank-then, blank-over}
 use Rattle.report.specs.Reports.{shownOf, Shows, verdictLine}
-use Rattle.pages.specs.Pages.{pageWidth, pageLength, pageRows, pageLine, laterColumns, weightColumns, rowColumns, rowShown, moreShown, tableText, tableLine, pageOf, verdictPage}
-use Rattle.pages.proofs.pages.Laws.{weight-narrow, index-narrow, table-short, line-length}
+use Rattle.pages.specs.Pages.{pageWidth, pageLength, pageRows, Lined, pageLine, laterColumns, weightColumns, rowColumns, rowShown, moreShown, tableText, tableLine, pageOf, verdictPage}
+use Rattle.pages.proofs.pages.Laws.{weight-narrow, index-narrow, line-length, table-short, page-lined, verdict-shown}
 
 -- so many of the bytes that are blank
 blank-part : {l : List ℕ} {at : ℕ} (n m : ℕ) → Blank l at n → m ≤ n → Blank l at m
@@ -191,12 +191,16 @@ module _ (c s : List ℕ) (a : Answer) (l m : List ℕ) (mid : ℕ) (w : Written
 
   module _ (sh : Shape) (p : List ℕ) (end : ℕ) (el : length l ≡ pageLength)
       (v : Written o later (textsTo (tableLine (tripleOf s sh) (sh .k)) (suc pageRows)) p end) where
-    pub page-written : sh ≡ shownOf s a → end ≡ later + suc pageRows * suc pageWidth → p ≡ verdictPage c s a
-    unfolding verdictPage pageOf
-    page-written e ev = written-all _ (written-then _ _ first-written (rw e at v)) (omega (arith, ev, u .ends, el))
+    module _ (e : sh ≡ shownOf s a) (ev : end ≡ later + suc pageRows * suc pageWidth) where
+      pub page-written : p ≡ verdictPage c s a
+      unfolding verdictPage pageOf
+      page-written = written-all _ (written-then _ _ first-written (rw e at v)) (omega (arith, ev, u .ends, el))
 
-    pub page-long : length p ≡ pageLength
-    page-long = omega (arith, w .kept, u .kept, v .kept, el)
+      pub lines-lined : Bytes s → Lined p
+      lines-lined bs =
+          rw (page-written, verdict-shown c s a)
+          (page-lined (tripleOf s (shownOf s a)) (shownOf s a .k) (λ i. triple-narrow s (shownOf s a) i bs)
+          (verdictLine c s a) fits)
 
 -- ---- put_page
 
@@ -206,7 +210,14 @@ spaces-blank l e = record {
   blank = λ i _ h. rw e (getD-replicate pageLength i 32 0 (omega (arith, ap length e, length-replicate {A = ℕ} pageLength 32)));
 }
 
-pub page-copied : (c s : List ℕ) (a : Answer) (m l p : List ℕ) → m ≡ verdictPage c s a → length m ≡ pageLength
-    → length l ≡ pageLength → p ≡ take (length m) m ++ drop (length m) l → p ≡ verdictPage c s a
-page-copied c s a m l p em en el e =
-    e ∙ rw (take-length m, drop-of-length-le l {i = length m} (omega (arith, en, el))) (append-nil m ∙ em)
+module _ (m l p : List ℕ) (lined : Lined m) (el : length l ≡ pageLength)
+    (e : p ≡ take (length m) m ++ drop (length m) l) where
+  copied : p ≡ m
+  copied =
+      e ∙ rw (take-length m, drop-of-length-le l {i = length m} (omega (arith, lined .long, el))) (append-nil m)
+
+  pub page-copied : (c s : List ℕ) (a : Answer) → m ≡ verdictPage c s a → p ≡ verdictPage c s a
+  page-copied c s a em = copied ∙ em
+
+  pub copy-lined : Lined p
+  copy-lined = rw copied lined

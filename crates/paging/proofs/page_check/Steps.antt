@@ -16,7 +16,7 @@ use Rattle.judging.specs.Check.{checkAnswer, outputOf}
 use Rattle.judging.proofs.Promises.{accepted-rows, claim-left, room-left, scale-left, weights-left}
 use Rattle.report.specs.Reports.{Carries}
 use Rattle.report.proofs.reports.Laws.{refused-line, accepted-line, none-shown, all-shown}
-use Rattle.pages.specs.Pages.{verdictPage}
+use Rattle.pages.specs.Pages.{Lined, verdictPage}
 use Rattle.pages.proofs.pages.Laws.{verdict-shown, page-same}
 use Rattle.paging.specs.PageCheck.{pageAnswer, pageOutput, shiftedTriple, checkedPage, pageAfter}
 use Rattle.paging.specs.Promises.{RightPage, PagePromises}
@@ -24,6 +24,15 @@ use Rattle.paging.proofs.Promises.{page-rows, page-promises}
 use Rattle.paging.proofs.page_check.Laws.{right-answer, right-output, right-page, wrong-answer, wrong-output, wrong-page}
 
 module _ (c s l out page : List ℕ) where
+  -- ---- v is the verdict, o and p are the output and the page afterwards
+
+  pub promises : (v : Verdict) → says v ≡ pageAnswer c s l (length out) (length page) → Bytes c → Bytes s
+      → (o p : List ℕ) → o ≡ pageOutput c s l out (length page) → p ≡ pageAfter c s l (length out) page
+      → (RightPage page → Lined p) → PagePromises c s l out page (Passes (says v)) (says v .value) o p
+  promises v e bc bs o p eo ep lined =
+      page-promises c s l out page _ _ (λ h. rw e at h, λ h. rw e h)
+      (λ h. accepted-numbers _ _ (e ∙ page-rows c s l out page h) .1) bc bs o p eo ep lined
+
   -- ---- a page of another length
 
   module _ (n : RightPage page → ⊥) where
@@ -35,6 +44,11 @@ module _ (c s l out page : List ℕ) where
 
     pub page-kept : page ≡ pageAfter c s l (length out) page
     page-kept = sym (wrong-page c s l out page n)
+
+    pub wrong-promises : Bytes c → Bytes s
+        → PagePromises c s l out page (Passes (says (Refused (Page 26 0)))) (says (Refused (Page 26 0)) .value) out page
+    wrong-promises bc bs =
+        promises (Refused (Page 26 0)) wrong-says bc bs out page output-kept page-kept (λ r. absurd (n r))
 
   -- ---- v is the verdict of the check, o the output afterwards
 
@@ -86,12 +100,3 @@ module _ (c s l out page : List ℕ) where
 
       pub page-written : (p : List ℕ) → p ≡ verdictPage c o (says v) → p ≡ pageAfter c s l (length out) page
       page-written p ep = ep ∙ output-page ∙ rw e (sym (right-page c s l out page r))
-
-  -- ---- v is the verdict, o and p are the output and the page afterwards
-
-  pub promises : (v : Verdict) → says v ≡ pageAnswer c s l (length out) (length page) → Bytes c → Bytes s
-      → (o p : List ℕ) → o ≡ pageOutput c s l out (length page) → p ≡ pageAfter c s l (length out) page
-      → PagePromises c s l out page (Passes (says v)) (says v .value) o p
-  promises v e bc bs o p eo ep =
-      page-promises c s l out page _ _ (λ h. rw e at h, λ h. rw e h)
-      (λ h. accepted-numbers _ _ (e ∙ page-rows c s l out page h) .1) bc bs o p eo ep

@@ -4,12 +4,12 @@ use mathlib.Core.Bool.{true, false, true≢false}
 use mathlib.Core.List.{List, [], _∷_, _++_, append-nil}
 use Prim.Native.Nat.{ℕ, zero, suc, _+_, _*_, _/_, _%_, _^_, _<_, _≤_}
 use native.Mathlib.Decide.{decLt, le-ind}
-use native.Mathlib.Nat.{pow-succ'}
+use native.Mathlib.Nat.{pow-succ', mul-le-mul-right}
 use native.Mathlib.Numerals.{add-one}
 use native.Mathlib.Omega.{arith}
 use lib.IntN.{ℤ, pos, negsuc, natAbs}
-use lib.ListN.{length, set, length-append, drop-of-length-le}
-use lib.Seq.{sets, sets-eq}
+use lib.ListN.{length, getD, set, length-append, drop-of-length-le, List·getD-append}
+use lib.Seq.{sets, sets-eq, getD-append-add}
 use lib.Signed.{ltZ}
 use borrow.Author.Tests.{lt-ltb, le-ltb, ltb-true}
 use Rattle.text.specs.Text.{digits, natural, integer, numbered, textsTo, Room, Written}
@@ -76,7 +76,30 @@ texts-same a b zero h = rw (texts-none a, texts-none b)
 texts-same a b (suc k) h =
     rw (texts-more a k, texts-more b k, texts-same a b k (λ i l. h i (omega arith)), h k (omega arith))
 
--- texts of at most so many bytes each
+-- texts of so many bytes each, and of at most so many
+pub texts-length : (text : ℕ → List ℕ) (n k : ℕ) → ((i : ℕ) → length (text i) ≡ n) → length (textsTo text k) ≡ k * n
+texts-length text n zero h = rw (texts-none text) (omega arith)
+texts-length text n (suc k) h =
+    rw (texts-more text k, length-append (textsTo text k) (text k)) (omega (arith, texts-length text n k h, h k))
+
+-- byte m of text i
+pub texts-byte : (text : ℕ → List ℕ) (n k i m : ℕ) → ((i : ℕ) → length (text i) ≡ n) → i < k → m < n
+    → getD (textsTo text k) (i * n + m) 0 ≡ getD (text i) m 0
+texts-byte text n zero i m h l b = absurd (omega arith)
+texts-byte text n (suc k) i m h l b = rw (texts-more text k) (go (decLt i k) (texts-byte text n k i m h))
+  where
+    long : length (textsTo text k) ≡ k * n
+    long = texts-length text n k h
+
+    go : Dec (i < k) → (i < k → m < n → getD (textsTo text k) (i * n + m) 0 ≡ getD (text i) m 0)
+        → getD (textsTo text k ++ text k) (i * n + m) 0 ≡ getD (text i) m 0
+    go (yes q) before =
+        List·getD-append (textsTo text k) (text k) 0 (i * n + m) (omega (arith, long, mul-le-mul-right n q))
+        ∙ before q b
+    go (no q) before =
+        let e : i ≡ k = omega arith in
+        rw (e, ← long) (getD-append-add (textsTo text k) (text k) m 0)
+
 pub texts-short : (text : ℕ → List ℕ) (n k : ℕ) → ((i : ℕ) → i < k → length (text i) ≤ n)
     → length (textsTo text k) ≤ k * n
 texts-short text n zero h = rw (texts-none text) (omega arith)

@@ -1,5 +1,5 @@
 use borrow.Author.Needs.{needs}
-use Rattle.pages.proofs.pages.Steps.{table-blank, page-written, page-long}
+use Rattle.pages.proofs.pages.Steps.{table-blank, page-written, lines-lined}
 use Rattle.pages.proofs.pages.lay_out.Statement.{statement}
 use Rattle.pages.proofs.pages.lay_out.Tie as tie
 
@@ -7,7 +7,7 @@ table-requires : tie.Need-table-requires
 table-requires c κs = (search needs, search table-blank)
 
 returns : tie.Need-returns
-returns c = (search page-written, search page-long)
+returns c = (search page-written, search lines-lined)
 
 pub lay-out-spec : {M : Type 1} → statement M
 lay-out-spec =

@@ -1,13 +1,10 @@
 use borrow.Author.Needs.{needs}
-use Rattle.paging.proofs.page_check.Steps.{wrong-says, output-kept, page-kept, output-carries, right-says, output-written, page-written, promises}
+use Rattle.paging.proofs.page_check.Steps.{wrong-says, output-kept, page-kept, wrong-promises, output-carries, right-says, output-written, page-written, promises}
 use Rattle.paging.proofs.page_check.page_check.Statement.{statement}
 use Rattle.paging.proofs.page_check.page_check.Tie as tie
 
 returns : tie.Need-returns
-returns c = (
-  search wrong-says,
-  (search output-kept, (search page-kept, search (promises, wrong-says, output-kept, page-kept))),
-)
+returns c = (search wrong-says, (search output-kept, (search page-kept, search wrong-promises)))
 
 put-page-requires : tie.Need-put-page-requires
 put-page-requires c κs = (search output-carries, search needs)
