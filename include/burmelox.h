@@ -9,9 +9,9 @@
  * and minus L. It admits the numbers at which each limited variable does; n and 7 * n zero bytes
  * limit no variable and admit all.
  *
- * Sheets, outputs and offsets may be of any length and content: what is wrong is refused, and a
- * refusal writes nothing. The functions keep no state and allocate nothing, so any thread may call
- * them at any time with buffers of its own.
+ * Sheets, outputs, pages and offsets may be of any length and content: what is wrong is refused,
+ * and a refusal writes nothing but the page of a check that has one. The functions keep no state
+ * and allocate nothing, so any thread may call them at any time with buffers of its own.
  *
  * A pointer whose length is 0 is not read through and may be null. Every other pointer leads to as
  * many elements as its length says, `value`, `floor` and `tried` to one each; what is written
@@ -28,9 +28,9 @@ extern "C" {
 #endif
 
 #define BURMELOX_VERSION_MAJOR 0
-#define BURMELOX_VERSION_MINOR 4
+#define BURMELOX_VERSION_MINOR 5
 #define BURMELOX_VERSION_PATCH 0
-#define BURMELOX_VERSION "0.4.0"
+#define BURMELOX_VERSION "0.5.0"
 
 /*
  * An answer is one number. It is under 65,536 where nothing is refused: the number of rows of an
@@ -48,7 +48,8 @@ enum burmelox_sheet {
     BURMELOX_OUTPUT = 3,
     BURMELOX_OFFSETS = 4,
     BURMELOX_RANGE = 5,
-    BURMELOX_LIMITS = 6
+    BURMELOX_LIMITS = 6,
+    BURMELOX_PAGE = 7
 };
 
 /*
@@ -82,7 +83,8 @@ enum burmelox_refusal {
     BURMELOX_RANGE_WRONG = 22,          /* lo over hi, either beyond 2^30, or too many floors */
     BURMELOX_NO_FLOOR = 23,             /* from lo to hi none is accepted */
     BURMELOX_LIMITS_LENGTH_WRONG = 24,  /* or n not the claim's */
-    BURMELOX_LIMIT_WRONG = 25           /* power, L or m; variable */
+    BURMELOX_LIMIT_WRONG = 25,          /* power, L or m; variable */
+    BURMELOX_PAGE_LENGTH_WRONG = 26     /* not 2,920 bytes */
 };
 
 /*
@@ -109,6 +111,11 @@ enum burmelox_refusal {
 #define BURMELOX_PROOF_LENGTH(n, k) ((size_t)8 + (size_t)(k) * (2 * (size_t)(n) + 12))
 #define BURMELOX_LIMITS_LENGTH(n) ((size_t)1 + 7 * (size_t)(n))
 
+/* A page: so many lines, of so many characters and a line feed each, so many bytes in all. */
+#define BURMELOX_PAGE_LINES 40
+#define BURMELOX_PAGE_WIDTH 72
+#define BURMELOX_PAGE_LENGTH 2920
+
 /* The greatest lengths. */
 #define BURMELOX_MOST_CLAIM BURMELOX_CLAIM_LENGTH(BURMELOX_MOST_VARIABLES, BURMELOX_MOST_TERMS)
 #define BURMELOX_MOST_PROOF BURMELOX_PROOF_LENGTH(BURMELOX_MOST_VARIABLES, BURMELOX_MOST_ROWS)
@@ -125,6 +132,21 @@ uint64_t burmelox_check(const uint8_t *claim, size_t claim_len,
                         const uint8_t *proof, size_t proof_len,
                         const uint8_t *limits, size_t limits_len,
                         uint8_t *output, size_t output_len);
+
+/*
+ * Checks as burmelox_check does, with the same answer and the same output, and writes the verdict
+ * as a page: in line 1 `accepted rows K scale S floor B` or `refused NUMBER at INDEX`, as the
+ * program prints it, and of an acceptance in each of lines 2 to 39 a row, its index from 0 in 4
+ * columns and its exact weights p, q and r in 12 each, right-aligned; line 40 is `more` where there
+ * are more than 38 rows. All else is spaces and line feeds, and no zero ends the page. A page_len
+ * other than BURMELOX_PAGE_LENGTH is refused before anything else, and then nothing is written;
+ * every other refusal writes the page, and the output stays as it was.
+ */
+uint64_t burmelox_check_page(const uint8_t *claim, size_t claim_len,
+                             const uint8_t *proof, size_t proof_len,
+                             const uint8_t *limits, size_t limits_len,
+                             uint8_t *output, size_t output_len,
+                             uint8_t *page, size_t page_len);
 
 /*
  * Evaluates the claim's polynomial at the offsets, one for each variable, whether mask and limits

@@ -1,6 +1,6 @@
 /*
  * The header's macros at the edges, null pointers with length 0, as C++ and Python hand them over, a check
- * that its limits let pass, and searches that are refused and store nothing.
+ * that its limits let pass, checks with a page, and searches that are refused and store nothing.
  */
 #include "burmelox.h"
 #include <inttypes.h>
@@ -26,11 +26,19 @@ static const uint8_t minus_square[BURMELOX_CLAIM_LENGTH(1, 1)] = {1, 1, 0, 0, 24
 static const uint8_t within_3[BURMELOX_LIMITS_LENGTH(1)] = {1, 2, 3, 0, 1, 0, 0, 0};
 
 static uint8_t output[sizeof proof];
+static uint8_t page[BURMELOX_PAGE_LENGTH];
 static int64_t found = 8;
 static uint32_t tried = 9;
 
 static uint64_t check(const uint8_t *sheet, size_t sheet_len) {
     return burmelox_check(claim, sizeof claim, proof, sizeof proof, sheet, sheet_len, output, sizeof output);
+}
+
+/* Prints the answer to a check with a page, and the page's first line. */
+static void print_page(const char *call, const uint8_t *sheet, size_t sheet_len) {
+    print(call, burmelox_check_page(sheet, sheet_len, proof, sizeof proof, limits, sizeof limits,
+                                    output, sizeof output, page, sizeof page));
+    fwrite(page, 1, BURMELOX_PAGE_WIDTH + 1, stdout);
 }
 
 static uint64_t search(int64_t lo, int64_t hi) {
@@ -54,6 +62,9 @@ int main(void) {
     print("minus square within 3",
           burmelox_check(minus_square, sizeof minus_square, proof, sizeof proof, within_3, sizeof within_3,
                          output, sizeof output));
+    print("no page", burmelox_check_page(NULL, 0, NULL, 0, NULL, 0, NULL, 0, NULL, 0));
+    print_page("no claim for a page", NULL, 0);
+    print_page("a page", claim, sizeof claim);
     print("no claim to evaluate", burmelox_evaluate(NULL, 0, NULL, 0, &value));
     print("no offsets", burmelox_evaluate(claim, sizeof claim, NULL, 0, &value));
     printf("value %" PRId64 "\n", value);
@@ -74,6 +85,8 @@ int main(void) {
     print_found();
     printf("greatest lengths %zu, %zu and %zu\n", BURMELOX_MOST_CLAIM, BURMELOX_MOST_PROOF,
            BURMELOX_MOST_LIMITS);
+    printf("page of %d lines of %d characters, %d bytes\n", BURMELOX_PAGE_LINES, BURMELOX_PAGE_WIDTH,
+           BURMELOX_PAGE_LENGTH);
     print("last row", (uint64_t)BURMELOX_PROOF << 32 | BURMELOX_CROSS_TOO_LARGE << 16 | 255);
     print("most rows", BURMELOX_MOST_ROWS);
     return 0;

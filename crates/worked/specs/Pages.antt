@@ -4,7 +4,7 @@ use mathlib.Core.List.{List, [], _∷_, _++_, map}
 use Prim.Native.Nat.{ℕ, _-_, _*_, _^_}
 use Prim.Native.String.{String}
 use lib.IntN.{pos, negsuc}
-use lib.ListN.{length, take, drop, replicate}
+use lib.ListN.{length, drop, replicate}
 use Rattle.answers.specs.Answers.{Answer, page, accepted, refused}
 use Rattle.sheets.specs.Layout.{variables}
 use Rattle.rows.specs.declared.proof_sheet.Triple.{Triple}

@@ -1,5 +1,5 @@
 //! The library's time beside the same method in Rust, and beside a hash map of sums for checks and
-//! beside a naive walk for searches.
+//! beside a naive walk for searches; its checks with a page beside those without.
 //!
 //!     cargo run --release --bin bench
 //!
@@ -23,21 +23,24 @@ use layouts::{Layout, SearchLayout, LAYOUTS, SEARCH_LAYOUTS};
 use scanning::Scanning;
 use searching::{by_checks, by_library, by_same_method, Found, Search};
 use sheets::random::Floors;
-use sheets::{Claim, Limits, Proof};
+use sheets::{Claim, Limits, Proof, PAGE_LENGTH};
 use timing::{times, Function, Times, SAMPLES};
 
 type Check = Function<Given, Vec<u8>>;
+type PageCheck = Function<Given, (Vec<u8>, Vec<u8>)>;
 type Evaluate<'a> = Function<(&'a [u8], &'a [i32]), i64>;
 
 fn main() {
     println!("Thread CPU time of a call in microseconds, of a search in milliseconds, minimum /");
     println!("median of {SAMPLES} samples, of fewer where a call takes long.");
-    println!("By minimum: a ratio is the library's over the other's, growth is over the k before.");
+    println!("By minimum: a ratio is the first time over the other, growth is over the k before.");
     println!(
         "\n{:<34}{:^18}  {:^18}  ratio  {:^18}  ratio  growth",
         "check, n 8", "library", "same method", "hash map"
     );
     LAYOUTS.iter().for_each(time_checks);
+    println!("\n{:<34}{:^18}  {:^18}  ratio", "library's check, n 8", "with a page", "without");
+    time_pages(&LAYOUTS[0]);
     println!("\n{:<34}{:^18}  {:^18}  ratio", "evaluation, n 8, t 64", "library", "same method");
     time_evaluations();
     println!(
@@ -75,6 +78,31 @@ fn check_times(claim: &Claim, proof: &Proof, limits: &Limits) -> [Times; 3] {
         |given, output| judging::check::<Hashed>(given, output),
     ];
     times(checks, &given, output, proof.rows.len() as u64)
+}
+
+/// Accepted proofs, written with a page and without.
+fn time_pages((name, sheets, limit): &Layout) {
+    for k in [4, 16, 64, 256] {
+        let (claim, proof) = sheets(k);
+        let [with, without] = page_times(&claim, &proof, &Limits::new(&[*limit; 8]));
+        let (t, ratio) = (claim.terms.len(), with.minimum / without.minimum);
+        println!("{name:<21} k {k:<3} t {t:<3}{with}  {without}  {ratio:>5.2}");
+    }
+}
+
+/// The times of the library with a page and without. The page is written before, so that both leave
+/// the same.
+fn page_times(claim: &Claim, proof: &Proof, limits: &Limits) -> [Times; 2] {
+    let given = given(claim, proof, limits);
+    let mut stored = (vec![0; given.proof.len()], vec![0; PAGE_LENGTH]);
+    let checks: [PageCheck; 2] = [
+        |Given { claim, proof, limits }, (output, page)| {
+            library::check_page(claim, proof, limits, output, page)
+        },
+        |Given { claim, proof, limits }, (output, _)| library::check(claim, proof, limits, output),
+    ];
+    checks[0](&given, &mut stored);
+    times(checks, &given, stored, proof.rows.len() as u64)
 }
 
 fn given(claim: &Claim, proof: &Proof, limits: &Limits) -> Given {

@@ -2,13 +2,13 @@
 
 use crate::program;
 use crate::report::Outcome;
-use oracle::{Accepted, Found, Integer, Refusal};
+use oracle::{Accepted, Found, Integer, Paged, Refusal};
 use refusals::EntryPoint;
 use sheets::random::Rng;
 use sheets::Case;
 use std::fmt::{self, Display};
 
-/// Bytes before and after the output that must keep their values.
+/// Bytes before and after a buffer that must keep their values.
 const GUARD: usize = 16;
 
 /// What both answered, or how they differ.
@@ -22,22 +22,24 @@ pub fn compare(
 ) -> Result<Option<Refusal>, String> {
     Ok(match entry_point {
         EntryPoint::Check => check(case, rng)?.err(),
+        EntryPoint::PageCheck => check_page(case, rng)?.verdict.err(),
         EntryPoint::Evaluation => evaluate(case, rng)?.err(),
         EntryPoint::Search => search(case, rng)?.err(),
         EntryPoint::Program => text(case)?.err(),
     })
 }
 
-/// An output of random bytes between others, which are not lent.
-struct Output {
+/// A buffer of random bytes between others, which are not lent.
+#[derive(Clone)]
+struct Buffer {
     before: Vec<u8>,
     bytes: Vec<u8>,
 }
 
-impl Output {
-    fn new(rng: &mut Rng, room: usize) -> Output {
-        let before = rng.bytes(GUARD + room + GUARD);
-        Output { bytes: before.clone(), before }
+impl Buffer {
+    fn new(rng: &mut Rng, length: usize) -> Buffer {
+        let before = rng.bytes(GUARD + length + GUARD);
+        Buffer { bytes: before.clone(), before }
     }
 
     fn lent(&mut self) -> &mut [u8] {
@@ -45,12 +47,11 @@ impl Output {
         &mut self.bytes[GUARD..end]
     }
 
-    /// Compares every byte: of an acceptance the first ones are the exact proof, and all others are
-    /// as they were.
-    fn compare(mut self, accepted: Option<&Accepted>, case: &Case) -> Outcome {
-        let exact = accepted.map_or(&[][..], |accepted| &accepted.bytes);
-        self.before[GUARD..][..exact.len()].copy_from_slice(exact);
-        same("output", &Hex(&self.before), &Hex(&self.bytes), case)
+    /// Compares every byte: the first ones are those that are to be written, and all others are as
+    /// they were.
+    fn compare(mut self, what: &str, written: &[u8], case: &Case) -> Outcome {
+        self.before[GUARD..][..written.len()].copy_from_slice(written);
+        same(what, &Hex(&self.before), &Hex(&self.bytes), case)
     }
 }
 
@@ -58,15 +59,37 @@ impl Output {
 pub fn check(case: &Case, rng: &mut Rng) -> Compared<Accepted> {
     let Case { claim, proof, limits, room, .. } = case;
     let verdict = oracle::check(claim, proof, limits, *room);
-    let mut output = Output::new(rng, *room);
+    let mut output = Buffer::new(rng, *room);
     let answer = library::check(claim, proof, limits, output.lent());
 
     same("check", &code(verdict.as_ref(), rows), &answer, case)?;
-    output.compare(verdict.as_ref().ok(), case)?;
+    output.compare("output", exact(verdict.as_ref()), case)?;
     if let Ok(accepted) = &verdict {
         keeps_exact(case, &accepted.bytes)?;
     }
     Ok(verdict)
+}
+
+/// Compares a check with a page by the library: its answer, every byte of the output and of the
+/// page. Where a page is written, a check without one comes to the same answer and output.
+pub fn check_page(case: &Case, rng: &mut Rng) -> Result<Paged, String> {
+    let Case { claim, proof, limits, room, page, .. } = case;
+    let paged = oracle::check_page(claim, proof, limits, *room, *page);
+    let (mut output, mut page) = (Buffer::new(rng, *room), Buffer::new(rng, *page));
+    let mut alone = output.clone();
+    let answer = library::check_page(claim, proof, limits, output.lent(), page.lent());
+
+    let verdict = paged.verdict.as_ref();
+    let written = paged.page.as_deref().unwrap_or_default();
+    same("check with a page", &code(verdict, rows), &answer, case)?;
+    page.compare("page", written.as_bytes(), case)?;
+    output.compare("output beside the page", exact(verdict), case)?;
+    if paged.page.is_some() {
+        let without = library::check(claim, proof, limits, alone.lent());
+        same("check without a page", &answer, &without, case)?;
+        alone.compare("output without a page", exact(verdict), case)?;
+    }
+    Ok(paged)
 }
 
 /// Compares a search by the library: its answer, the floor and the number of floors tried, which
@@ -75,7 +98,7 @@ pub fn search(case: &Case, rng: &mut Rng) -> Compared<Found> {
     let Case { claim, proof, limits, room, lo, hi, .. } = case;
     let (lo, hi) = (*lo, *hi);
     let found = oracle::search(claim, proof, limits, *room, lo, hi);
-    let mut output = Output::new(rng, *room);
+    let mut output = Buffer::new(rng, *room);
     let (mut floor, mut tried) = (rng.bits() as i64, rng.bits() as u32);
     let before = (floor, tried);
     let lent = output.lent();
@@ -87,7 +110,7 @@ pub fn search(case: &Case, rng: &mut Rng) -> Compared<Found> {
     same("search", &code(verdict, rows), &answer, case)?;
     same("floor", &expected.0, &floor, case)?;
     same("number of floors tried", &expected.1, &tried, case)?;
-    output.compare(verdict.ok(), case)?;
+    output.compare("output", exact(verdict), case)?;
     if let Ok(found) = &found {
         is_checked(case, &found.accepted)?;
     }
@@ -138,11 +161,13 @@ fn same<T: PartialEq + Display>(what: &str, oracle: &T, other: &T, case: &Case) 
     }
     Err(format!(
         "{what} differs\noracle   {oracle}\nanswered {other}\nclaim    {}\nproof    {}\n\
-         limits   {}\noutput   of {} bytes\noffsets  {:?}\nfloors   from {} to {}",
+         limits   {}\noutput   of {} bytes\npage     of {} bytes\noffsets  {:?}\n\
+         floors   from {} to {}",
         Hex(&case.claim),
         Hex(&case.proof),
         Hex(&case.limits),
         case.room,
+        case.page,
         case.offsets,
         case.lo,
         case.hi
@@ -156,6 +181,11 @@ fn code<T>(verdict: Result<&T, &Refusal>, answer: fn(&T) -> u64) -> u64 {
 
 fn rows(accepted: &Accepted) -> u64 {
     accepted.weights.len() as u64
+}
+
+/// What a verdict writes to the output: the exact proof where it is an acceptance, else nothing.
+fn exact<'a>(verdict: Result<&'a Accepted, &Refusal>) -> &'a [u8] {
+    verdict.map_or(&[], |accepted| &accepted.bytes)
 }
 
 /// Bytes that are shown in hex.

@@ -3,11 +3,11 @@
 //!
 //!     cargo run --bin compare [-- --seed N --cases N --library]
 //!
-//! `named` has the tests of single sheets, `limits` those of all fields of limits sheets,
-//! `documents` those of the tables in other files, `floors` what a floor means, `random` each kind
-//! of random cases, `answers` the comparison itself. The program is the one that `rt check
-//! burmelox_check` writes, or that BURMELOX_PROGRAM names. `--library` leaves it out of the random
-//! cases.
+//! `named` has the tests of single sheets, `limits` those of all fields of limits sheets, `pages`
+//! those of pages, `documents` those of the tables in other files, `floors` what a floor means,
+//! `random` each kind of random cases, `answers` the comparison itself. The program is the one that
+//! `rt check burmelox_check` writes, or that BURMELOX_PROGRAM names. `--library` leaves it out of
+//! the random cases.
 
 mod answers;
 mod documents;
@@ -15,6 +15,7 @@ mod files;
 mod floors;
 mod limits;
 mod named;
+mod pages;
 mod program;
 mod random;
 mod report;
@@ -38,6 +39,7 @@ fn main() -> ExitCode {
     let mut report = Report::default();
     named::run(&mut report);
     limits::run(&mut report);
+    pages::run(&mut report);
     documents::run(&mut report);
     floors::run(&mut report);
     random::run(&mut report, &options);

@@ -3,7 +3,7 @@
 
 use crate::report::{equal, Outcome, Report};
 use crate::{answers, files, program};
-use oracle::Refusal;
+use oracle::{Refusal, Verdict};
 use refusals::EntryPoint;
 use sheets::limited::{self, LimitedExample};
 use sheets::random::Rng;
@@ -25,6 +25,11 @@ const C_PROGRAMS: [(&str, &str); 2] = [
          no output: refused 11 at 0, sheet 3\n\
          no row: 0\n\
          minus square within 3: 0\n\
+         no page: refused 26 at 0, sheet 7\n\
+         no claim for a page: refused 1 at 0, sheet 1\n\
+         refused 1 at 0                                                          \n\
+         a page: 0\n\
+         accepted rows 0 scale 1 floor 0                                         \n\
          no claim to evaluate: refused 1 at 0, sheet 1\n\
          no offsets: refused 20 at 0, sheet 4\n\
          value 7\n\
@@ -40,6 +45,7 @@ const C_PROGRAMS: [(&str, &str); 2] = [
          last floor: 0\n\
          floor 0, tried 4096\n\
          greatest lengths 776, 7176 and 57\n\
+         page of 40 lines of 72 characters, 2920 bytes\n\
          last row: refused 19 at 255, sheet 2\n\
          most rows: 256\n",
     ),
@@ -81,8 +87,7 @@ pub fn run(report: &mut Report) {
 fn shows(example: &Example) -> Outcome {
     has_files(example)?;
     equal("the text", &example.text, &&program::print(&example.input())?[..])?;
-    let case = Case::new(&example.claim, &example.proof);
-    answers::check(&case, &mut Rng::new(0)).map(|_| ())
+    checked(&Case::new(&example.claim, &example.proof)).map(|_| ())
 }
 
 /// The files of an example with limits are what the builder makes, the library's check with these
@@ -91,9 +96,14 @@ fn shows_limited(limited: &LimitedExample) -> Outcome {
     let (example, case) = (&limited.example, limited.case());
     has_files(example)?;
     equal("the limits' file", &case.limits, &file_of(example, "limits")?)?;
-    let verdict = answers::check(&case, &mut Rng::new(0))?;
-    equal("the text", &example.text, &&oracle::printed(&verdict)[..])?;
+    equal("the text", &example.text, &&oracle::printed(&checked(&case)?)[..])?;
     answers::compare(EntryPoint::Program, &case, &mut Rng::new(0)).map(|_| ())
+}
+
+/// The verdict of the library's check, which is the same with a page.
+fn checked(case: &Case) -> Result<Verdict, String> {
+    answers::check_page(case, &mut Rng::new(0))?;
+    answers::check(case, &mut Rng::new(0))
 }
 
 /// The sheet and the text among the files are the example's.
@@ -102,12 +112,12 @@ fn has_files(example: &Example) -> Outcome {
     equal("the text's file", &example.text.as_bytes(), &&file_of(example, "txt")?[..])
 }
 
-fn file_of(example: &Example, extension: &str) -> Result<Vec<u8>, String> {
+pub fn file_of(example: &Example, extension: &str) -> Result<Vec<u8>, String> {
     files::read(&format!("examples/{}.{extension}", example.name))
 }
 
 /// There are as many files of the kind as examples.
-fn are_all(extension: &str, examples: usize) -> Outcome {
+pub fn are_all(extension: &str, examples: usize) -> Outcome {
     let files = fs::read_dir(files::path("examples")).map_err(|error| error.to_string())?;
     let paths = files.filter_map(|file| file.ok()).map(|file| file.path());
     let alike = paths.filter(|path| path.extension().is_some_and(|end| end == extension));

@@ -2,7 +2,7 @@
 
 use crate::answers;
 use crate::report::{Outcome, Report};
-use refusals::EntryPoint::{self, Check, Evaluation, Program, Search};
+use refusals::EntryPoint::{self, Check, Evaluation, PageCheck, Program, Search};
 use sheets::random::{Kind, Rng};
 use std::collections::BTreeMap;
 
@@ -63,6 +63,7 @@ impl Counts {
             met.collect::<Vec<_>>().join(", ")
         };
         println!("the library's checks by number, 0 for accepted: {}", line(Check));
+        println!("the same with a page: {}", line(PageCheck));
         println!("the library's evaluations by number, 0 for a value: {}", line(Evaluation));
         println!("the library's searches by number, 0 for a floor: {}", line(Search));
         if entry_points.contains(&Program) {

@@ -15,6 +15,19 @@ extern "C" {
         output_len: usize,
     ) -> u64;
 
+    fn burmelox_check_page(
+        claim: *const u8,
+        claim_len: usize,
+        proof: *const u8,
+        proof_len: usize,
+        limits: *const u8,
+        limits_len: usize,
+        output: *mut u8,
+        output_len: usize,
+        page: *mut u8,
+        page_len: usize,
+    ) -> u64;
+
     fn burmelox_evaluate(
         claim: *const u8,
         claim_len: usize,
@@ -54,6 +67,32 @@ pub fn check(claim: &[u8], proof: &[u8], limits: &[u8], output: &mut [u8]) -> u6
             limits.len(),
             output.as_mut_ptr(),
             output.len(),
+        )
+    }
+}
+
+/// Checks as `check` does, and writes the page of the verdict. A page of any other length than
+/// 2,920 bytes is refused, and then nothing is written.
+pub fn check_page(
+    claim: &[u8],
+    proof: &[u8],
+    limits: &[u8],
+    output: &mut [u8],
+    page: &mut [u8],
+) -> u64 {
+    // SAFETY: each pointer comes with the length of its slice.
+    unsafe {
+        burmelox_check_page(
+            claim.as_ptr(),
+            claim.len(),
+            proof.as_ptr(),
+            proof.len(),
+            limits.as_ptr(),
+            limits.len(),
+            output.as_mut_ptr(),
+            output.len(),
+            page.as_mut_ptr(),
+            page.len(),
         )
     }
 }

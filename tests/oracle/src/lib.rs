@@ -3,7 +3,8 @@
 //! Sheets are parsed into structures, targets and slots are kept in maps by point, and every
 //! number that is computed is an [`Integer`]. One module a section: `claim`, `proof`, `check`
 //! (targets, sharing, judging), `evaluate`, `text` (what the program prints). Of document 02,
-//! note 1 is `search`, note 4 `limits`, note 5 `fractions`, and the mask of note 3 is in `claim`.
+//! note 1 is `search`, note 4 `limits`, note 5 `fractions`, note 6 `page`, and the mask of note 3
+//! is in `claim`.
 
 mod check;
 mod claim;
@@ -11,6 +12,7 @@ mod evaluate;
 mod fractions;
 mod integer;
 mod limits;
+mod page;
 mod proof;
 mod search;
 mod text;
@@ -20,6 +22,7 @@ pub use check::{check, check_unlimited};
 pub use evaluate::evaluate;
 pub use fractions::{sides, Sides};
 pub use integer::Integer;
+pub use page::{check_page, Paged};
 pub use search::{search, Found};
 pub use text::{printed, text, verdict};
 pub use verdict::{Accepted, Refusal, Verdict};

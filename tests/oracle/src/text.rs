@@ -2,7 +2,7 @@
 
 use crate::check::check_unlimited;
 use crate::claim;
-use crate::verdict::Verdict;
+use crate::verdict::{shifted_rows, Accepted, Verdict};
 use std::fmt::Write;
 
 /// The program reads no more than this many bytes.
@@ -22,17 +22,21 @@ pub fn verdict(input: &[u8]) -> Verdict {
 
 /// The lines that the program prints for a verdict.
 pub fn printed(verdict: &Verdict) -> String {
-    let accepted = match verdict {
-        Err(refusal) => return format!("{refusal}\n"),
-        Ok(accepted) => accepted,
-    };
-    let rows = accepted.weights.len();
-    let (scale, floor) = (accepted.scale, accepted.floor);
-    let mut text = format!("accepted rows {rows} scale {scale} floor {floor}\n");
-    for (index, [p, q, r]) in accepted.weights.iter().enumerate() {
+    let mut text = first_line(verdict) + "\n";
+    for (index, [p, q, r]) in shifted_rows(verdict).iter().enumerate() {
         writeln!(text, "row {index} p {p} q {q} r {r}").expect("a string takes any text");
     }
     text
+}
+
+/// The first of these lines, without its line feed.
+pub fn first_line(verdict: &Verdict) -> String {
+    match verdict {
+        Ok(Accepted { floor, scale, weights, .. }) => {
+            format!("accepted rows {} scale {scale} floor {floor}", weights.len())
+        }
+        Err(refusal) => refusal.to_string(),
+    }
 }
 
 /// The claim and the proof in the input. The whole input is the claim where 1 or 2 refuses it or

@@ -35,6 +35,11 @@ impl fmt::Display for Refusal {
     }
 }
 
+/// The shifted weights of each row where the proof is accepted, none where it is refused.
+pub fn shifted_rows(verdict: &Verdict) -> &[[i32; 3]] {
+    verdict.as_ref().map_or(&[], |accepted| &accepted.weights)
+}
+
 /// Refuses where the sheet as a whole is wrong.
 pub fn refuse_if(number: u32, wrong: bool) -> Result<(), Refusal> {
     refuse_at(number, wrong.then_some(0))

@@ -1,5 +1,5 @@
 //! The oracle against documents 01 and 02: the examples, the table of refusals, the program's
-//! input, masks, evaluations and searches. Limits have a file of their own.
+//! input, masks, evaluations and searches. Limits and pages have files of their own.
 
 mod common;
 
@@ -52,6 +52,7 @@ fn refusals_blame_a_sheet() {
         (Sheet::Offsets, vec![20]),
         (Sheet::Range, vec![22, 23]),
         (Sheet::Limits, vec![24, 25]),
+        (Sheet::Page, vec![26]),
     ];
     for (sheet, numbers) in blamed {
         for number in numbers {
@@ -62,12 +63,14 @@ fn refusals_blame_a_sheet() {
     assert_eq!(third_row.code(), (2 << 32) + (19 << 16) + 2);
 }
 
-/// Of the numbers that document 01 and notes 1 to 4 of document 02 define, up to 25.
+/// Of the numbers that document 01 and notes 1 to 6 of document 02 define, up to 26.
 #[test]
 fn entry_points_say_their_numbers_in_the_order_of_checks() {
-    let said = |entry_point| said_by(entry_point).filter(|&number| number <= 25);
+    let said = |entry_point| said_by(entry_point).filter(|&number| number <= 26);
     let to_15 = || (1..=10).chain([24, 25]).chain(11..=15);
-    assert!(said(EntryPoint::Check).eq(to_15().chain(16..=19)));
+    let to_19 = || to_15().chain(16..=19);
+    assert!(said(EntryPoint::Check).eq(to_19()));
+    assert!(said(EntryPoint::PageCheck).eq([26].into_iter().chain(to_19())));
     assert!(said(EntryPoint::Evaluation).eq((1..=7).chain([20, 21])));
     assert!(said(EntryPoint::Search).eq(to_15().chain([22, 23])));
     assert!(said(EntryPoint::Program).eq((1..=10).chain(12..=19)));

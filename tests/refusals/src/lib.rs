@@ -1,8 +1,8 @@
 //! The table of refusal numbers: the sheet each of them blames, the entry points that say it, and
 //! the order of checks. A request that adds a number adds a row here.
 
-use EntryPoint::{Check, Evaluation, Program, Search};
-use Sheet::{Claim, Limits, Offsets, Output, Proof, Range};
+use EntryPoint::{Check, Evaluation, PageCheck, Program, Search};
+use Sheet::{Claim, Limits, Offsets, Output, Page, Proof, Range};
 
 /// The sheet at fault, numbered as the library's answers have it.
 #[derive(Clone, Copy, Debug, PartialEq, Eq)]
@@ -20,17 +20,19 @@ pub enum Sheet {
     Site = 11,
 }
 
-/// Where refusals are said: the library's check, its evaluation, its search, and the program.
+/// Where refusals are said: the library's check, the same with a page, its evaluation, its search,
+/// and the program.
 #[derive(Clone, Copy, Debug, PartialEq, Eq, PartialOrd, Ord)]
 pub enum EntryPoint {
     Check,
+    PageCheck,
     Evaluation,
     Search,
     Program,
 }
 
 /// The library's entry points.
-pub const LIBRARY: [EntryPoint; 3] = [Check, Evaluation, Search];
+pub const LIBRARY: [EntryPoint; 4] = [Check, PageCheck, Evaluation, Search];
 
 /// A row of the table.
 pub struct Rule {
@@ -50,22 +52,24 @@ impl Rule {
 }
 
 /// What reads a claim.
-const CLAIM_READERS: &[EntryPoint] = &[Check, Evaluation, Search, Program];
+const CLAIM_READERS: &[EntryPoint] = &[Check, PageCheck, Evaluation, Search, Program];
 
 /// What reads a proof.
-const PROOF_READERS: &[EntryPoint] = &[Check, Search, Program];
+const PROOF_READERS: &[EntryPoint] = &[Check, PageCheck, Search, Program];
 
 /// What is handed limits and an output too: the library's checks, of one floor or of several.
-const LIBRARY_CHECKS: &[EntryPoint] = &[Check, Search];
+const LIBRARY_CHECKS: &[EntryPoint] = &[Check, PageCheck, Search];
 
 /// What judges a proof of one floor. A search says none of why a floor is refused.
-const JUDGES: &[EntryPoint] = &[Check, Program];
+const JUDGES: &[EntryPoint] = &[Check, PageCheck, Program];
 
 /// The rules in the order of their checks: the place in this list is the place in that order, and
-/// the number says nothing of it: 24 and 25 stand after 10, and 22 after 15. Later requests put 38,
-/// 26 and 27 before 1, 39 between 10 and 24, and 34 between 12 and 13. The program never says 11,
-/// since its output is as long as the proof, nor 24 and 25, since it limits no variable.
+/// the number says nothing of it: 26 stands before 1, 24 and 25 after 10, and 22 after 15. Later
+/// requests put 38 before 26, 27 between 26 and 1, 39 between 10 and 24, and 34 between 12 and 13.
+/// The program never says 11, since its output is as long as the proof, nor 24 and 25, since it
+/// limits no variable.
 pub const RULES: &[Rule] = &[
+    Rule::new(26, Page, &[PageCheck]),
     Rule::new(1, Claim, CLAIM_READERS),
     Rule::new(2, Claim, CLAIM_READERS),
     Rule::new(3, Claim, CLAIM_READERS),

@@ -1,12 +1,14 @@
 //! Builder of claims, proofs and limits in bytes, and the sheets that tests are made of.
 //!
 //! `worked`, `masked`, `posts` and `papers` hold sheets with the text the program prints for them,
-//! `limited` those with limits and what a check says of them, `table` the examples of the table of
-//! refusals, `searches` searches with what they find, `random` the generators.
+//! `limited` those with limits and what a check says of them, `pages` pages of some of them,
+//! `table` the examples of the table of refusals, `searches` searches with what they find, `random`
+//! the generators.
 
 pub mod limited;
 pub mod limits;
 pub mod masked;
+pub mod pages;
 pub mod papers;
 pub mod posts;
 pub mod random;
@@ -24,6 +26,9 @@ pub const MOST: i32 = 1 << 30;
 
 /// A claim has at most so many terms.
 pub const MOST_TERMS: usize = 64;
+
+/// The length of a page.
+pub const PAGE_LENGTH: usize = 2920;
 
 /// Bit i of the mask says that variable i is never negative.
 pub fn is_masked(mask: u8, variable: usize) -> bool {
@@ -69,15 +74,17 @@ pub struct Example {
     pub text: &'static str,
 }
 
-/// What one test hands to the check (three sheets and an output of `room` bytes), to an evaluation
-/// (the claim and the offsets) and to a search (as to the check, and floors from `lo` to `hi`). The
-/// program is given the claim and the proof alone.
+/// What one test hands to the check (three sheets and an output of `room` bytes), to the check with
+/// a page (the same, and a page buffer of `page` bytes), to an evaluation (the claim and the
+/// offsets) and to a search (as to the check, and floors from `lo` to `hi`). The program is given
+/// the claim and the proof alone.
 #[derive(Clone, Debug)]
 pub struct Case {
     pub claim: Vec<u8>,
     pub proof: Vec<u8>,
     pub limits: Vec<u8>,
     pub room: usize,
+    pub page: usize,
     pub offsets: Vec<i32>,
     pub lo: i64,
     pub hi: i64,
@@ -146,10 +153,16 @@ impl Proof {
     }
 }
 
-/// Every example that the program reads: the worked sheets, those with masks, the posts, the
-/// papers.
+/// Every example that the program reads: the worked sheets, those with masks, the one of many rows,
+/// the posts, the papers.
 pub fn examples() -> Vec<Example> {
-    let all = [worked::examples(), masked::examples(), posts::examples(), papers::examples()];
+    let all = [
+        worked::examples(),
+        masked::examples(),
+        vec![pages::forty_rows()],
+        posts::examples(),
+        papers::examples(),
+    ];
     all.into_iter().flatten().collect()
 }
 
@@ -161,13 +174,14 @@ impl Example {
 }
 
 impl Case {
-    /// A check with no variable limited and an output as long as the proof, an evaluation at zeros,
-    /// and a search among the claim's own floor alone.
+    /// A check with no variable limited, an output as long as the proof and a page of the right
+    /// length, an evaluation at zeros, and a search among the claim's own floor alone.
     pub fn new(claim: &Claim, proof: &Proof) -> Case {
         let (floor, offsets) = (claim.floor.into(), vec![0; claim.n.into()]);
         let limits = Limits::none(claim.n).bytes();
         let (claim, proof) = (claim.bytes(), proof.bytes());
-        Case { room: proof.len(), claim, proof, limits, offsets, lo: floor, hi: floor }
+        let (room, page) = (proof.len(), PAGE_LENGTH);
+        Case { claim, proof, limits, room, page, offsets, lo: floor, hi: floor }
     }
 
     /// The case with limits.

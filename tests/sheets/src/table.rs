@@ -1,7 +1,7 @@
 //! The examples in document 01's table of refusals, and those of the numbers that requests added.
 
 use crate::worked::{power_claim, square_claim, square_proof};
-use crate::{Case, Claim, Limit, Limits, Proof, MOST};
+use crate::{Case, Claim, Limit, Limits, Proof, MOST, PAGE_LENGTH};
 use refusals::{rule, EntryPoint};
 
 /// An example of the table: what is refused, and the number and index it is refused by.
@@ -84,6 +84,7 @@ pub fn entries() -> Vec<Entry> {
         (23, 0, Case { lo: -4, hi: -1, ..lone(0, MOST, 1) }),
         (24, 0, Case { limits: vec![], room: 21, ..square() }),
         (25, 0, Case { room: 21, ..square().limited(&third_power) }),
+        (26, 0, Case { claim: vec![], page: PAGE_LENGTH - 1, ..square() }),
     ];
     cases.into_iter().map(|(number, index, case)| Entry { number, index, case }).collect()
 }

@@ -71,36 +71,42 @@ const MOTZKIN_TEXT: &str = "accepted rows 3 scale 1 floor 0\n\
     row 1 p 2 q 2 r -4\n\
     row 2 p 1 q 1 r -2\n";
 
+/// D: Square with the floor 1.
+pub fn d() -> Example {
+    square("D", 1, -2, "refused 19 at 0\n")
+}
+
+/// G: Motzkin's polynomial.
+pub fn g() -> Example {
+    motzkin("G", -2, MOTZKIN_TEXT)
+}
+
+fn square(name: &'static str, floor: i32, middle: i32, text: &'static str) -> Example {
+    Example { name, claim: square_claim(floor, middle), proof: square_proof(), text }
+}
+
+fn motzkin(name: &'static str, first_cross: i32, text: &'static str) -> Example {
+    Example { name, claim: motzkin_claim(), proof: motzkin_proof(first_cross), text }
+}
+
 /// The worked sheets. J is about an evaluation; its proof, one lone row, lets the program accept
 /// it as well.
 pub fn examples() -> Vec<Example> {
-    let square = |name, floor, middle, text| Example {
-        name,
-        claim: square_claim(floor, middle),
-        proof: square_proof(),
-        text,
-    };
     let empty = |name, floor, text| Example {
         name,
         claim: Claim::new::<1>(floor, &[]),
         proof: Proof::new::<1>(1, &[]),
         text,
     };
-    let motzkin = |name, first_cross, text| Example {
-        name,
-        claim: motzkin_claim(),
-        proof: motzkin_proof(first_cross),
-        text,
-    };
     vec![
         square("A", 0, -2, SQUARE_TEXT),
         square("B", 0, 2, SQUARE_TEXT),
         square("C", -1, -2, "accepted rows 1 scale 1 floor -1\nrow 0 p 2 q 1 r -2\n"),
-        square("D", 1, -2, "refused 19 at 0\n"),
+        d(),
         empty("E", 0, "accepted rows 0 scale 1 floor 0\n"),
         empty("F", 1, "refused 16 at 0\n"),
         empty("F-minus", -1, "refused 16 at 0\n"),
-        motzkin("G", -2, MOTZKIN_TEXT),
+        g(),
         motzkin("H", -3, MOTZKIN_TEXT),
         Example {
             name: "H-exchanged",

@@ -1,7 +1,7 @@
-//! Writes the project's `examples/`: each sheet, beside it the text the program prints for it, and
-//! of those with limits the limits sheet and the text of a check with them.
+//! Writes the project's `examples/`: each sheet, beside it the text the program prints for it, of
+//! those with limits the limits sheet and the text of a check with them, and of some the page.
 
-use sheets::{limited, Example};
+use sheets::{limited, pages, Example};
 use std::path::{Path, PathBuf};
 use std::{fs, io};
 
@@ -12,6 +12,9 @@ fn main() -> io::Result<()> {
     for limited in limited::examples() {
         write(&limited.example)?;
         fs::write(path(limited.example.name, "limits"), limited.limits.bytes())?;
+    }
+    for paged in pages::examples() {
+        fs::write(path(paged.example.name, "page"), paged.page)?;
     }
     Ok(())
 }

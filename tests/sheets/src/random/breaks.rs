@@ -1,8 +1,8 @@
 //! Faults put into well-formed sheets, one for each number that the bytes of a single sheet, the
-//! output's length, the ends of a range or the count of offsets can break.
+//! length of output or page, the ends of a range or the count of offsets can break.
 
 use super::{limits, ranges, Rng};
-use crate::Case;
+use crate::{Case, PAGE_LENGTH};
 use std::ops::{Range, RangeInclusive};
 
 /// Breaks a rule in sheets that have at least two terms and a row. What later checks look at need
@@ -30,6 +30,7 @@ const BREAKS: &[(u32, Break)] = &[
     (25, |rng, case| spoil_limits(rng, &mut case.limits)),
     (20, |rng, case| spoil_count(rng, &mut case.offsets)),
     (22, |rng, case| (case.lo, case.hi) = ranges::wrong(rng)),
+    (26, |rng, case| case.page = wrong_page_length(rng)),
 ];
 
 /// The fault of a number, where it has one of this sort.
@@ -232,4 +233,11 @@ fn spoil_count(rng: &mut Rng, offsets: &mut Vec<i32>) {
     } else {
         offsets.push(0);
     }
+}
+
+/// A length that is not a page's: none, one byte less or more, the lines without their line feeds,
+/// or any.
+pub fn wrong_page_length(rng: &mut Rng) -> usize {
+    let (shorter, longer) = (rng.below(PAGE_LENGTH), PAGE_LENGTH + 1 + rng.below(PAGE_LENGTH));
+    rng.pick(&[0, PAGE_LENGTH - 1, PAGE_LENGTH + 1, PAGE_LENGTH - 40, shorter, longer])
 }

@@ -7,8 +7,8 @@ use super::ranges::{around, down_to, outside, wrong, Floors};
 use super::rows::JUDGED;
 use super::shape::mask;
 use super::{Plan, Rng, Shape};
-use crate::{Case, Claim, Limit, Limits, Point, Proof, MOST_TERMS};
-use refusals::EntryPoint::{self, Check, Evaluation, Program, Search};
+use crate::{Case, Claim, Limit, Limits, Point, Proof, MOST_TERMS, PAGE_LENGTH};
+use refusals::EntryPoint::{self, Check, Evaluation, PageCheck, Program, Search};
 use std::fmt;
 
 /// A kind of random cases.
@@ -44,7 +44,7 @@ impl Kind {
     pub fn expected(self, entry_point: EntryPoint) -> Option<u32> {
         match (self, entry_point) {
             (_, Program) => None,
-            (Kind::Accepted | Kind::Extreme | Kind::Found, Check) => Some(0),
+            (Kind::Accepted | Kind::Extreme | Kind::Found, Check | PageCheck) => Some(0),
             (Kind::Found, Search) => Some(0),
             (Kind::Largest, Evaluation) => Some(0),
             (Kind::Refused(number), _) => {
@@ -234,7 +234,7 @@ fn with_terms_and_rows(rng: &mut Rng, number: u32) -> Case {
 }
 
 /// A case of another kind, with one to three damages, an output of any length, and sometimes other
-/// limits or a wrong range.
+/// limits, a wrong range or a page of wrong length.
 fn damaged(rng: &mut Rng) -> Case {
     let kind = rng.pick(&[Kind::Accepted, Kind::Accepted, Kind::Extreme, Kind::Largest]);
     let mut case = kind.case(rng);
@@ -255,6 +255,9 @@ fn damaged(rng: &mut Rng) -> Case {
     }
     if rng.once_in(8) {
         (case.lo, case.hi) = wrong(rng);
+    }
+    if rng.once_in(8) {
+        case.page = breaks::wrong_page_length(rng);
     }
     case.room = if rng.once_in(8) { rng.below(9000) } else { case.proof.len() };
     case
@@ -297,5 +300,6 @@ fn noise(rng: &mut Rng) -> Case {
     }
     let offsets = offsets(rng, n);
     let (lo, hi) = around(rng, &(0..=0), k).into_inner();
-    Case { room: proof.len(), claim, proof, limits, offsets, lo, hi }
+    let (room, page) = (proof.len(), PAGE_LENGTH);
+    Case { claim, proof, limits, room, page, offsets, lo, hi }
 }
