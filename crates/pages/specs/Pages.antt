@@ -28,7 +28,7 @@ pageLength = pageLines * suc pageWidth
 abbrev pub pageRows : ℕ
 pageRows = 38
 
--- such lines, and nothing else
+-- so many bytes, with a line feed after every 72
 pub record Lined (page : List ℕ) : Type 0 where
   pub long : length page ≡ pageLength
   pub fed : (i : ℕ) → i < pageLines → getD page (i * suc pageWidth + pageWidth) 0 ≡ 10

@@ -117,7 +117,7 @@ fn lay_out(claim: &[u8], proof: &[u8], verdict: Verdict, lines: &mut [u8; PAGE_L
 {
     verdict_line(claim, proof, verdict, lines, 0);
     let later = put_byte(b'\n', lines, PAGE_WIDTH);
-    table(proof, shown(claim, proof, verdict), lines, later);
+    table(proof, shown(proof, verdict), lines, later);
 }
 
 // The page of a verdict on a claim, with its exact proof where it is accepted.

@@ -28,10 +28,13 @@ shapeWith s k = record { n = variables s; k = k }
 unfoldable pub shownOf : List ℕ → Answer → Shape
 shownOf s answer = cond (blameless answer) (shapeWith s (answer .value)) (record { n = 0; k = 0 })
 
--- an acceptance's sheets have a floor, a scale and k rows
+-- an acceptance's proof has a scale and k rows, and its claim a floor
+pub record CarriesRows (s : List ℕ) (answer : Answer) : Type 0 where
+  pub rows : Passes answer → ProofRoom s (shapeWith s (answer .value))
+
 pub record Carries (c s : List ℕ) (answer : Answer) : Type 0 where
   pub claim : Passes answer → 8 ≤ length c
-  pub proof : Passes answer → ProofRoom s (shapeWith s (answer .value))
+  pub proof : CarriesRows s answer
 
 -- a proof has the rows that are shown, if there are any
 pub record Shows (s : List ℕ) (shape : Shape) : Type 0 where

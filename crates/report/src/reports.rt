@@ -19,7 +19,7 @@ ghost use lib.ListN.{length};
 ghost use Rattle.answers.specs.Answers.{says};
 ghost use Rattle.sheets.specs.Layout.{ProofRoom};
 ghost use Rattle.text.specs.Text.{Room, Written};
-ghost use Rattle.report.specs.Reports.{shownOf, Carries, Shows, verdictLine, rowText, rowsText, hasRows, reportable, reportText};
+ghost use Rattle.report.specs.Reports.{shownOf, CarriesRows, Carries, Shows, verdictLine, rowText, rowsText, hasRows, reportable, reportText};
 
 // The longest report: 53 bytes for the first line, and 50 for each row.
 pub const LONGEST: usize = 53 + 50 * MOST_ROWS;
@@ -45,8 +45,8 @@ pub fn verdict_line(
 }
 
 // The rows that have a line each: those of an acceptance, and none of a refusal.
-pub fn shown(claim: &[u8], proof: &[u8], verdict: Verdict) -> Shape
-    requires { ⌜ Carries (now claim) (now proof) (says verdict) ⌝ }
+pub fn shown(proof: &[u8], verdict: Verdict) -> Shape
+    requires { ⌜ CarriesRows (now proof) (says verdict) ⌝ }
     ensures { λ r. ⌜ (r ≡ shownOf (now (proof .entry)) (says verdict)) × (Shows (now (proof .entry)) r) ⌝ }
 {
     match verdict {
@@ -121,7 +121,7 @@ pub fn report_text(claim: &[u8], proof: &[u8], verdict: Verdict, out: &mut [u8; 
     if reportable(claim, proof, verdict) {
         let first = verdict_line(claim, proof, verdict, out, 0);
         let rows = put_byte(b'\n', out, first);
-        return rows_text(proof, shown(claim, proof, verdict), out, rows);
+        return rows_text(proof, shown(proof, verdict), out, rows);
     }
     0
 }

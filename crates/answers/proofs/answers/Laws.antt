@@ -60,6 +60,10 @@ pub if-on : (b : Bool) (number : ℕ) (later : Answer) → b ≡ false → refus
 unfolding refuseIf
 if-on b number later h = rw h
 
+pub if-stops : (b : Bool) (number : ℕ) (later : Answer) → b ≡ true → refuseIf b number later ≡ refused number 0
+unfolding refuseIf
+if-stops b number later h = rw h
+
 pub at-on : (f : Found) (number : ℕ) (later : Answer) → f ≡ Nothing → refuseAt f number later ≡ later
 unfolding refuseAt
 at-on f number later h = rw h

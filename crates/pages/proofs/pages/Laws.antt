@@ -1,5 +1,5 @@
 -- Laws of pages: how long their parts are, and what they show.
-use mathlib.Core.Path.{_≡_, refl, _∙_, ap}
+use mathlib.Core.Path.{_≡_, refl, sym, _∙_, ap}
 use mathlib.Core.Bool.{Bool, true, false, cond}
 use mathlib.Core.List.{List, [], _++_, append-assoc}
 use Prim.Native.Nat.{ℕ, zero, suc, _+_, _*_, _-_, _<_, _≤_}
@@ -30,9 +30,9 @@ line-length text h = simp (length-append, length-replicate) (omega arith)
 line-feed : (text : List ℕ) → length text ≤ pageWidth → getD (pageLine text) pageWidth 0 ≡ 10
 unfolding pageLine
 line-feed text h =
-    rw (← (append-assoc text (spaces (pageWidth - length text)) (ascii "\n")))
-    (getD-at (text ++ spaces (pageWidth - length text)) 10 [] 0 pageWidth
-    (simp (length-append, length-replicate) (omega arith)))
+    let before = spaces (pageWidth - length text) in
+    ap (λ (l : List ℕ). getD l pageWidth 0) (sym (append-assoc text before _))
+    ∙ getD-at (text ++ before) 10 [] 0 pageWidth (simp (length-append, length-replicate) (omega arith))
 
 -- a weight has at most 11 characters, an index on a page 2
 pub weight-narrow : (z : ℤ) → SFits w32 z → length (integer z) ≤ 12

@@ -6,8 +6,8 @@ use native.Mathlib.Omega.{arith}
 use lib.ListN.{length}
 use borrow.Author.Tests.{eq-eqb, ne-eqb}
 use Rattle.integers.proofs.words.Laws.{Bytes}
-use Rattle.answers.specs.Answers.{refused, refuseIf, Short}
-use Rattle.answers.proofs.answers.Laws.{short-if}
+use Rattle.answers.specs.Answers.{refused, Short}
+use Rattle.answers.proofs.answers.Laws.{if-on, if-stops, short-if}
 use Rattle.judging.specs.Check.{checkAnswer, outputOf}
 use Rattle.judging.proofs.Promises.{check-short}
 use Rattle.pages.specs.Pages.{pageLength}
@@ -17,8 +17,8 @@ use Rattle.paging.specs.Promises.{RightPage}
 module _ (c s l out page : List ℕ) where
   module _ (e : RightPage page) where
     pub right-answer : pageAnswer c s l (length out) (length page) ≡ checkAnswer c s l (length out)
-    unfolding pageAnswer refuseIf
-    right-answer = rw (eq-eqb (length page) pageLength e)
+    unfolding pageAnswer
+    right-answer = if-on _ 26 _ (rw (eq-eqb (length page) pageLength e))
 
     pub right-output : pageOutput c s l out (length page) ≡ outputOf c s l out
     unfolding pageOutput
@@ -30,8 +30,8 @@ module _ (c s l out page : List ℕ) where
 
   module _ (n : RightPage page → ⊥) where
     pub wrong-answer : pageAnswer c s l (length out) (length page) ≡ refused 26 0
-    unfolding pageAnswer refuseIf
-    wrong-answer = rw (ne-eqb (length page) pageLength n)
+    unfolding pageAnswer
+    wrong-answer = if-stops _ 26 _ (rw (ne-eqb (length page) pageLength n))
 
     pub wrong-output : pageOutput c s l out (length page) ≡ out
     unfolding pageOutput

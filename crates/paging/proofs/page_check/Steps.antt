@@ -60,9 +60,11 @@ module _ (c s l out page : List ℕ) where
     pub output-carries : Carries c o (says v)
     output-carries = record {
       claim = λ h. claim-left c s l out (rw e at h);
-      proof = λ h.
-          let p = rw e at h in
-          rw (eo, accepted-numbers (says v) (rowCount s) (rows-said p) .1) (room-left c s l out p);
+      proof = record {
+        rows = λ h.
+            let p = rw e at h in
+            rw (eo, accepted-numbers (says v) (rowCount s) (rows-said p) .1) (room-left c s l out p);
+      };
     }
 
     -- the page of the output's rows is that of the shifted rows

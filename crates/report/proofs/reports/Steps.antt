@@ -28,7 +28,7 @@ use Rattle.text.specs.Text.{textsTo, Room, Written}
 use Rattle.text.specs.Lines.{acceptedLine, rowLine, refusedLine}
 use Rattle.text.proofs.text.Laws.{room-first, room-then, written-then, texts-start, texts-room, texts-short}
 use Rattle.text.proofs.lines.Laws.{accepted-short, line-short, refusal-short}
-use Rattle.report.specs.Reports.{ended, shapeWith, shownOf, Carries, Shows, verdictLine, rowText, rowsText, reportLines, hasRows, reportable, reportText}
+use Rattle.report.specs.Reports.{ended, shapeWith, shownOf, CarriesRows, Carries, Shows, verdictLine, rowText, rowsText, reportLines, hasRows, reportable, reportText}
 use Rattle.report.proofs.reports.Laws.{refused-line, accepted-line, none-shown, all-shown}
 
 -- ---- the first line, of v
@@ -54,15 +54,15 @@ module _ (c s l : List ℕ) (at : ℕ) (v : Verdict) where
       refused-ends = omega (arith, w .ends, refused-short)
 
   -- an acceptance: a prime marks a number as the machine reads it back
-  module _ (k : ℕ) (h : v ≡ Accepted k) (carries : Carries c s (says v)) where
+  pub claim-carried : (k : ℕ) → v ≡ Accepted k → Carries c s (says v) → 8 ≤ length c
+  claim-carried k h carries = carries .claim (passed v _ refl k h)
+
+  module _ (k : ℕ) (h : v ≡ Accepted k) (carries : CarriesRows s (says v)) where
     is-accepted : says v ≡ says (Accepted k)
     is-accepted = rw h
 
     room-carried : ProofRoom s (shapeWith s k)
-    room-carried = rw (is-accepted, accepted-value k) at (carries .proof (passed v _ refl k h))
-
-    pub claim-carried : 8 ≤ length c
-    claim-carried = carries .claim (passed v _ refl k h)
+    room-carried = rw (is-accepted, accepted-value k) at (carries .rows (passed v _ refl k h))
 
     pub proof-carried : 8 ≤ length s
     proof-carried = omega (arith, room-carried .long)
@@ -205,7 +205,10 @@ room-had s k h =
 
 carried : (c s : List ℕ) (a : Answer) → reportable c s a ≡ true → Carries c s a
 unfolding reportable
-carried c s a h = record { claim = λ e. leb-true _ _ (both e .0); proof = λ e. room-had s (a .value) (both e .1) }
+carried c s a h = record {
+  claim = λ e. leb-true _ _ (both e .0);
+  proof = record { rows = λ e. room-had s (a .value) (both e .1) };
+}
   where
     both : Passes a → (leb 8 (length c) ≡ true) × (hasRows s (a .value) ≡ true)
     both e = and-eq-true-iff (leb 8 (length c)) (hasRows s (a .value)) .0 (rw e at h)
@@ -223,6 +226,9 @@ module _ (c s l : List ℕ) (v : Verdict) (b : Bool) (e : b ≡ reportable c s (
   module _ (t : b ≡ true) where
     pub report-carried : Carries c s (says v)
     report-carried = carried c s (says v) (sym e ∙ t)
+
+    pub rows-carried : CarriesRows s (says v)
+    rows-carried = report-carried .proof
 
     -- first is where the first line ends, m and o are the buffer after it and after its line feed
     module _ (m o : List ℕ) (first mid : ℕ) (w : Written l 0 (verdictLine c s (says v)) m first)

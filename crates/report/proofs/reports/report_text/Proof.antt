@@ -1,5 +1,5 @@
 use borrow.Author.Needs.{needs}
-use Rattle.report.proofs.reports.Steps.{unreported, report-carried, rows-room, report-written}
+use Rattle.report.proofs.reports.Steps.{unreported, report-carried, rows-carried, rows-room, report-written}
 use Rattle.report.proofs.reports.report_text.Statement.{statement}
 use Rattle.report.proofs.reports.report_text.Tie as tie
 
@@ -7,7 +7,7 @@ verdict-line-requires : tie.Need-verdict-line-requires
 verdict-line-requires c κs = (search report-carried, search needs)
 
 shown-requires : tie.Need-shown-requires
-shown-requires c κs = search report-carried
+shown-requires c κs = search rows-carried
 
 rows-text-requires : tie.Need-rows-text-requires
 rows-text-requires c κs = (search needs, search rows-room)
