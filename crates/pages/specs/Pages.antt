@@ -66,6 +66,6 @@ tableLine x k i = pageLine (tableText x k i)
 unfoldable pub pageOf : List ℕ → (ℕ → Triple) → ℕ → List ℕ
 pageOf first x k = pageLine first ++ textsTo (tableLine x k) (suc pageRows)
 
--- "line 1 the verdict as printed by the program"; "a refused verdict leaves lines 2 to 40 blank", since it shows no rows
+-- "line 1 the verdict as printed by the program"; "a refused verdict leaves lines 2 to 40 blank": it shows no rows
 unfoldable pub verdictPage : List ℕ → List ℕ → Answer → List ℕ
 verdictPage c s answer = pageOf (verdictLine c s answer) (tripleOf s (shownOf s answer)) (shownOf s answer .k)

@@ -30,7 +30,8 @@ pub record PagePromises (c s l out page : List ℕ) (Accepted : Type 0) (k : ℕ
   -- "40 lines of 72 characters, each ended by a line feed"
   pub lined : RightPage page → Lined p
   -- an acceptance shows k, S, b and the shifted weights
-  pub shows : Accepted → p ≡ pageOf (acceptedLine (rowCount s) (scaleOf s) (floorOf c)) (shiftedTriple c s l) (rowCount s)
+  pub shows : Accepted
+      → p ≡ pageOf (acceptedLine (rowCount s) (scaleOf s) (floorOf c)) (shiftedTriple c s l) (rowCount s)
   -- "a refused verdict leaves lines 2 to 40 blank"
   pub blank : (Accepted → ⊥) → RightPage page
       → drop (suc pageWidth) p ≡ textsTo (λ i. pageLine []) (suc pageRows)

@@ -60,10 +60,11 @@ unfolding
     checkAnswer outputOf bare noRows motzkin motzkinProof motzkinExchanged motzkinBytes motzkinProofBytes oneTerm
     masked maskedSquare maskedProduct productProof maskedCube cubeProof spare accepts refuses motzkinExact marked
     tabled withMask worked withFloor F.rangeWrong F.rangeAnswer F.floorCount F.floorAfter F.accepts F.refusedBefore
-    F.toldAfter F.searchOf F.outputBy F.searchOutput S.finds S.refuses S.heavy S.loneZero S.cases S.ranges S.worked digits natural integer textsTo counted numbered
-    column scaleText acceptedLine refusedLine shownOf verdictLine pageLine laterColumns weightColumns rowColumns
-    rowShown moreShown tableText tableLine pageOf pageAnswer pageOutput shiftedTriple checkedPage pageAfter
-    Pages.paper Pages.shows Pages.refusesPage Pages.cases Pages.worked Pages.heavy Pages.lastLines
+    F.toldAfter F.searchOf F.outputBy F.searchOutput S.finds S.refuses S.heavy S.loneZero S.cases S.ranges S.worked
+    digits natural integer textsTo counted numbered column scaleText acceptedLine refusedLine shownOf verdictLine
+    pageLine laterColumns weightColumns rowColumns rowShown moreShown tableText tableLine pageOf pageAnswer
+    pageOutput shiftedTriple checkedPage pageAfter Pages.paper Pages.shows Pages.refusesPage Pages.cases
+    Pages.worked Pages.heavy Pages.lastLines
 computed = (refl, (refl, refl), (refl, refl, refl, refl), refl, (refl, refl, refl, refl))
 
 pub all-worked : Worked

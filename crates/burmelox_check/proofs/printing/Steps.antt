@@ -113,8 +113,9 @@ module _ (c s : List ℕ) where
         ← (plain-targets c s ls (none-limited (variables c))),
         accepted-rows c s ls (length out) p,
       )
-      (accepted-lines c (outputOf c s ls out) (rowCount s) (claim-left c s ls out p) (room-left c s ls out p) (scaleOf s)
-      (λ i. tripleFor (weightsFor (targetsOf c s ls) s i)) (scale-left c s ls out p) (weights-left c s ls out p))
+      (accepted-lines c (outputOf c s ls out) (rowCount s) (claim-left c s ls out p) (room-left c s ls out p)
+      (scaleOf s) (λ i. tripleFor (weightsFor (targetsOf c s ls) s i)) (scale-left c s ls out p)
+      (weights-left c s ls out p))
 
   refused-text : blameless (plainAnswer c s (length s)) ≡ false
       → sheetsText c s (zeros (length s))

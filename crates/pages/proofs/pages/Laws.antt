@@ -73,7 +73,8 @@ module _ (x : ℕ → Triple) (k : ℕ) (narrow : (i : ℕ) → Narrow (x i)) wh
       more true = omega arith
       more false = omega arith
 
-      go : Dec (i < pageRows) → length (cond (ltb i pageRows) (rowShown x k i) (cond (ltb pageRows k) (ascii "more") [])) ≤ 40
+      go : Dec (i < pageRows)
+          → length (cond (ltb i pageRows) (rowShown x k i) (cond (ltb pageRows k) (ascii "more") [])) ≤ 40
       go (yes h) = rw (lt-ltb i pageRows h) (shown-short i h)
       go (no h) = rw (le-ltb i pageRows (omega arith)) (more (ltb pageRows k))
 

@@ -205,10 +205,12 @@ module _ (c s : List ℕ) (a : Answer) (l m : List ℕ) (mid : ℕ) (w : Written
 -- ---- put_page
 
 pub spaces-blank : (l : List ℕ) → l ≡ spaces pageLength → Blank l 0 pageLength
-spaces-blank l e = record {
-  inside = rw (e, length-replicate {A = ℕ} pageLength 32) (omega arith);
-  blank = λ i _ h. rw e (getD-replicate pageLength i 32 0 (omega (arith, ap length e, length-replicate {A = ℕ} pageLength 32)));
-}
+spaces-blank l e =
+    let n : length l ≡ pageLength = ap length e ∙ length-replicate {A = ℕ} pageLength 32 in
+    record {
+      inside = omega (arith, n);
+      blank = λ i _ h. rw e (getD-replicate pageLength i 32 0 (omega (arith, n)));
+    }
 
 module _ (m l p : List ℕ) (lined : Lined m) (el : length l ≡ pageLength)
     (e : p ≡ take (length m) m ++ drop (length m) l) where

@@ -33,7 +33,8 @@ blank-then {l} {m} {at} {mid} a n more h w e = record {
 
 -- ---- spaces put over spaces change nothing
 
-spaces-over : (n : ℕ) (l : List ℕ) (at : ℕ) → ((i : ℕ) → at ≤ i → i < at + n → getD l i 0 ≡ 32) → sets l at (spaces n) ≡ l
+spaces-over : (n : ℕ) (l : List ℕ) (at : ℕ) → ((i : ℕ) → at ≤ i → i < at + n → getD l i 0 ≡ 32)
+    → sets l at (spaces n) ≡ l
 spaces-over zero l at h = refl
 spaces-over (suc n) l at h =
     let same : set l at 32 ≡ l = ap (set l at) (sym (h at (omega arith) (omega arith))) ∙ set-getD l at 0 in

@@ -35,7 +35,8 @@ written-then {l} {m} {o} {at} {mid} {end} a b p q = record {
 pub written-all : {l m : List ℕ} {end : ℕ} (t : List ℕ) → Written l 0 t m end → end ≡ length l → m ≡ t
 written-all {l} {m} {end} t w e =
     let n : length l ≡ length t = omega (arith, w .ends) in
-    w .bytes ∙ sets-eq t l 0 (omega (arith, n)) ∙ rw (drop-of-length-le l {i = 0 + length t} (omega (arith, n))) (append-nil t)
+    w .bytes ∙ sets-eq t l 0 (omega (arith, n))
+    ∙ rw (drop-of-length-le l {i = 0 + length t} (omega (arith, n))) (append-nil t)
 
 -- room for both is room for the first, and then for the second
 pub room-first : {l : List ℕ} {at : ℕ} (a b : List ℕ) → Room l at (a ++ b) → Room l at a

@@ -45,8 +45,8 @@ exact-rows c s t given w =
     (λ i l. keeps-kind τ s i) refl
     ∙ sym (rows-are τ s)
 
--- ---- the exact proof read, whatever comes after it: the proof's length, variables and scale, and the shifted weights of
--- every row
+-- ---- the exact proof read, whatever comes after it: the proof's length, variables and scale, and the shifted weights
+-- of every row
 
 module _ (τ : Exponents → ℤ) (s : List ℕ) where
   pub exact-length : length (exactProof τ s) ≡ length s

@@ -8,7 +8,8 @@ use Rattle.report.proofs.reports.rows_text.Statement.{statement}
 use Rattle.report.proofs.reports.rows_text.Tie as tie
 
 abbrev Inv-loop : tie.InvT-loop
-Inv-loop proof shape out₀ at end₀ i₀ out end i = (i ≤ shape .k) × (Written out₀ at (textsTo (rowText proof shape) i) out end)
+Inv-loop proof shape out₀ at end₀ i₀ out end i =
+    (i ≤ shape .k) × (Written out₀ at (textsTo (rowText proof shape) i) out end)
 
 abbrev μ-loop : tie.MeasureT-loop
 μ-loop proof shape out₀ at end₀ i₀ out end i = shape .k - i

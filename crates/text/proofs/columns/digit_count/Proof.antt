@@ -8,7 +8,8 @@ use Rattle.text.proofs.columns.digit_count.Statement.{statement}
 use Rattle.text.proofs.columns.digit_count.Tie as tie
 
 abbrev Inv-loop : tie.InvT-loop
-Inv-loop n left₀ count₀ left count = (count + length (natural left) ≡ suc (length (natural n))) × (length (natural n) ≤ 20)
+Inv-loop n left₀ count₀ left count =
+    (count + length (natural left) ≡ suc (length (natural n))) × (length (natural n) ≤ 20)
 
 abbrev μ-loop : tie.MeasureT-loop
 μ-loop n left₀ count₀ left count = left
