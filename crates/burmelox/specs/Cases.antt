@@ -20,8 +20,9 @@ cases =
     ∷ record { answer = refused 11 0; code = 12885622784 }
     ∷ record { answer = refused 20 0; code = 17181179904 }
     ∷ record { answer = refused 22 0; code = 21476278272 }
-    -- a limit of the last of eight variables
+    -- a limit of the last of eight variables, a page of another length
     ∷ record { answer = refused 25 7; code = 25771442183 }
+    ∷ record { answer = refused 26 0; code = 30066475008 }
     ∷ []
 
 -- the definition gives every number
