@@ -34,14 +34,14 @@ line-feed text h =
     ap (λ (l : List ℕ). getD l pageWidth 0) (sym (append-assoc text before _))
     ∙ getD-at (text ++ before) 10 [] 0 pageWidth (simp (length-append, length-replicate) (omega arith))
 
--- a weight has at most 11 characters, an index on a page 2
+-- a weight has at most 11 characters and an index on a page 2, so both fit their columns
 pub weight-narrow : (z : ℤ) → SFits w32 z → length (integer z) ≤ 12
 weight-narrow z f = omega (ints, integer-short 9 z (omega (ints, sizes z)))
 
 pub index-narrow : (i : ℕ) → i < pageRows → length (integer (pos i)) ≤ 4
 index-narrow i h = omega (arith, integer-short 1 (pos i) (omega arith))
 
-pub weights-length : (x : Triple) → Narrow x → length (weightColumns x) ≡ 36
+weights-length : (x : Triple) → Narrow x → length (weightColumns x) ≡ 36
 unfolding weightColumns laterColumns
 weights-length x f =
     simp length-append (omega (

@@ -30,7 +30,7 @@ blank-part : {l : List ℕ} {at : ℕ} (n m : ℕ) → Blank l at n → m ≤ n 
 blank-part n m b h = record { inside = omega (arith, b .inside); blank = b .blank }
 
 -- nothing is put
-pub nothing : (l : List ℕ) (at n : ℕ) → Blank l at n → Written l at [] l at
+nothing : (l : List ℕ) (at n : ℕ) → Blank l at n → Written l at [] l at
 nothing l at n b = record { bytes = refl; ends = omega arith; kept = refl; inside = omega (arith, b .inside) }
 
 -- ---- columns: a prime marks a number as the machine reads it back
@@ -130,7 +130,7 @@ module _ (x : ℕ → Triple) (k i : ℕ) (l : List ℕ) (at : ℕ) where
 
 module _ {l m : List ℕ} {at mid : ℕ} (t : List ℕ) (w : Written l at t m mid) (b : Blank l at (suc pageWidth))
     (short : length t ≤ pageWidth) where
-  pub line-written : {o : List ℕ} {end : ℕ} → Written m (at + pageWidth) (10 ∷ []) o end
+  line-written : {o : List ℕ} {end : ℕ} → Written m (at + pageWidth) (10 ∷ []) o end
       → Written l at (pageLine t) o end
   unfolding pageLine
   line-written {o} {end} u =

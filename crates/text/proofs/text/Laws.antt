@@ -83,6 +83,13 @@ texts-length text n zero h = rw (texts-none text) (omega arith)
 texts-length text n (suc k) h =
     rw (texts-more text k, length-append (textsTo text k) (text k)) (omega (arith, texts-length text n k h, h k))
 
+pub texts-short : (text : ℕ → List ℕ) (n k : ℕ) → ((i : ℕ) → i < k → length (text i) ≤ n)
+    → length (textsTo text k) ≤ k * n
+texts-short text n zero h = rw (texts-none text) (omega arith)
+texts-short text n (suc k) h =
+    rw (texts-more text k, length-append (textsTo text k) (text k))
+    (omega (arith, texts-short text n k (λ i l. h i (omega arith)), h k (omega arith)))
+
 -- byte m of text i
 pub texts-byte : (text : ℕ → List ℕ) (n k i m : ℕ) → ((i : ℕ) → length (text i) ≡ n) → i < k → m < n
     → getD (textsTo text k) (i * n + m) 0 ≡ getD (text i) m 0
@@ -100,13 +107,6 @@ texts-byte text n (suc k) i m h l b = rw (texts-more text k) (go (decLt i k) (te
     go (no q) before =
         let e : i ≡ k = omega arith in
         rw (e, ← long) (getD-append-add (textsTo text k) (text k) m 0)
-
-pub texts-short : (text : ℕ → List ℕ) (n k : ℕ) → ((i : ℕ) → i < k → length (text i) ≤ n)
-    → length (textsTo text k) ≤ k * n
-texts-short text n zero h = rw (texts-none text) (omega arith)
-texts-short text n (suc k) h =
-    rw (texts-more text k, length-append (textsTo text k) (text k))
-    (omega (arith, texts-short text n k (λ i l. h i (omega arith)), h k (omega arith)))
 
 -- ---- the digits of a number
 
