@@ -9,9 +9,14 @@
  * and minus L. It admits the numbers at which each limited variable does; n and 7 * n zero bytes
  * limit no variable and admit all.
  *
- * Sheets, outputs, pages and offsets may be of any length and content: what is wrong is refused,
- * and a refusal writes nothing but the page of a check that has one. The functions keep no state
- * and allocate nothing, so any thread may call them at any time with buffers of its own.
+ * A profile says how large the sheets of a site may be. What is accepted under a profile is
+ * accepted under every one in range that is at least as large in all three numbers, and the same is
+ * written.
+ *
+ * Sheets, outputs, pages and offsets may be of any length and content, and the numbers of a profile
+ * any: what is wrong is refused, and a refusal writes nothing but the page of a check that has one.
+ * The functions keep no state and allocate nothing, so any thread may call them at any time with
+ * buffers of its own.
  *
  * A pointer whose length is 0 is not read through and may be null. Every other pointer leads to as
  * many elements as its length says, `value`, `floor` and `tried` to one each; what is written
@@ -28,9 +33,9 @@ extern "C" {
 #endif
 
 #define BURMELOX_VERSION_MAJOR 0
-#define BURMELOX_VERSION_MINOR 5
+#define BURMELOX_VERSION_MINOR 6
 #define BURMELOX_VERSION_PATCH 0
-#define BURMELOX_VERSION "0.5.0"
+#define BURMELOX_VERSION "0.6.0"
 
 /*
  * An answer is one number. It is under 65,536 where nothing is refused: the number of rows of an
@@ -49,7 +54,8 @@ enum burmelox_sheet {
     BURMELOX_OFFSETS = 4,
     BURMELOX_RANGE = 5,
     BURMELOX_LIMITS = 6,
-    BURMELOX_PAGE = 7
+    BURMELOX_PAGE = 7,
+    BURMELOX_PROFILE = 8
 };
 
 /*
@@ -62,20 +68,20 @@ enum burmelox_refusal {
     BURMELOX_CLAIM_LENGTH_WRONG = 3,
     BURMELOX_FLOOR_BEYOND = 4,
     BURMELOX_COEFFICIENT_WRONG = 5,     /* zero or beyond 2^30; term */
-    BURMELOX_CLAIM_EXPONENT = 6,        /* over 120; term */
+    BURMELOX_CLAIM_EXPONENT = 6,        /* over the profile's; term */
     BURMELOX_POINT_NOT_RISING = 7,      /* the later term */
     BURMELOX_PROOF_TOO_SHORT = 8,       /* under 8 bytes */
-    BURMELOX_PROOF_HEADER = 9,          /* n, byte 1, k or the scale */
+    BURMELOX_PROOF_HEADER = 9,          /* n, byte 1, the scale, or k, by the profile */
     BURMELOX_PROOF_LENGTH_WRONG = 10,
     BURMELOX_OUTPUT_TOO_SHORT = 11,     /* shorter than the proof */
-    BURMELOX_ROW_EXPONENT = 12,         /* over 120; row */
+    BURMELOX_ROW_EXPONENT = 12,         /* over the profile's; row */
     BURMELOX_NO_MIDPOINT = 13,          /* no whole one; row */
     BURMELOX_LONE_ROW_WEIGHTS = 14,     /* q or r of a lone row is not zero; row */
-    BURMELOX_WEIGHT_BEYOND = 15,        /* a proposed one; row */
+    BURMELOX_WEIGHT_BEYOND = 15,        /* a proposed one, by the profile; row */
     BURMELOX_NO_SLOT = 16,              /* for a target that is not zero; term, t for an absent
                                            constant, t + 1 + i for a point that the limit of
                                            variable i adds */
-    BURMELOX_SHIFTED_BEYOND = 17,       /* row */
+    BURMELOX_SHIFTED_BEYOND = 17,       /* a shifted weight, by the profile; row */
     BURMELOX_SHIFTED_NEGATIVE = 18,     /* p or q; row */
     BURMELOX_CROSS_TOO_LARGE = 19,      /* r * r over 4 * p * q; row */
     BURMELOX_OFFSETS_COUNT = 20,        /* not n */
@@ -84,11 +90,13 @@ enum burmelox_refusal {
     BURMELOX_NO_FLOOR = 23,             /* from lo to hi none is accepted */
     BURMELOX_LIMITS_LENGTH_WRONG = 24,  /* or n not the claim's */
     BURMELOX_LIMIT_WRONG = 25,          /* power, L or m; variable */
-    BURMELOX_PAGE_LENGTH_WRONG = 26     /* not 2,920 bytes */
+    BURMELOX_PAGE_LENGTH_WRONG = 26,    /* not 2,920 bytes */
+    BURMELOX_PROFILE_WRONG = 27         /* exponent, weight or rows out of range */
 };
 
 /*
- * Greatest values; floors, coefficients and weights are within plus and minus the greatest weight,
+ * Greatest values; floors and coefficients are within plus and minus the greatest weight, under
+ * every profile, and the greatest exponent and weight and most rows are those of the full profile;
  * the greatest span is that of hi - lo in a search, and the greatest limit and multiplier are those
  * of L and m in a limits sheet.
  */
@@ -122,15 +130,31 @@ enum burmelox_refusal {
 #define BURMELOX_MOST_LIMITS BURMELOX_LIMITS_LENGTH(BURMELOX_MOST_VARIABLES)
 
 /*
- * Checks whether the proof shows the claim's floor within the limits. Where it does, the answer is
- * the number of rows, the output's first proof_len bytes are the exact proof and later ones keep
- * their values; the polynomial is then at least its floor at all integers, and at all fractions of
- * integers, that the mask and the limits admit. Any other answer is a refusal. The output may not be
- * the proof's own buffer.
+ * A profile: the greatest exponent of the claim's points and of the rows' (0 to 120), the greatest
+ * weight, which the rows' are within plus and minus of before and after the shift (1 to 2^30), and
+ * the most rows (0 to 256). One out of range is refused before anything but the length of a page.
+ */
+struct burmelox_profile {
+    uint32_t exponent;
+    uint32_t weight;
+    uint32_t rows;
+};
+
+/* The largest profile, the program's, as an initializer. */
+#define BURMELOX_FULL_PROFILE \
+    {BURMELOX_GREATEST_EXPONENT, BURMELOX_GREATEST_WEIGHT, BURMELOX_MOST_ROWS}
+
+/*
+ * Checks whether the proof shows the claim's floor within the limits, under the profile. Where it
+ * does, the answer is the number of rows, the output's first proof_len bytes are the exact proof
+ * and later ones keep their values; the polynomial is then at least its floor at all integers, and
+ * at all fractions of integers, that the mask and the limits admit. Any other answer is a refusal.
+ * The output may not be the proof's own buffer.
  */
 uint64_t burmelox_check(const uint8_t *claim, size_t claim_len,
                         const uint8_t *proof, size_t proof_len,
                         const uint8_t *limits, size_t limits_len,
+                        struct burmelox_profile profile,
                         uint8_t *output, size_t output_len);
 
 /*
@@ -145,34 +169,39 @@ uint64_t burmelox_check(const uint8_t *claim, size_t claim_len,
 uint64_t burmelox_check_page(const uint8_t *claim, size_t claim_len,
                              const uint8_t *proof, size_t proof_len,
                              const uint8_t *limits, size_t limits_len,
+                             struct burmelox_profile profile,
                              uint8_t *output, size_t output_len,
                              uint8_t *page, size_t page_len);
 
 /*
  * Evaluates the claim's polynomial at the offsets, one for each variable, whether mask and limits
- * admit them or not. Answers 0 and stores the exact value, which is at least the floor if the claim
- * is accepted with some limits and any proof, and the mask and these limits admit the offsets; any
- * other answer is a refusal, and the value stays as it was.
+ * admit them or not; of the profile it reads the exponent. Answers 0 and stores the exact value,
+ * which is at least the floor if the claim is accepted with some limits, any proof and any profile,
+ * and the mask and these limits admit the offsets; any other answer is a refusal, and the value
+ * stays as it was.
  */
 uint64_t burmelox_evaluate(const uint8_t *claim, size_t claim_len,
+                           struct burmelox_profile profile,
                            const int32_t *offsets, size_t offsets_len,
                            int64_t *value);
 
 /*
- * Searches the floors from hi down to lo for the highest that the proof shows within the limits;
- * lo is at most hi, both are within plus and minus the greatest weight, and at most the greatest
- * span apart. The claim's own floor is not used, though 4 has to let it pass. Where a floor is
- * found, the answer is the number of rows, the floor is stored, and as `tried` the number of floors
- * tried, hi - floor + 1; the output's first proof_len bytes are the exact proof of this floor and
- * later ones keep their values. The polynomial is then at least that floor at all integers and
- * fractions that the mask and the limits admit, and a check of any higher floor up to hi is refused
- * with these limits. The claim is not changed: write the floor into its bytes 4 to 7 before it is
- * checked with that proof and these limits. Any other answer is a refusal; the output, the floor and
+ * Searches the floors from hi down to lo for the highest that the proof shows within the limits,
+ * under the profile; lo is at most hi, both are within plus and minus BURMELOX_GREATEST_WEIGHT
+ * under every profile, and at most the greatest span apart. The claim's own floor is not used,
+ * though 4 has to let it pass. Where a floor is found, the answer is the number of rows, the floor
+ * is stored, and as `tried` the number of floors tried, hi - floor + 1; the output's first
+ * proof_len bytes are the exact proof of this floor and later ones keep their values. The
+ * polynomial is then at least that floor at all integers and fractions that the mask and the limits
+ * admit, and a check of any higher floor up to hi is refused with these limits, under this profile.
+ * The claim is not changed: write the floor into its bytes 4 to 7 before it is checked with that
+ * proof, these limits and this profile. Any other answer is a refusal; the output, the floor and
  * `tried` then stay as they were.
  */
 uint64_t burmelox_search(const uint8_t *claim, size_t claim_len,
                          const uint8_t *proof, size_t proof_len,
                          const uint8_t *limits, size_t limits_len,
+                         struct burmelox_profile profile,
                          int64_t lo, int64_t hi,
                          uint8_t *output, size_t output_len,
                          int64_t *floor, uint32_t *tried);

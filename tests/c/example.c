@@ -24,6 +24,8 @@ static const uint8_t limits[BURMELOX_LIMITS_LENGTH(1)] = {
     0, 0, 0, 0,                                         /* its multiplier is then 0 too */
 };
 
+static const struct burmelox_profile profile = BURMELOX_FULL_PROFILE;
+
 /* Prints a refusal, and answers the program's status. */
 static int refused(uint64_t answer) {
     printf("refused %u at %u, sheet %u\n", BURMELOX_NUMBER(answer), BURMELOX_INDEX(answer),
@@ -39,20 +41,20 @@ int main(void) {
     uint32_t tried = 0;
 
     uint64_t answer = burmelox_check(claim, sizeof claim, proof, sizeof proof, limits, sizeof limits,
-                                     output, sizeof output);
+                                     profile, output, sizeof output);
     if (!BURMELOX_ACCEPTED(answer)) {
         return refused(answer);
     }
     printf("accepted rows %" PRIu64 "\n", answer);
 
-    answer = burmelox_evaluate(claim, sizeof claim, offsets, 1, &value);
+    answer = burmelox_evaluate(claim, sizeof claim, profile, offsets, 1, &value);
     if (!BURMELOX_ACCEPTED(answer)) {
         return refused(answer);
     }
     printf("value %" PRId64 "\n", value);
 
-    answer = burmelox_search(claim, sizeof claim, proof, sizeof proof, limits, sizeof limits, -3, 3,
-                             output, sizeof output, &floor, &tried);
+    answer = burmelox_search(claim, sizeof claim, proof, sizeof proof, limits, sizeof limits, profile,
+                             -3, 3, output, sizeof output, &floor, &tried);
     if (!BURMELOX_ACCEPTED(answer)) {
         return refused(answer);
     }

@@ -3,6 +3,7 @@ use mathlib.Core.Path.{refl}
 use Rattle.integers.specs.Words.{u32At, i32At, withBits, withI32}
 use Rattle.integers.specs.Division.{floorDiv, floorMod, share}
 use Rattle.bounds.specs.Bounds.{beyond}
+use Rattle.bounds.specs.Profiles.{inRange}
 use Rattle.answers.specs.Answers.{accepted, refused, refuseIf, refuseAt, blameless, andThen}
 use Rattle.answers.specs.Searches.{kept, first}
 use Rattle.points.specs.Lists.{table}
@@ -48,5 +49,5 @@ unfolding
     maskedSquare count errorAt shiftedWeight plainTarget slotsTo rankOf shiftedWeights shiftRow slotsBefore
     shiftedRow headAnswer roomAnswer bodyAnswer plainPoint unheldAt plainUnheld negative
     indefinite judgePair judgeLone judgementOf numberOf judgedAs firstsTo judgedAnswer weightsFor exactProof
-    rowsJudged plainWeighed plainTargets plainAnswer plainOutput motzkin motzkinProof
+    rowsJudged plainWeighed plainTargets plainAnswer plainOutput motzkin motzkinProof inRange
 worked = refl

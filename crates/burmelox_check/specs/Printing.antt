@@ -6,6 +6,7 @@ use Prim.Native.Nat.{ℕ, _<_}
 use lib.IntN.{ℤ}
 use lib.ListN.{length, take, replicate}
 use lib.Signed.{_≤ℤ_}
+use Rattle.bounds.specs.Profiles.{fullProfile}
 use Rattle.answers.specs.Answers.{blameless, Passes}
 use Rattle.monomials.specs.Powers.{Allowed}
 use Rattle.squares.specs.Sums.{valueAt}
@@ -23,9 +24,9 @@ use Rattle.report.specs.Reports.{ended, linesOf, reportText}
 use Rattle.burmelox_check.specs.Input.{claimPart, proofPart}
 
 -- the report of the check of a claim and its proof alone, with what it leaves in the output: the program "limits no
--- variable, and its verdicts stay"
+-- variable, and its verdicts stay", and uses the full profile
 unfoldable pub sheetsText : List ℕ → List ℕ → List ℕ → List ℕ
-sheetsText c s out = reportText c (plainOutput c s out) (plainAnswer c s (length out))
+sheetsText c s out = reportText c (plainOutput c s fullProfile out) (plainAnswer c s fullProfile (length out))
 
 abbrev pub zeros : ℕ → List ℕ
 zeros k = replicate k 0
@@ -48,14 +49,15 @@ Accepts text = take 8 text ≡ ascii "accepted"
 
 -- an acceptance has these lines, and "A refusal prints `refused 19 at 0`: number, index"
 pub record IsPrinted (c s text : List ℕ) : Type 0 where
-  pub acceptance : Passes (plainAnswer c s (length s)) → text ≡ acceptedLines c s
-  pub refusal : blameless (plainAnswer c s (length s)) ≡ false
-      → text ≡ ended (refusedLine (plainAnswer c s (length s) .number) (plainAnswer c s (length s) .value))
+  pub acceptance : Passes (plainAnswer c s fullProfile (length s)) → text ≡ acceptedLines c s
+  pub refusal : blameless (plainAnswer c s fullProfile (length s)) ≡ false
+      → text ≡ ended (refusedLine (plainAnswer c s fullProfile (length s) .number) (plainAnswer c s fullProfile (length s) .value))
   -- what the check promises, by the text's first word, with k and the shifted rows as its lines have them
-  pub promises : CheckPromises c s (noLimits (variables c)) (zeros (length s)) (LongEnough s (zeros (length s)))
-      (Accepts text) (rowCount s) (plainOutput c s (zeros (length s)))
-  -- where it speaks of well-formed sheets and of targets, these are those of before there were limits
-  pub plain : CheckUnlimited c s (noLimits (variables c))
+  pub promises : CheckPromises c s (noLimits (variables c)) fullProfile (zeros (length s))
+      (LongEnough s (zeros (length s))) (Accepts text) (rowCount s) (plainOutput c s fullProfile (zeros (length s)))
+  -- where it speaks of well-formed sheets and of targets, these are those of before there were limits, and by `full`
+  -- those of before there were profiles
+  pub plain : CheckUnlimited c s (noLimits (variables c)) fullProfile
   -- Demand 3: "the polynomial is at least the floor", by note 3 "at whole points with masked variables at least 0"
   pub floors : Accepts text → (x : List ℤ) → Allowed (maskOf c) x → floorOf c ≤ℤ valueAt x (termsOf c)
   -- by note 5 also "at every point h / d with whole h and one whole d ≥ 1"

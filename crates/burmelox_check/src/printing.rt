@@ -1,11 +1,13 @@
 // What the program prints for its input.
 use crate::input::claim_end;
+use bounds::profiles::FULL;
 use judging::check::check;
 use report::reports::LONGEST;
 use report::reports::report_text;
 ghost use mathlib.Core.Path.{_≡_};
 ghost use Prim.Native.Nat.{_≤_};
 ghost use lib.ListN.{length};
+ghost use Rattle.bounds.specs.Profiles.{fullProfile};
 ghost use Rattle.sheets.specs.Layout.{variables};
 ghost use Rattle.judging.specs.Unlimited.{plainOutput};
 ghost use Rattle.text.specs.Text.{Written};
@@ -28,18 +30,18 @@ fn said_variables(claim: &[u8]) -> u8
     claim[0]
 }
 
-// The text for a claim and its proof, none of whose variables is limited, with an output for the exact proof; the
-// answer is where the text ends.
+// The text for a claim and its proof, none of whose variables is limited, under the full profile, with an output for the
+// exact proof; the answer is where the text ends.
 fn print_sheets(claim: &[u8], proof: &[u8], output: &mut [u8], text: &mut [u8; LONGEST]) -> usize
     ensures written { λ r. ⌜ now (output .exit)
-        ≡ plainOutput (now (claim .entry)) (now (proof .entry)) (now (output .entry)) ⌝ }
+        ≡ plainOutput (now (claim .entry)) (now (proof .entry)) fullProfile (now (output .entry)) ⌝ }
     ensures text { λ r. ⌜ Written (now (text .entry)) 0
         (sheetsText (now (claim .entry)) (now (proof .entry)) (now (output .entry))) (now (text .exit)) r ⌝ }
 {
     let n = said_variables(claim);
     let mut limits = [0u8; LONGEST_LIMITS];
     limits[0] = n;
-    let verdict = check(claim, proof, &limits[..1 + 7 * n as usize], output);
+    let verdict = check(claim, proof, &limits[..1 + 7 * n as usize], FULL, output);
     report_text(claim, output, verdict, text)
 }
 

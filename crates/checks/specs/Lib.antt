@@ -1,2 +1,3 @@
 pub mod ProofChecks
 pub mod Input
+pub mod Full

@@ -6,7 +6,8 @@ use Prim.Native.Nat.{ℕ, _<_, _≤_}
 use lib.Dec.{eqb, ltb, leb}
 use lib.IntN.{pos, natAbs}
 use lib.ListN.{length, getD}
-use Rattle.bounds.specs.Bounds.{greatestExponent, greatestWeight, mostRows, greatestScale, beyond}
+use Rattle.bounds.specs.Bounds.{greatestExponent, greatestWeight, greatestScale, beyond}
+use Rattle.bounds.specs.declared.profiles.Profile.{Profile}
 use Rattle.answers.specs.Answers.{Answer, accepted, refuseIf, refuseAt}
 use Rattle.answers.specs.Searches.{first}
 use Rattle.points.specs.Points.{samePoint, hasMidpoint, exponentsWithin}
@@ -17,17 +18,18 @@ use Rattle.rows.specs.declared.proof_sheet.Triple.{Triple}
 use Rattle.checks.specs.declared.proof_checks.RowRule.{RowRule}
 use Rattle.checks.specs.declared.proof_checks.RowRule.the-variants.{Exponent, Midpoint, Unused, Weight}
 
--- "Byte 0: n, as in the claim. Byte 1: zero. Bytes 2 and 3: k, rows, 0 to 256. Bytes 4 to 7: the scale S, 1 to 2^20"
+-- "Byte 0: n, as in the claim. Byte 1: zero. Bytes 2 and 3: k, rows", 0 to the limit. "Bytes 4 to 7: the scale S, 1 to
+-- 2^20"
 unfoldable pub proofHeaderRight : ℕ → ℕ → List ℕ → Bool
 proofHeaderRight limit n s =
     eqb (variables s) n && eqb (getD s 1 0) 0 && leb (rowCount s) limit
     && leb 1 (scaleOf s) && leb (scaleOf s) greatestScale
 
--- 8 to 10, where n is the claim's
-unfoldable pub headerAnswer : ℕ → List ℕ → Answer
-headerAnswer n s =
+-- 8 to 10, where n is the claim's; the limit is that of 9
+unfoldable pub headerAnswer : ℕ → ℕ → List ℕ → Answer
+headerAnswer limit n s =
     refuseIf (ltb (length s) 8) 8
-    (refuseIf (not (proofHeaderRight mostRows n s)) 9
+    (refuseIf (not (proofHeaderRight limit n s)) 9
     (refuseIf (not (eqb (length s) (proofLength (shapeOf s)))) 10
     (accepted 0)))
 
@@ -48,13 +50,13 @@ rowBreaks Midpoint s shape i = not (hasMidpoint (vOf s shape i) (wOf s shape i))
 rowBreaks Unused s shape i = samePoint (vOf s shape i) (wOf s shape i) && qOrR (tripleOf s shape i)
 rowBreaks (Weight limit) s shape i = anyBeyond limit (tripleOf s shape i)
 
--- 12 to 15
-unfoldable pub rowsAnswer : List ℕ → Shape → Answer
-rowsAnswer s shape =
-    refuseAt (first (rowBreaks (Exponent greatestExponent) s shape) (shape .k)) 12
+-- 12 to 15, of which 12 and 15 read the profile
+unfoldable pub rowsAnswer : List ℕ → Profile → Shape → Answer
+rowsAnswer s π shape =
+    refuseAt (first (rowBreaks (Exponent (π .exponent)) s shape) (shape .k)) 12
     (refuseAt (first (rowBreaks Midpoint s shape) (shape .k)) 13
     (refuseAt (first (rowBreaks Unused s shape) (shape .k)) 14
-    (refuseAt (first (rowBreaks (Weight greatestWeight) s shape) (shape .k)) 15
+    (refuseAt (first (rowBreaks (Weight (π .weight)) s shape) (shape .k)) 15
     (accepted 0))))
 
 -- three numbers within ± a limit
@@ -63,7 +65,7 @@ pub record Within (limit : ℕ) (x : Triple) : Type 0 where
   pub q-within : natAbs (x .q) ≤ limit
   pub r-within : natAbs (x .r) ≤ limit
 
--- a proof that passes 8 to 10, beside a claim that passes 1 to 7
+-- a proof that passes 8 to 10, beside a claim that passes 1 to 7, under some profile
 pub record HeaderFacts (s : List ℕ) (shape : Shape) : Type 0 where
   pub some : 1 ≤ shape .n
   pub room : ProofRoom s shape

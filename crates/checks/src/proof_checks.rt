@@ -2,11 +2,9 @@
 use answers::answers::Sheet;
 use answers::answers::Verdict;
 use answers::searches::Found;
-use bounds::bounds::GREATEST_EXPONENT;
 use bounds::bounds::GREATEST_SCALE;
-use bounds::bounds::GREATEST_WEIGHT;
-use bounds::bounds::MOST_ROWS;
 use bounds::bounds::is_beyond;
+use bounds::profiles::Profile;
 use integers::magnitudes::magnitude;
 use points::points::exponents_within;
 use points::points::has_midpoint;
@@ -25,6 +23,7 @@ ghost use mathlib.Core.Path.{_≡_};
 ghost use mathlib.Core.Bool.{not};
 ghost use Prim.Native.Nat.{_<_, _≤_};
 ghost use lib.ListN.{length};
+ghost use Rattle.bounds.specs.Profiles.{InRange};
 ghost use Rattle.answers.specs.Answers.{says};
 ghost use Rattle.answers.specs.Searches.{first};
 ghost use Rattle.sheets.specs.Layout.{ProofRoom};
@@ -64,14 +63,14 @@ fn header_wrong(proof: &[u8], n: usize, limit: usize) -> bool
     GREATEST_SCALE < s
 }
 
-// The checks 8 to 10, where n is the claim's.
-pub fn check_header(proof: &[u8], n: usize) -> Verdict
-    ensures { λ r. ⌜ says r ≡ headerAnswer n (now (proof .entry)) ⌝ }
+// The checks 8 to 10, where n is the claim's; the limit is that of 9.
+pub fn check_header(proof: &[u8], n: usize, limit: usize) -> Verdict
+    ensures { λ r. ⌜ says r ≡ headerAnswer limit n (now (proof .entry)) ⌝ }
 {
     if proof.len() < 8 {
         return Verdict::Refused(Sheet::Proof(8, 0));
     }
-    if header_wrong(proof, n, MOST_ROWS) {
+    if header_wrong(proof, n, limit) {
         return Verdict::Refused(Sheet::Proof(9, 0));
     }
     if proof.len() != proof_length(shape_of(proof)) {
@@ -162,11 +161,11 @@ fn first_row(rule: RowRule, proof: &[u8], shape: Shape) -> Found
 }
 
 // The checks 12 to 15, each over all rows before the next.
-pub fn check_rows(proof: &[u8], shape: Shape) -> Verdict
-    requires { ⌜ ProofRoom (now proof) shape ⌝ }
-    ensures { λ r. ⌜ says r ≡ rowsAnswer (now (proof .entry)) shape ⌝ }
+pub fn check_rows(proof: &[u8], profile: Profile, shape: Shape) -> Verdict
+    requires { ⌜ (ProofRoom (now proof) shape) × (InRange profile) ⌝ }
+    ensures { λ r. ⌜ says r ≡ rowsAnswer (now (proof .entry)) profile shape ⌝ }
 {
-    if let Found::At(i) = first_row(RowRule::Exponent(GREATEST_EXPONENT), proof, shape) {
+    if let Found::At(i) = first_row(RowRule::Exponent(profile.exponent as u8), proof, shape) {
         return Verdict::Refused(Sheet::Proof(12, i));
     }
     if let Found::At(i) = first_row(RowRule::Midpoint, proof, shape) {
@@ -175,7 +174,7 @@ pub fn check_rows(proof: &[u8], shape: Shape) -> Verdict
     if let Found::At(i) = first_row(RowRule::Unused, proof, shape) {
         return Verdict::Refused(Sheet::Proof(14, i));
     }
-    if let Found::At(i) = first_row(RowRule::Weight(GREATEST_WEIGHT), proof, shape) {
+    if let Found::At(i) = first_row(RowRule::Weight(profile.weight as u64), proof, shape) {
         return Verdict::Refused(Sheet::Proof(15, i));
     }
     Verdict::Accepted(0)

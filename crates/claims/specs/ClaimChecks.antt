@@ -1,4 +1,4 @@
--- Checks of the claim: refusals 1 to 7.
+-- Checks of the claim: refusals 1 to 7, and before them 27.
 use mathlib.Core.Path.{_≡_}
 use mathlib.Core.Bool.{Bool, true, not, _&&_, _||_}
 use mathlib.Core.List.{List}
@@ -7,6 +7,8 @@ use lib.Dec.{eqb, ltb, leb}
 use lib.IntN.{natAbs}
 use lib.ListN.{length, getD}
 use Rattle.bounds.specs.Bounds.{greatestExponent, greatestWeight, beyond, mostVariables, mostTerms}
+use Rattle.bounds.specs.Profiles.{inRange}
+use Rattle.bounds.specs.declared.profiles.Profile.{Profile}
 use Rattle.answers.specs.Answers.{Answer, accepted, refuseIf, refuseAt}
 use Rattle.answers.specs.Searches.{first}
 use Rattle.points.specs.Points.{Masked, risesTo, exponentsWithin}
@@ -37,24 +39,25 @@ termBreaks (Coefficient limit) c n t i = eqb (natAbs (coefficientOf c n t i)) 0 
 termBreaks (Exponent limit) c n t i = not (exponentsWithin limit (termPoint c n i))
 termBreaks Order c n t i = ltb 0 i && not (risesTo (termPoint c n (i - 1)) (termPoint c n i))
 
--- 5 to 7
-unfoldable pub termsAnswer : List ℕ → ℕ → ℕ → Answer
-termsAnswer c n t =
+-- 5 to 7, of which 6 reads the profile
+unfoldable pub termsAnswer : List ℕ → Profile → ℕ → ℕ → Answer
+termsAnswer c π n t =
     refuseAt (first (termBreaks (Coefficient greatestWeight) c n t) t) 5
-    (refuseAt (first (termBreaks (Exponent greatestExponent) c n t) t) 6
+    (refuseAt (first (termBreaks (Exponent (π .exponent)) c n t) t) 6
     (refuseAt (first (termBreaks Order c n t) t) 7
     (accepted 0)))
 
--- 1 to 7
-unfoldable pub claimAnswer : List ℕ → Answer
-claimAnswer c =
-    refuseIf (ltb (length c) 8) 1
+-- "27 .. before 1, a profile out of range"; 1 to 7
+unfoldable pub claimAnswer : List ℕ → Profile → Answer
+claimAnswer c π =
+    refuseIf (not (inRange π)) 27
+    (refuseIf (ltb (length c) 8) 1
     (refuseIf (not (claimHeaderRight c)) 2
     (refuseIf (not (eqb (length c) (claimLength (variables c) (termCount c)))) 3
     (refuseIf (beyond greatestWeight (floorOf c)) 4
-    (termsAnswer c (variables c) (termCount c)))))
+    (termsAnswer c π (variables c) (termCount c))))))
 
--- a claim of n variables and t terms that passes 1 to 7
+-- a claim of n variables and t terms that passes 1 to 7 under some profile
 pub record ClaimFacts (c : List ℕ) (n t : ℕ) : Type 0 where
   pub some : 1 ≤ n
   pub room : ClaimRoom c n t

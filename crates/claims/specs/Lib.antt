@@ -1,1 +1,2 @@
 pub mod ClaimChecks
+pub mod Full

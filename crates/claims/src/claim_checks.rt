@@ -1,12 +1,13 @@
-// Checks of the claim: refusals 1 to 7.
+// Checks of the claim: refusals 1 to 7, and before them 27.
 use answers::answers::Sheet;
 use answers::answers::Verdict;
 use answers::searches::Found;
-use bounds::bounds::GREATEST_EXPONENT;
 use bounds::bounds::GREATEST_WEIGHT;
 use bounds::bounds::MOST_TERMS;
 use bounds::bounds::MOST_VARIABLES;
 use bounds::bounds::is_beyond;
+use bounds::profiles::Profile;
+use bounds::profiles::profile_wrong;
 use integers::magnitudes::magnitude;
 use points::points::exponents_within;
 use points::points::rises;
@@ -23,6 +24,7 @@ ghost use mathlib.Core.Logic.{_↔_};
 ghost use Prim.Native.Nat.{_<_, _≤_};
 ghost use lib.ListN.{length};
 ghost use Rattle.bounds.specs.Bounds.{mostVariables};
+ghost use Rattle.bounds.specs.Profiles.{InRange};
 ghost use Rattle.answers.specs.Answers.{says};
 ghost use Rattle.answers.specs.Searches.{first};
 ghost use Rattle.sheets.specs.Layout.{variables, ClaimRoom};
@@ -136,14 +138,14 @@ fn first_term(rule: TermRule, claim: &[u8], n: usize, t: usize) -> Found
 }
 
 // The checks 5 to 7 of the terms, each over all of them before the next.
-fn check_terms(claim: &[u8], n: usize, t: usize) -> Verdict
-    requires { ⌜ ClaimRoom (now claim) n t ⌝ }
-    ensures { λ r. ⌜ says r ≡ termsAnswer (now (claim .entry)) n t ⌝ }
+fn check_terms(claim: &[u8], profile: Profile, n: usize, t: usize) -> Verdict
+    requires { ⌜ (ClaimRoom (now claim) n t) × (InRange profile) ⌝ }
+    ensures { λ r. ⌜ says r ≡ termsAnswer (now (claim .entry)) profile n t ⌝ }
 {
     if let Found::At(i) = first_term(TermRule::Coefficient(GREATEST_WEIGHT), claim, n, t) {
         return Verdict::Refused(Sheet::Claim(5, i));
     }
-    if let Found::At(i) = first_term(TermRule::Exponent(GREATEST_EXPONENT), claim, n, t) {
+    if let Found::At(i) = first_term(TermRule::Exponent(profile.exponent as u8), claim, n, t) {
         return Verdict::Refused(Sheet::Claim(6, i));
     }
     if let Found::At(i) = first_term(TermRule::Order, claim, n, t) {
@@ -152,10 +154,13 @@ fn check_terms(claim: &[u8], n: usize, t: usize) -> Verdict
     Verdict::Accepted(0)
 }
 
-// The checks 1 to 7.
-pub fn check_claim(claim: &[u8]) -> Verdict
-    ensures { λ r. ⌜ says r ≡ claimAnswer (now (claim .entry)) ⌝ }
+// The checks 27 of the profile and 1 to 7.
+pub fn check_claim(claim: &[u8], profile: Profile) -> Verdict
+    ensures { λ r. ⌜ says r ≡ claimAnswer (now (claim .entry)) profile ⌝ }
 {
+    if profile_wrong(profile) {
+        return Verdict::Refused(Sheet::Profile(27, 0));
+    }
     if claim.len() < 8 {
         return Verdict::Refused(Sheet::Claim(1, 0));
     }
@@ -170,5 +175,5 @@ pub fn check_claim(claim: &[u8]) -> Verdict
     if is_beyond(floor(claim), GREATEST_WEIGHT) {
         return Verdict::Refused(Sheet::Claim(4, 0));
     }
-    check_terms(claim, n, t)
+    check_terms(claim, profile, n, t)
 }

@@ -1,25 +1,21 @@
--- Evaluation of a claim's polynomial at offsets: the exact value, or one of the refusals 1 to 7, 20 and 21.
-use mathlib.Core.Path.{_≡_}
+-- Evaluation of a claim's polynomial at offsets: the exact value, or one of the refusals 27, 1 to 7, 20 and 21.
 use mathlib.Core.Bool.{Bool, not, cond}
 use mathlib.Core.List.{List}
-use Prim.Native.Nat.{ℕ, _<_, _≤_}
+use Prim.Native.Nat.{ℕ}
 use lib.Dec.{eqb}
-use lib.IntN.{ℤ, natAbs, _*ℤ_}
+use lib.IntN.{ℤ, _*ℤ_}
 use lib.ListN.{length}
-use lib.Signed.{_≤ℤ_}
 use Rattle.bounds.specs.Bounds.{beyond, greatestValue}
-use Rattle.answers.specs.Answers.{Answer, accepted, says, refuseIf, refuseAt, blameless, andThen, Passes}
+use Rattle.bounds.specs.declared.profiles.Profile.{Profile}
+use Rattle.answers.specs.Answers.{Answer, accepted, says, refuseIf, refuseAt, blameless, andThen}
 use Rattle.answers.specs.Searches.{first}
 use Rattle.answers.specs.declared.answers.Verdict.the-variants as Verdicts
 use Rattle.points.specs.Lists.{table}
-use Rattle.monomials.specs.Powers.{monomialOf, Allowed}
+use Rattle.monomials.specs.Powers.{monomialOf}
 use Rattle.squares.specs.Sums.{valueAt}
-use Rattle.squares.specs.Domains.{Unlimited, Admits}
-use Rattle.sheets.specs.Layout.{variables, termCount, maskOf}
-use Rattle.sheets.specs.ClaimSheet.{floorOf, termPoint, coefficientOf, termOf, termsOf}
-use Rattle.limits.specs.LimitsSheet.{domainOf}
+use Rattle.sheets.specs.Layout.{variables, termCount}
+use Rattle.sheets.specs.ClaimSheet.{termPoint, coefficientOf, termOf, termsOf}
 use Rattle.claims.specs.ClaimChecks.{claimAnswer}
-use Rattle.judging.specs.Check.{checkAnswer}
 use Rattle.evaluation.specs.declared.evaluations.Evaluation.{Evaluation}
 use Rattle.evaluation.specs.declared.evaluations.Evaluation.the-variants.{Value, Refused}
 
@@ -59,39 +55,12 @@ summed c n t x = toldBy (tooLargeAnswer c n t x) (sumTo c n t x t)
 
 -- ---- evaluation
 
--- "An evaluation uses 1 to 7, then 20 and 21"; 20: "count of offsets not n"
-unfoldable pub evaluationAnswer : List ℕ → List ℤ → Answer
-evaluationAnswer c x =
-    andThen (claimAnswer c)
+-- "An evaluation uses 1 to 7, then 20 and 21", and 27 before 1; 20: "count of offsets not n"
+unfoldable pub evaluationAnswer : List ℕ → Profile → List ℤ → Answer
+evaluationAnswer c π x =
+    andThen (claimAnswer c π)
     (refuseIf (not (eqb (length x) (variables c))) 20
     (tooLargeAnswer c (variables c) (termCount c) x))
 
-unfoldable pub evaluationOf : List ℕ → List ℤ → Told
-evaluationOf c x = toldBy (evaluationAnswer c x) (valueAt x (termsOf c))
-
--- ---- its promises
-
--- "Offsets are n signed 32-bit numbers", for a claim that passes its checks, with "every term's exact absolute value ..
--- at most 2^56"
-pub record Evaluable (c : List ℕ) (x : List ℤ) : Type 0 where
-  pub formed : Passes (claimAnswer c)
-  pub counted : length x ≡ variables c
-  pub small : (i : ℕ) → i < termCount c → natAbs (termValue c (variables c) (termCount c) x i) ≤ greatestValue
-
--- `Gives z` says that the entry point gave the value z, as its caller sees it
-pub record EvaluationPromises (c : List ℕ) (x : List ℤ) (Gives : ℤ → Type 0) : Type 0 where
-  -- "The exact value of f is given if every term's exact absolute value is at most 2^56", and only then
-  pub given : Evaluable c x → Gives (valueAt x (termsOf c))
-  pub exact : (z : ℤ) → Gives z → Evaluable c x × (z ≡ valueAt x (termsOf c))
-  -- Demand 3: "At whatever offsets that claim is evaluated, every value reported is the polynomial's exact value there
-  -- and at least the floor", where the claim is accepted with some proof and output; by note 3 "evaluation takes any
-  -- point and promises the floor only there", where the mask allows the offsets and each limited variable is within ±L,
-  -- for every limits sheet with which the claim is accepted
-  pub floored : (s l out : List ℕ) → Passes (checkAnswer c s l (length out)) → Admits (domainOf c l) 1 x
-      → (z : ℤ) → Gives z → floorOf c ≤ℤ z
-  -- where no variable is limited "at whole points with masked variables at least 0"
-  pub unlimited : (s l out : List ℕ) → Passes (checkAnswer c s l (length out)) → Unlimited (domainOf c l .limits)
-      → Allowed (maskOf c) x → (z : ℤ) → Gives z → floorOf c ≤ℤ z
-  -- and without a mask wherever it is evaluated
-  pub everywhere : (s l out : List ℕ) → Passes (checkAnswer c s l (length out)) → Unlimited (domainOf c l .limits)
-      → maskOf c ≡ 0 → (z : ℤ) → Gives z → floorOf c ≤ℤ z
+unfoldable pub evaluationOf : List ℕ → Profile → List ℤ → Told
+evaluationOf c π x = toldBy (evaluationAnswer c π x) (valueAt x (termsOf c))

@@ -1,1 +1,3 @@
 pub mod Evaluations
+pub mod Full
+pub mod Promises

@@ -1,6 +1,7 @@
 // Evaluation of a claim's polynomial at offsets: the exact value, or a refusal.
 use answers::answers::Sheet;
 use answers::answers::Verdict;
+use bounds::profiles::Profile;
 use claims::claim_checks::check_claim;
 use monomials::powers::Bounded;
 use monomials::powers::term;
@@ -12,7 +13,8 @@ ghost use mathlib.Core.Path.{_≡_};
 ghost use Prim.Native.Nat.{_<_};
 ghost use Rattle.monomials.specs.Powers.{within};
 ghost use Rattle.sheets.specs.Layout.{ClaimRoom};
-ghost use Rattle.evaluation.specs.Evaluations.{termValue, value, tells, summed, evaluationOf, EvaluationPromises};
+ghost use Rattle.evaluation.specs.Evaluations.{termValue, value, tells, summed, evaluationOf};
+ghost use Rattle.evaluation.specs.Promises.{EvaluationPromises};
 
 // The exact value, or the sheet at fault.
 pub enum Evaluation {
@@ -49,13 +51,13 @@ fn summed(claim: &[u8], n: usize, t: usize, offsets: &[i32]) -> Evaluation
     Evaluation::Value(sum)
 }
 
-// The exact value of the polynomial, or the first refusal of 1 to 7, 20 and 21.
-pub fn evaluate(claim: &[u8], offsets: &[i32]) -> Evaluation
-    ensures answer { λ r. ⌜ tells r ≡ evaluationOf (now (claim .entry)) (now (offsets .entry)) ⌝ }
-    ensures promises { λ r. ⌜ EvaluationPromises (now (claim .entry)) (now (offsets .entry))
+// The exact value of the polynomial, or the first refusal of 27, 1 to 7, 20 and 21.
+pub fn evaluate(claim: &[u8], profile: Profile, offsets: &[i32]) -> Evaluation
+    ensures answer { λ r. ⌜ tells r ≡ evaluationOf (now (claim .entry)) profile (now (offsets .entry)) ⌝ }
+    ensures promises { λ r. ⌜ EvaluationPromises (now (claim .entry)) profile (now (offsets .entry))
         (λ z. tells r ≡ value z) ⌝ }
 {
-    if let Verdict::Refused(sheet) = check_claim(claim) {
+    if let Verdict::Refused(sheet) = check_claim(claim, profile) {
         return Evaluation::Refused(sheet);
     }
     let n = variables(claim);

@@ -5,6 +5,7 @@ use Prim.Native.Nat.{ℕ}
 use native.Mathlib.Omega.{arith}
 use lib.IntN.{ℤ}
 use lib.ListN.{length}
+use Rattle.bounds.specs.declared.profiles.Profile.{Profile}
 use Rattle.answers.specs.Answers.{blameless}
 use Rattle.answers.proofs.searches.Laws.{first-same}
 use Rattle.sheets.specs.Layout.{variables}
@@ -17,30 +18,30 @@ use Rattle.judging.proofs.Unlimited.{check-unlimited}
 use Rattle.floors.specs.Search.{Told, found, refusal, rangeAnswer, floorCount, floorAfter, accepts, refusedBefore, searchOf, outputBy, searchOutput}
 use Rattle.floors.specs.Unlimited.{plainRange, plainBefore, plainSearch, plainOutputBy, SearchUnlimited}
 
-module _ (c s l : List ℕ) (none : LimitsNone (variables c) l) where
+module _ (c s l : List ℕ) (π : Profile) (none : LimitsNone (variables c) l) where
   -- the check of each floor
-  each : (b : ℤ) → CheckUnlimited (withFloor c b) s l
-  each b = check-unlimited (withFloor c b) s l (rw (floored-before c b 0 (omega arith)) none)
+  each : (b : ℤ) → CheckUnlimited (withFloor c b) s l π
+  each b = check-unlimited (withFloor c b) s l π (rw (floored-before c b 0 (omega arith)) none)
 
-  range : (lo hi : ℤ) (room : ℕ) → rangeAnswer c s l lo hi room ≡ plainRange c s lo hi room
+  range : (lo hi : ℤ) (room : ℕ) → rangeAnswer c s l π lo hi room ≡ plainRange c s π lo hi room
   unfolding rangeAnswer plainRange
-  range lo hi room = rw (input-unlimited c s l (none .passes) .input room)
+  range lo hi room = rw (input-unlimited c s l π (none .passes) .input room)
 
-  before : (lo hi : ℤ) (room : ℕ) → refusedBefore c s l lo hi room ≡ plainBefore c s lo hi room
+  before : (lo hi : ℤ) (room : ℕ) → refusedBefore c s l π lo hi room ≡ plainBefore c s π lo hi room
   unfolding refusedBefore plainBefore accepts
   before lo hi room =
       first-same _ _ (floorCount lo hi) (λ i l. ap blameless (each (floorAfter hi i) .answer room))
 
-  answer : (lo hi : ℤ) (room : ℕ) → searchOf c s l lo hi room ≡ plainSearch c s lo hi room
+  answer : (lo hi : ℤ) (room : ℕ) → searchOf c s l π lo hi room ≡ plainSearch c s π lo hi room
   unfolding searchOf plainSearch
   answer lo hi room = rw (range lo hi room, before lo hi room)
 
-  written : (out : List ℕ) (t : Told) → outputBy c s l out t ≡ plainOutputBy c s out t
+  written : (out : List ℕ) (t : Told) → outputBy c s l π out t ≡ plainOutputBy c s π out t
   unfolding outputBy plainOutputBy
   written out (found b tried k) = each b .output out
   written out (refusal answer) = refl
 
-  pub search-unlimited : SearchUnlimited c s l
+  pub search-unlimited : SearchUnlimited c s l π
   unfolding searchOutput
   search-unlimited = record {
     answer = answer;

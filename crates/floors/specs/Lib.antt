@@ -1,4 +1,5 @@
 pub mod Trials
 pub mod Search
 pub mod Unlimited
+pub mod Full
 pub mod Promises

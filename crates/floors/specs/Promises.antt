@@ -9,6 +9,8 @@ use lib.IntN.{ℤ, pos, natAbs, _+ℤ_, _-ℤ_}
 use lib.ListN.{length}
 use lib.Signed.{_≤ℤ_, _<ℤ_}
 use Rattle.bounds.specs.Bounds.{greatestWeight, greatestSpan}
+use Rattle.bounds.specs.Profiles.{Larger}
+use Rattle.bounds.specs.declared.profiles.Profile.{Profile}
 use Rattle.answers.specs.Answers as Answers
 use Rattle.answers.specs.Answers.{blameless, Passes}
 use Rattle.squares.specs.Floor.{Floors}
@@ -17,6 +19,8 @@ use Rattle.limits.specs.LimitsSheet.{domainOf}
 use Rattle.checks.specs.Input.{WellFormed}
 use Rattle.judging.specs.Check.{checkAnswer, outputOf}
 use Rattle.judging.specs.Promises.{LongEnough, CheckPromises}
+use Rattle.floors.specs.Search.{found, searchOf, searchOutput}
+use Rattle.floors.specs.Full.{SearchFull}
 
 -- a range that 22 lets pass, in plain numbers
 pub record RightRange (lo hi : ℤ) : Type 0 where
@@ -26,24 +30,25 @@ pub record RightRange (lo hi : ℤ) : Type 0 where
   pub span : (hi -ℤ lo) ≤ℤ pos greatestSpan
 
 -- what is promised of a floor b that is found after so many were tried, with k rows; o is the output afterwards
-pub record FloorPromises (c s l : List ℕ) (lo hi : ℤ) (out : List ℕ) (b : ℤ) (tried k : ℕ) (o : List ℕ) : Type 0 where
-  -- "The claim's own b must be valid"; "1 to 15 apply once"; and so do 22, 24 and 25
-  pub formed : WellFormed c s l
+pub record FloorPromises (c s l : List ℕ) (π : Profile) (lo hi : ℤ) (out : List ℕ) (b : ℤ) (tried k : ℕ) (o : List ℕ)
+    : Type 0 where
+  -- "The claim's own b must be valid"; "1 to 15 apply once"; and so do 22, 24, 25 and 27
+  pub formed : WellFormed c s l π
   pub right : RightRange lo hi
   -- "the greatest floor whose check is accepted": a floor of the range, accepted with k
   pub within : (lo ≤ℤ b) × (b ≤ℤ hi)
-  pub accepted : checkAnswer (withFloor c b) s l (length out) ≡ Answers.accepted k
+  pub accepted : checkAnswer (withFloor c b) s l π (length out) ≡ Answers.accepted k
   -- "Every higher floor up to hi is refused by the check"
-  pub higher : (a : ℤ) → b <ℤ a → a ≤ℤ hi → blameless (checkAnswer (withFloor c a) s l (length out)) ≡ false
+  pub higher : (a : ℤ) → b <ℤ a → a ≤ℤ hi → blameless (checkAnswer (withFloor c a) s l π (length out)) ≡ false
   -- "that floor's exact proof": what its check writes
-  pub written : o ≡ outputOf (withFloor c b) s l out
+  pub written : o ≡ outputOf (withFloor c b) s l π out
   -- "the number of floors tried, which is hi minus the floor found, plus one"
   pub counts : pos tried ≡ hi -ℤ b +ℤ pos 1
   -- Demand 3: "the polynomial is at least the floor", where mask and limits admit it, at fractions of an offset too
   pub floors : Floors (domainOf c l) b (termsOf c)
   -- and all else that its check promises
-  pub checked : CheckPromises (withFloor c b) s l out (LongEnough s out)
-      (Passes (checkAnswer (withFloor c b) s l (length out))) k o
+  pub checked : CheckPromises (withFloor c b) s l π out (LongEnough s out)
+      (Passes (checkAnswer (withFloor c b) s l π (length out))) k o
 
 -- a floor is found, with the number of floors tried and the number of rows
 pub record Some (Finds : ℤ → ℕ → ℕ → Type 0) : Type 0 where
@@ -52,16 +57,31 @@ pub record Some (Finds : ℤ → ℕ → ℕ → Type 0) : Type 0 where
   pub rows : ℕ
   pub finds : Finds floor tried rows
 
+-- a search under the profile ρ finds a floor with k rows too, at least as high as b; where it is b itself the output is
+-- the same
+pub record FindsHigher (c s l : List ℕ) (ρ : Profile) (lo hi : ℤ) (out : List ℕ) (b : ℤ) (k : ℕ) (o : List ℕ) : Type 0
+  where
+    pub floor : ℤ
+    pub tried : ℕ
+    pub told : searchOf c s l ρ lo hi (length out) ≡ found floor tried k
+    pub higher : b ≤ℤ floor
+    pub written : floor ≡ b → searchOutput c s l ρ lo hi out ≡ o
+
 -- `Finds b tried k` says that the entry point found the floor b, and `FindsNone` that it answered 23, both as its
 -- caller sees them
-pub record SearchPromises (c s l : List ℕ) (lo hi : ℤ) (out : List ℕ) (Finds : ℤ → ℕ → ℕ → Type 0) (FindsNone : Type 0)
-    (o : List ℕ) : Type 0 where
-  pub found : (b : ℤ) (tried k : ℕ) → Finds b tried k → FloorPromises c s l lo hi out b tried k o
+pub record SearchPromises (c s l : List ℕ) (π : Profile) (lo hi : ℤ) (out : List ℕ) (Finds : ℤ → ℕ → ℕ → Type 0)
+    (FindsNone : Type 0) (o : List ℕ) : Type 0 where
+  pub found : (b : ℤ) (tried k : ℕ) → Finds b tried k → FloorPromises c s l π lo hi out b tried k o
   -- where some floor of a right range is accepted, one is found
-  pub finds : WellFormed c s l → LongEnough s out → RightRange lo hi
-      → (b : ℤ) → lo ≤ℤ b → b ≤ℤ hi → Passes (checkAnswer (withFloor c b) s l (length out)) → Some Finds
+  pub finds : WellFormed c s l π → LongEnough s out → RightRange lo hi
+      → (b : ℤ) → lo ≤ℤ b → b ≤ℤ hi → Passes (checkAnswer (withFloor c b) s l π (length out)) → Some Finds
   -- 23, "no floor accepted": exactly where the check refuses every floor of a right range
-  pub none : FindsNone ↔ (WellFormed c s l × LongEnough s out × RightRange lo hi
-      × ((b : ℤ) → lo ≤ℤ b → b ≤ℤ hi → blameless (checkAnswer (withFloor c b) s l (length out)) ≡ false))
+  pub none : FindsNone ↔ (WellFormed c s l π × LongEnough s out × RightRange lo hi
+      × ((b : ℤ) → lo ≤ℤ b → b ≤ℤ hi → blameless (checkAnswer (withFloor c b) s l π (length out)) ≡ false))
   -- "both write nothing", and so does every other refusal
   pub leaves : (Some Finds → ⊥) → o ≡ out
+  -- note 7: a larger profile accepts what this one accepts, so that its search finds a floor at least as high
+  pub larger : (b : ℤ) (tried k : ℕ) → Finds b tried k → (ρ : Profile) → Larger π ρ
+      → FindsHigher c s l ρ lo hi out b k o
+  -- "the full profile gives the old verdicts"
+  pub full : SearchFull c s l

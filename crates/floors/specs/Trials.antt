@@ -4,7 +4,6 @@ use mathlib.Core.Bool.{Bool, cond, not}
 use mathlib.Core.List.{List}
 use Prim.Native.Nat.{ℕ, _+_, _-_}
 use lib.Dec.{ltb}
-use Rattle.bounds.specs.Bounds.{greatestWeight}
 use Rattle.sheets.specs.Layout.{variables, termCount, rowCount}
 use Rattle.targets.specs.Targets.{targetOf}
 use Rattle.targets.specs.declared.targets.Aim.{Aim}
@@ -19,15 +18,15 @@ points c = pointCount (variables c) (termCount c)
 unfoldable pub testCount : List ℕ → List ℕ → ℕ
 testCount c s = points c + rowCount s
 
--- test i fails: point i is unheld, or after the points a row is not judged to hold
-unfoldable pub fails : List ℕ → List ℕ → Aim → ℕ → Bool
-fails c s a i =
+-- test i fails: point i is unheld, or after the points a row is not judged to hold; the limit is that of 17
+unfoldable pub fails : ℕ → List ℕ → List ℕ → Aim → ℕ → Bool
+fails limit c s a i =
     cond (ltb i (points c)) (unheld c s a i)
-    (not (judgedAs 0 greatestWeight (shiftedRow (targetOf c a) s) (i - points c)))
+    (not (judgedAs 0 limit (shiftedRow (targetOf c a) s) (i - points c)))
 
 -- the i-th of n tests from one on; after the last comes the first
 unfoldable pub rotated : ℕ → ℕ → ℕ → ℕ
 rotated n from i = cond (ltb (from + i) n) (from + i) (from + i - n)
 
-unfoldable pub failsFrom : List ℕ → List ℕ → Aim → ℕ → ℕ → Bool
-failsFrom c s a from i = fails c s a (rotated (testCount c s) from i)
+unfoldable pub failsFrom : ℕ → List ℕ → List ℕ → Aim → ℕ → ℕ → Bool
+failsFrom limit c s a from i = fails limit c s a (rotated (testCount c s) from i)

@@ -8,6 +8,7 @@ use answers::searches::Found;
 use bounds::bounds::GREATEST_SPAN;
 use bounds::bounds::GREATEST_WEIGHT;
 use bounds::bounds::is_beyond;
+use bounds::profiles::Profile;
 use checks::input::check_input;
 use integers::magnitudes::magnitude;
 use rows::proof_sheet::row_count;
@@ -48,12 +49,20 @@ fn range_wrong(lo: i64, hi: i64) -> bool
     is_beyond(hi - lo, GREATEST_SPAN)
 }
 
-// The checks 1 to 15, 24 and 25, then 22; the room is the output's length.
-fn check_range(claim: &[u8], proof: &[u8], limits: &[u8], lo: i64, hi: i64, room: usize) -> Verdict
+// The checks 27, 1 to 15, 24 and 25, then 22; the room is the output's length.
+fn check_range(
+    claim: &[u8],
+    proof: &[u8],
+    limits: &[u8],
+    profile: Profile,
+    lo: i64,
+    hi: i64,
+    room: usize,
+) -> Verdict
     ensures { λ r. ⌜ says r
-        ≡ rangeAnswer (now (claim .entry)) (now (proof .entry)) (now (limits .entry)) lo hi room ⌝ }
+        ≡ rangeAnswer (now (claim .entry)) (now (proof .entry)) (now (limits .entry)) profile lo hi room ⌝ }
 {
-    let formed = check_input(claim, proof, limits, room);
+    let formed = check_input(claim, proof, limits, profile, room);
     let Verdict::Accepted(_) = formed else {
         return formed;
     };
@@ -80,17 +89,20 @@ fn aim_after(aim: Aim, hi: i64, i: usize) -> Aim
 }
 
 // How many floors fail before the first that passes 16 to 19. Each is tried first by the test that refused the one
-// before; that test mostly refuses it too, and no answer depends on which it was.
-fn walk(claim: &[u8], proof: &[u8], aim: Aim, lo: i64, hi: i64) -> Found
-    requires { ⌜ Searchable (now claim) (now proof) aim lo hi ⌝ }
-    ensures { λ r. ⌜ r ≡ first (passesAfter (now (claim .entry)) (now (proof .entry)) aim hi) (floorCount lo hi) ⌝ }
+// before; that test mostly refuses it too, and no answer depends on which it was. The limit, here and below, is that
+// of 17.
+fn walk(claim: &[u8], proof: &[u8], aim: Aim, limit: u64, lo: i64, hi: i64) -> Found
+    requires { ⌜ Searchable limit (now claim) (now proof) aim lo hi ⌝ }
+    ensures { λ r. ⌜ r
+        ≡ first (passesAfter limit (now (claim .entry)) (now (proof .entry)) aim hi) (floorCount lo hi) ⌝ }
 {
     let tests = test_count(claim, proof);
     let floors = floor_count(lo, hi);
     let mut last = 0;
     let mut i = 0;
     while i < floors {
-        let Found::At(j) = first_failing(claim, proof, aim_after(aim, hi, i), tests, last) else {
+        let Found::At(j) = first_failing(claim, proof, aim_after(aim, hi, i), limit, tests, last)
+        else {
             return Found::At(i);
         };
         last = rotate(tests, last, j);
@@ -104,18 +116,19 @@ fn search_checked(
     claim: &[u8],
     proof: &[u8],
     own: Aim,
+    limit: u64,
     lo: i64,
     hi: i64,
     output: &mut [u8],
 ) -> Searched
-    requires { ⌜ (Searchable (now claim) (now proof) own lo hi) × (length (now proof) ≤ length (now output)) ⌝ }
+    requires { ⌜ (Searchable limit (now claim) (now proof) own lo hi) × (length (now proof) ≤ length (now output)) ⌝ }
     ensures told { λ r. ⌜ tells r ≡ toldAfter (now (proof .entry)) hi
-        (first (passesAfter (now (claim .entry)) (now (proof .entry)) own hi) (floorCount lo hi)) ⌝ }
+        (first (passesAfter limit (now (claim .entry)) (now (proof .entry)) own hi) (floorCount lo hi)) ⌝ }
     ensures written { λ r. ⌜ now (output .exit)
         ≡ outputAfter (now (claim .entry)) (now (proof .entry)) own hi (now (output .entry))
-        (first (passesAfter (now (claim .entry)) (now (proof .entry)) own hi) (floorCount lo hi)) ⌝ }
+        (first (passesAfter limit (now (claim .entry)) (now (proof .entry)) own hi) (floorCount lo hi)) ⌝ }
 {
-    let Found::At(i) = walk(claim, proof, own, lo, hi) else {
+    let Found::At(i) = walk(claim, proof, own, limit, lo, hi) else {
         return Searched::Refused(Sheet::Range(23, 0));
     };
     let aim = aim_after(own, hi, i);
@@ -129,20 +142,23 @@ pub fn search(
     claim: &[u8],
     proof: &[u8],
     limits: &[u8],
+    profile: Profile,
     lo: i64,
     hi: i64,
     output: &mut [u8],
 ) -> Searched
-    ensures answer { λ r. ⌜ tells r ≡ searchOf (now (claim .entry)) (now (proof .entry)) (now (limits .entry)) lo hi
-        (length (now (output .entry))) ⌝ }
+    ensures answer { λ r. ⌜ tells r ≡ searchOf (now (claim .entry)) (now (proof .entry)) (now (limits .entry)) profile
+        lo hi (length (now (output .entry))) ⌝ }
     ensures written { λ r. ⌜ now (output .exit) ≡ searchOutput (now (claim .entry)) (now (proof .entry))
-        (now (limits .entry)) lo hi (now (output .entry)) ⌝ }
-    ensures promises { λ r. ⌜ SearchPromises (now (claim .entry)) (now (proof .entry)) (now (limits .entry)) lo hi
-        (now (output .entry)) (λ b tried k. tells r ≡ found b tried k) (tells r ≡ refusal (refused 23 0))
+        (now (limits .entry)) profile lo hi (now (output .entry)) ⌝ }
+    ensures promises { λ r. ⌜ SearchPromises (now (claim .entry)) (now (proof .entry)) (now (limits .entry)) profile
+        lo hi (now (output .entry)) (λ b tried k. tells r ≡ found b tried k) (tells r ≡ refusal (refused 23 0))
         (now (output .exit)) ⌝ }
 {
-    if let Verdict::Refused(sheet) = check_range(claim, proof, limits, lo, hi, output.len()) {
+    let ranged = check_range(claim, proof, limits, profile, lo, hi, output.len());
+    if let Verdict::Refused(sheet) = ranged {
         return Searched::Refused(sheet);
     }
-    search_checked(claim, proof, aim_of(claim, proof, limits), lo, hi, output)
+    let own = aim_of(claim, proof, limits);
+    search_checked(claim, proof, own, profile.weight as u64, lo, hi, output)
 }

@@ -9,6 +9,7 @@ use weighing::weighed::judge_row;
 ghost use mathlib.Core.Path.{_≡_};
 ghost use Prim.Native.Nat.{_<_, _≤_};
 ghost use lib.ListN.{length};
+ghost use Rattle.bounds.specs.Bounds.{greatestWeight};
 ghost use Rattle.answers.specs.Searches.{first};
 ghost use Rattle.sharing.specs.Shifts.{CheckedSheets};
 ghost use Rattle.floors.specs.Trials.{testCount, fails, rotated, failsFrom};
@@ -21,16 +22,17 @@ pub(crate) fn test_count(claim: &[u8], proof: &[u8]) -> usize
     point_count(claim) + row_count(proof)
 }
 
-// Whether test i fails: a point that is unheld, or a row that does not hold.
-fn fails(claim: &[u8], proof: &[u8], aim: Aim, i: usize) -> bool
-    requires { ⌜ (CheckedSheets (now claim) (now proof) aim) × (i < testCount (now claim) (now proof)) ⌝ }
-    ensures { λ r. ⌜ r ≡ fails (now (claim .entry)) (now (proof .entry)) aim i ⌝ }
+// Whether test i fails: a point that is unheld, or a row that does not hold; the limit, here and below, is that of 17.
+fn fails(claim: &[u8], proof: &[u8], aim: Aim, limit: u64, i: usize) -> bool
+    requires { ⌜ (CheckedSheets (now claim) (now proof) aim) × (limit ≤ greatestWeight)
+        × (i < testCount (now claim) (now proof)) ⌝ }
+    ensures { λ r. ⌜ r ≡ fails limit (now (claim .entry)) (now (proof .entry)) aim i ⌝ }
 {
     let points = point_count(claim);
     if i < points {
         return is_unheld(claim, proof, aim, i);
     }
-    !holds(judge_row(claim, proof, aim, i - points))
+    !holds(judge_row(claim, proof, aim, limit, i - points))
 }
 
 // The i-th test from one on; after the last comes the first.
@@ -50,16 +52,17 @@ pub(crate) fn first_failing(
     claim: &[u8],
     proof: &[u8],
     aim: Aim,
+    limit: u64,
     tests: usize,
     from: usize,
 ) -> Found
-    requires { ⌜ (CheckedSheets (now claim) (now proof) aim) × (tests ≡ testCount (now claim) (now proof))
-        × (from < tests) ⌝ }
-    ensures { λ r. ⌜ r ≡ first (failsFrom (now (claim .entry)) (now (proof .entry)) aim from) tests ⌝ }
+    requires { ⌜ (CheckedSheets (now claim) (now proof) aim) × (limit ≤ greatestWeight)
+        × (tests ≡ testCount (now claim) (now proof)) × (from < tests) ⌝ }
+    ensures { λ r. ⌜ r ≡ first (failsFrom limit (now (claim .entry)) (now (proof .entry)) aim from) tests ⌝ }
 {
     let mut i = 0;
     while i < tests {
-        if fails(claim, proof, aim, rotate(tests, from, i)) {
+        if fails(claim, proof, aim, limit, rotate(tests, from, i)) {
             return Found::At(i);
         }
         i += 1;

@@ -10,6 +10,8 @@ use lib.ListN.{length, take, drop, length-append}
 use lib.Seq.{take-at, drop-at}
 use Rattle.integers.proofs.words.Laws.{Bytes}
 use Rattle.bounds.specs.Bounds.{greatestWeight}
+use Rattle.bounds.specs.Profiles.{Larger}
+use Rattle.bounds.specs.declared.profiles.Profile.{Profile}
 use Rattle.answers.specs.Answers.{accepted, blameless, Passes, Short}
 use Rattle.answers.proofs.answers.Laws.{passes-or-fails, passes-then, then-on, accepted-passes, short-then}
 use Rattle.points.specs.Points.{Exponents}
@@ -23,8 +25,8 @@ use Rattle.sheets.specs.ClaimSheet.{floorOf, termsOf}
 use Rattle.sheets.proofs.claim_sheet.Laws.{terms-sized}
 use Rattle.rows.specs.ProofSheet.{scaleOf, tripleOf, rowsOf, tripleFor}
 use Rattle.limits.specs.LimitsSheet.{domainOf}
-use Rattle.checks.specs.Input.{WellFormed}
-use Rattle.checks.proofs.input.Laws.{input-passes, input-formed, input-enough, input-short}
+use Rattle.checks.specs.Input.{inputAnswer, WellFormed}
+use Rattle.checks.proofs.input.Laws.{range-formed, weights-formed, input-passes, input-formed, input-enough, input-larger, input-short}
 use Rattle.targets.specs.Targets.{aimOf}
 use Rattle.targets.proofs.targets.Laws.{targets-are}
 use Rattle.sharing.specs.Shifts.{shiftedRows, CheckedSheets}
@@ -32,11 +34,12 @@ use Rattle.sharing.proofs.shifts.Laws.{sheets-checked, claim-eight, rows-stay-p
 use Rattle.weighing.specs.Exact.{weightsFor, exactProof, AllWithin}
 use Rattle.weighing.specs.Weighed.{weighedAnswer}
 use Rattle.weighing.proofs.weighed.Laws.{weighed-within, weighed-hold, weighed-adds, weighed-accepted, weighed-short}
-use Rattle.weighing.proofs.exact.Laws.{exact-length, exact-variables, exact-scale, exact-weights, exact-rows, same-within, same-proof}
+use Rattle.weighing.proofs.exact.Laws.{all-larger, exact-length, exact-variables, exact-scale, exact-weights, exact-rows, same-within, same-proof}
 use Rattle.judging.specs.Check.{targetsOf, checkAnswer, outputOf}
 use Rattle.judging.specs.Promises.{LongEnough, Decomposes, CheckPromises}
+use Rattle.judging.proofs.Full.{check-full}
 
-module _ (c s l : List ℕ) where
+module _ (c s l : List ℕ) (π : Profile) where
   abbrev τ : Exponents → ℤ
   τ = targetsOf c s l
 
@@ -47,34 +50,40 @@ module _ (c s l : List ℕ) where
 
   -- ---- what an acceptance says
 
-  module _ (room : ℕ) (h : Passes (checkAnswer c s l room)) where
-    pub accepted-formed : WellFormed c s l
+  module _ (room : ℕ) (h : Passes (checkAnswer c s l π room)) where
+    accepted-input : Passes (inputAnswer c s l π room)
     unfolding checkAnswer
-    accepted-formed = input-formed c s l room (passes-then _ _ h .0)
+    accepted-input = passes-then _ _ h .0
+
+    pub accepted-formed : WellFormed c s l π
+    accepted-formed = input-formed c s l π room accepted-input
 
     pub accepted-enough : length s ≤ room
-    unfolding checkAnswer
-    accepted-enough = input-enough c s l room (passes-then _ _ h .0)
+    accepted-enough = input-enough c s l π room accepted-input
 
-    weighed : Passes (weighedAnswer c s (aimOf c s l))
+    weighed : Passes (weighedAnswer (π .weight) c s (aimOf c s l))
     unfolding checkAnswer
     weighed = passes-then _ _ h .1
 
-    pub accepted-within : AllWithin greatestWeight τ s
+    pub accepted-within : AllWithin (π .weight) τ s
     unfolding targetsOf
-    accepted-within = weighed-within c s (aimOf c s l) weighed
+    accepted-within = weighed-within (π .weight) c s (aimOf c s l) weighed
+
+    pub accepted-light : AllWithin greatestWeight τ s
+    accepted-light =
+        all-larger _ greatestWeight (range-formed c s l π accepted-formed .weight-within) τ s accepted-within
 
     accepted-decomposes : Decomposes c s l (shiftedRows τ s)
     unfolding targetsOf
     accepted-decomposes = record {
-      hold = weighed-hold c s (aimOf c s l) weighed;
-      adds-up = weighed-adds c s (aimOf c s l) weighed;
+      hold = weighed-hold (π .weight) c s (aimOf c s l) weighed;
+      adds-up = weighed-adds (π .weight) c s (aimOf c s l) weighed;
     }
 
     -- demand 3, the floor
     pub floor-kept : Floors (domainOf c l) (floorOf c) (termsOf c)
     floor-kept =
-        let own = sheets-checked c s l accepted-formed in
+        let own = sheets-checked c s l π accepted-formed in
         let d = accepted-decomposes in
         floor (domainOf c l) (scaleOf s) (floorOf c) (termsOf c) (shiftedRows τ s)
         (record {
@@ -87,110 +96,130 @@ module _ (c s l : List ℕ) where
 
   -- ---- and what is accepted
 
-  accepts : (room : ℕ) → WellFormed c s l → length s ≤ room → AllWithin greatestWeight τ s
-      → Decomposes c s l (shiftedRows τ s) → checkAnswer c s l room ≡ accepted (rowCount s)
+  accepts : (room : ℕ) → WellFormed c s l π → length s ≤ room → AllWithin (π .weight) τ s
+      → Decomposes c s l (shiftedRows τ s) → checkAnswer c s l π room ≡ accepted (rowCount s)
   unfolding checkAnswer targetsOf
   accepts room f e w d =
-      then-on _ _ (input-passes c s l room f e) ∙ weighed-accepted c s (aimOf c s l) w (d .hold) (d .adds-up)
+      then-on _ _ (input-passes c s l π room f e)
+      ∙ weighed-accepted (π .weight) c s (aimOf c s l) w (d .hold) (d .adds-up)
 
   -- an acceptance carries k
-  pub accepted-rows : (room : ℕ) → Passes (checkAnswer c s l room) → checkAnswer c s l room ≡ accepted (rowCount s)
+  pub accepted-rows : (room : ℕ) → Passes (checkAnswer c s l π room) → checkAnswer c s l π room ≡ accepted (rowCount s)
   accepted-rows room h =
       accepts room (accepted-formed room h) (accepted-enough room h) (accepted-within room h)
       (accepted-decomposes room h)
 
   -- demand 2, the decision
-  pub decision : (room : ℕ) → WellFormed c s l → length s ≤ room
-      → (checkAnswer c s l room ≡ accepted (rowCount s))
-      ↔ (AllWithin greatestWeight τ s × Decomposes c s l (shiftedRows τ s))
+  pub decision : (room : ℕ) → WellFormed c s l π → length s ≤ room
+      → (checkAnswer c s l π room ≡ accepted (rowCount s))
+      ↔ (AllWithin (π .weight) τ s × Decomposes c s l (shiftedRows τ s))
   decision room f e = (
     λ q. let h = accepted-passes _ _ q in (accepted-within room h, accepted-decomposes room h),
     λ p. accepts room f e (p .0) (p .1),
   )
 
   -- demand 3, exact proofs
-  module _ (f : WellFormed c s l) (d : Decomposes c s l (rowsOf s)) where
+  module _ (f : WellFormed c s l π) (d : Decomposes c s l (rowsOf s)) where
     own : CheckedSheets c s (aimOf c s l)
-    own = sheets-checked c s l f
+    own = sheets-checked c s l π f
 
     exact : AddsUp (variables s) τ (slots (rowsOf s))
     exact α e = d .adds-up α (e ∙ own .same)
 
-    pub exact-accepted : (room : ℕ) → length s ≤ room → checkAnswer c s l room ≡ accepted (rowCount s)
-    exact-accepted room e = accepts room f e (same-within τ s (own .proof) exact) (rw (rows-stay τ s exact) d)
+    pub exact-accepted : (room : ℕ) → length s ≤ room → checkAnswer c s l π room ≡ accepted (rowCount s)
+    exact-accepted room e =
+        accepts room f e (same-within τ s (own .proof) exact (π .weight) (weights-formed c s l π f))
+        (rw (rows-stay τ s exact) d)
 
     pub exact-bytes : Bytes s → exactProof τ s ≡ s
     exact-bytes b = same-proof τ s (own .proof) exact b
 
   -- the answer is short
-  pub check-short : {limit : ℕ} (room : ℕ) → 25 < limit → Bytes c → Bytes s → Short limit (checkAnswer c s l room)
+  pub check-short : {limit : ℕ} (room : ℕ) → 27 < limit → Bytes c → Bytes s → Short limit (checkAnswer c s l π room)
   unfolding checkAnswer targetsOf
   check-short room h bc bs =
-      short-then _ _ (input-short c s l room h bc bs) (weighed-short c s (aimOf c s l) (omega arith) bc bs)
+      short-then _ _ (input-short c s l π room h bc bs)
+      (weighed-short (π .weight) c s (aimOf c s l) (omega arith) bc bs)
+
+-- note 7: a larger profile accepts as well
+pub accepted-larger : (c s l : List ℕ) (π ρ : Profile) → Larger π ρ → (room : ℕ) → Passes (checkAnswer c s l π room)
+    → checkAnswer c s l ρ room ≡ accepted (rowCount s)
+accepted-larger c s l π ρ larger room h =
+    let p = input-larger c s l π ρ larger room (accepted-input c s l π room h) in
+    accepts c s l ρ room (input-formed c s l ρ room p) (accepted-enough c s l π room h)
+    (all-larger _ _ (larger .weight-larger) _ s (accepted-within c s l π room h))
+    (accepted-decomposes c s l π room h)
+
+-- what an acceptance writes, under any profile
+pub written : (c s l : List ℕ) (π : Profile) (out : List ℕ) → Passes (checkAnswer c s l π (length out))
+    → outputOf c s l π out ≡ exactProof (targetsOf c s l) s ++ drop (length s) out
+unfolding outputOf
+written c s l π out h = rw h
 
 -- ---- the promises, for whatever is to say that the check accepts, and with how many rows
 
-module _ (c s l out : List ℕ) where
+module _ (c s l : List ℕ) (π : Profile) (out : List ℕ) where
   abbrev Passed : Type 0
-  Passed = Passes (checkAnswer c s l (length out))
+  Passed = Passes (checkAnswer c s l π (length out))
 
-  pub written : Passed → outputOf c s l out ≡ exactProof (targetsOf c s l) s ++ drop (length s) out
-  unfolding outputOf
-  written h = rw h
-
-  kept : blameless (checkAnswer c s l (length out)) ≡ false → outputOf c s l out ≡ out
+  kept : blameless (checkAnswer c s l π (length out)) ≡ false → outputOf c s l π out ≡ out
   unfolding outputOf
   kept h = rw h
 
   -- the first bytes, and the later ones
-  written-first : Passed → take (length s) (outputOf c s l out) ≡ exactProof (targetsOf c s l) s
-  written-first h = rw (written h) (take-at _ (drop (length s) out) _ (exact-length (targetsOf c s l) s))
+  written-first : Passed → take (length s) (outputOf c s l π out) ≡ exactProof (targetsOf c s l) s
+  written-first h = rw (written c s l π out h) (take-at _ (drop (length s) out) _ (exact-length (targetsOf c s l) s))
 
-  written-rest : drop (length s) (outputOf c s l out) ≡ drop (length s) out
+  written-rest : drop (length s) (outputOf c s l π out) ≡ drop (length s) out
   written-rest =
-      passes-or-fails (checkAnswer c s l (length out))
+      passes-or-fails (checkAnswer c s l π (length out))
       (λ h.
-      rw (written h)
+      rw (written c s l π out h)
       (drop-at (exactProof (targetsOf c s l) s) (drop (length s) out) (length s) (exact-length (targetsOf c s l) s)))
       (λ h. rw (kept h))
 
   written-reads : Passed
-      → (scaleOf (take (length s) (outputOf c s l out)) ≡ scaleOf s)
-      × (rowsOf (take (length s) (outputOf c s l out)) ≡ shiftedRows (targetsOf c s l) s)
+      → (scaleOf (take (length s) (outputOf c s l π out)) ≡ scaleOf s)
+      × (rowsOf (take (length s) (outputOf c s l π out)) ≡ shiftedRows (targetsOf c s l) s)
   unfolding targetsOf
   written-reads h =
-      let own = sheets-checked c s l (accepted-formed c s l (length out) h) in
+      let own = sheets-checked c s l π (accepted-formed c s l π (length out) h) in
       let exact = exactProof (targetsOf c s l) s in
       rw (written-first h) (
         ap scaleOf (sym (append-nil exact)) ∙ exact-scale (targetsOf c s l) s [] (own .proof .header .room),
-        exact-rows c s (aimOf c s l) own (accepted-within c s l (length out) h),
+        exact-rows c s (aimOf c s l) own (accepted-light c s l π (length out) h),
       )
 
-  refused-kept : (Passed → ⊥) → outputOf c s l out ≡ out
-  refused-kept n = passes-or-fails (checkAnswer c s l (length out)) (λ h. absurd (n h)) kept
+  refused-kept : (Passed → ⊥) → outputOf c s l π out ≡ out
+  refused-kept n = passes-or-fails (checkAnswer c s l π (length out)) (λ h. absurd (n h)) kept
 
   pub check-promises : (Enough Accepted : Type 0) (k : ℕ) → (Enough → LongEnough s out) → Accepted ↔ Passed
-      → (Passed → k ≡ rowCount s) → Bytes s → (o : List ℕ) → o ≡ outputOf c s l out
-      → CheckPromises c s l out Enough Accepted k o
+      → (Passed → k ≡ rowCount s) → Bytes s → (o : List ℕ) → o ≡ outputOf c s l π out
+      → CheckPromises c s l π out Enough Accepted k o
   check-promises Enough Accepted k enough meant counted b o e = record {
     decides = λ f r.
-        let d = decision c s l (length out) f (enough r) in (
-          λ a. d .0 (accepted-rows c s l (length out) (meant .0 a)),
+        let d = decision c s l π (length out) f (enough r) in (
+          λ a. d .0 (accepted-rows c s l π (length out) (meant .0 a)),
           λ p. meant .1 (accepted-passes _ _ (d .1 p)),
         );
     counts = λ a. counted (meant .0 a);
     reads = λ a. rw e (written-reads (meant .0 a));
     rest = rw e written-rest;
     leaves = λ n. e ∙ refused-kept (λ h. n (meant .1 h));
-    floors = λ a. floor-kept c s l (length out) (meant .0 a);
+    floors = λ a. floor-kept c s l π (length out) (meant .0 a);
     keeps = λ f r d.
-        let h = accepted-passes _ _ (exact-accepted c s l f d (length out) (enough r)) in
-        (meant .1 h, e ∙ written h ∙ rw (exact-bytes c s l f d b));
+        let h = accepted-passes _ _ (exact-accepted c s l π f d (length out) (enough r)) in
+        (meant .1 h, e ∙ written c s l π out h ∙ rw (exact-bytes c s l π f d b));
+    larger = λ a ρ l′.
+        let h = meant .0 a in
+        let q = accepted-larger c s l π ρ l′ (length out) h in
+        (q ∙ rw (counted h), written c s l ρ out (accepted-passes _ _ q) ∙ sym (e ∙ written c s l π out h));
+    full = check-full c s l;
   }
 
   -- of an entry point that refuses before it checks
   pub never-promises : (Enough Accepted : Type 0) (k : ℕ) → (Enough → ⊥) → (Accepted → ⊥) → (o : List ℕ) → o ≡ out
-      → CheckPromises c s l out Enough Accepted k o
+      → CheckPromises c s l π out Enough Accepted k o
   never-promises Enough Accepted k short refused o e = record {
     decides = λ f r. absurd (short r);
     counts = λ a. absurd (refused a);
@@ -199,23 +228,25 @@ module _ (c s l out : List ℕ) where
     leaves = λ n. e;
     floors = λ a. absurd (refused a);
     keeps = λ f r d. absurd (short r);
+    larger = λ a. absurd (refused a);
+    full = check-full c s l;
   }
 
 -- ---- what an acceptance leaves in the output, read as a proof of k rows
 
-module _ (c s l out : List ℕ) (h : Passes (checkAnswer c s l (length out))) where
+module _ (c s l : List ℕ) (π : Profile) (out : List ℕ) (h : Passes (checkAnswer c s l π (length out))) where
   own-sheets : CheckedSheets c s (aimOf c s l)
-  own-sheets = sheets-checked c s l (accepted-formed c s l (length out) h)
+  own-sheets = sheets-checked c s l π (accepted-formed c s l π (length out) h)
 
   proof-room : ProofRoom s (shapeOf s)
   proof-room = own-sheets .proof .header .room
 
   abbrev left : List ℕ
-  left = outputOf c s l out
+  left = outputOf c s l π out
 
   left-variables : variables left ≡ variables s
   left-variables =
-      rw (written c s l out h) (exact-variables (targetsOf c s l) s (drop (length s) out) proof-room)
+      rw (written c s l π out h) (exact-variables (targetsOf c s l) s (drop (length s) out) proof-room)
 
   pub claim-left : 8 ≤ length c
   claim-left = claim-eight c s _ own-sheets
@@ -224,7 +255,7 @@ module _ (c s l out : List ℕ) (h : Passes (checkAnswer c s l (length out))) wh
   room-left = rw left-variables (record {
     few = proof-room .few;
     rows = proof-room .rows;
-    long = rw (written c s l out h) (omega (
+    long = rw (written c s l π out h) (omega (
       arith,
       length-append (exactProof (targetsOf c s l) s) (drop (length s) out),
       exact-length (targetsOf c s l) s,
@@ -233,10 +264,10 @@ module _ (c s l out : List ℕ) (h : Passes (checkAnswer c s l (length out))) wh
   })
 
   pub scale-left : scaleOf left ≡ scaleOf s
-  scale-left = rw (written c s l out h) (exact-scale (targetsOf c s l) s (drop (length s) out) proof-room)
+  scale-left = rw (written c s l π out h) (exact-scale (targetsOf c s l) s (drop (length s) out) proof-room)
 
   pub weights-left : (i : ℕ) → i < rowCount s
       → tripleOf left (record { n = variables left; k = rowCount s }) i ≡ tripleFor (weightsFor (targetsOf c s l) s i)
   weights-left i m =
-      rw left-variables (rw (written c s l out h)
-      (exact-weights (targetsOf c s l) s (drop (length s) out) proof-room (accepted-within c s l (length out) h) i m))
+      rw left-variables (rw (written c s l π out h)
+      (exact-weights (targetsOf c s l) s (drop (length s) out) proof-room (accepted-light c s l π (length out) h) i m))

@@ -3,6 +3,7 @@ use mathlib.Core.Path.{_≡_, _∙_, fun-ext}
 use mathlib.Core.List.{List}
 use Prim.Native.Nat.{ℕ}
 use lib.ListN.{length}
+use Rattle.bounds.specs.declared.profiles.Profile.{Profile}
 use Rattle.squares.specs.Domains.{Unlimited}
 use Rattle.sheets.specs.Layout.{variables}
 use Rattle.limits.specs.LimitsSheet.{limitIn}
@@ -16,7 +17,7 @@ use Rattle.weighing.proofs.Unlimited.{weighed-unlimited}
 use Rattle.judging.specs.Check.{targetsOf, checkAnswer, outputOf}
 use Rattle.judging.specs.Unlimited.{plainTargets, plainAnswer, plainOutput, CheckUnlimited}
 
-module _ (c s l : List ℕ) (none : LimitsNone (variables c) l) where
+module _ (c s l : List ℕ) (π : Profile) (none : LimitsNone (variables c) l) where
   unlimited : Unlimited (limitIn (aimOf c s l .limits))
   unlimited = rw (aim-limits c s l) (none .unlimited)
 
@@ -28,20 +29,20 @@ module _ (c s l : List ℕ) (none : LimitsNone (variables c) l) where
   unfolding targetsOf
   plain-targets = fun-ext (λ α. targets-unlimited c .targets (aimOf c s l) unlimited α) ∙ same
 
-  answer : (room : ℕ) → checkAnswer c s l room ≡ plainAnswer c s room
+  answer : (room : ℕ) → checkAnswer c s l π room ≡ plainAnswer c s π room
   unfolding checkAnswer plainAnswer
   answer room =
       rw (
-        input-unlimited c s l (none .passes) .input room,
-        weighed-unlimited c s (aimOf c s l) unlimited,
+        input-unlimited c s l π (none .passes) .input room,
+        weighed-unlimited (π .weight) c s (aimOf c s l) unlimited,
         same,
       )
 
-  pub check-unlimited : CheckUnlimited c s l
+  pub check-unlimited : CheckUnlimited c s l π
   unfolding outputOf plainOutput
   check-unlimited = record {
     answer = answer;
     output = λ out. rw (answer (length out), plain-targets);
-    formed = input-unlimited c s l (none .passes) .formed;
+    formed = input-unlimited c s l π (none .passes) .formed;
     targets = λ α. rw plain-targets;
   }

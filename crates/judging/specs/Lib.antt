@@ -1,3 +1,4 @@
 pub mod Check
 pub mod Unlimited
+pub mod Full
 pub mod Promises

@@ -1,2 +1,3 @@
 pub mod PageCheck
+pub mod Full
 pub mod Promises

@@ -63,4 +63,4 @@ module _ (c s : List ℕ) (a : Aim) (u : Unlimited (limitIn (a .limits))) where
 
 pub weighed-unlimited : WeighedUnlimited
 unfolding weighedAnswer plainWeighed
-weighed-unlimited c s a u = rw (unheld-plain c s a u, targets c s a u)
+weighed-unlimited limit c s a u = rw (unheld-plain c s a u, targets c s a u)

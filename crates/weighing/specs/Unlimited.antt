@@ -28,11 +28,11 @@ plainUnheld τ c s =
     refuseAt (first (λ i. unheldAt τ s (plainPoint c (variables c) (termCount c) i)) (suc (termCount c))) 16
     (accepted 0)
 
--- 16 to 19
-unfoldable pub plainWeighed : (Exponents → ℤ) → List ℕ → List ℕ → Answer
-plainWeighed τ c s = andThen (plainUnheld τ c s) (rowsJudged τ s)
+-- 16 to 19; the limit is that of 17
+unfoldable pub plainWeighed : ℕ → (Exponents → ℤ) → List ℕ → List ℕ → Answer
+plainWeighed limit τ c s = andThen (plainUnheld τ c s) (rowsJudged limit τ s)
 
 abbrev pub WeighedUnlimited : Type 0
 WeighedUnlimited =
-    (c s : List ℕ) (a : Aim) → Unlimited (limitIn (a .limits))
-    → weighedAnswer c s a ≡ plainWeighed (plainTarget c (a .scale) (a .floor)) c s
+    (limit : ℕ) (c s : List ℕ) (a : Aim) → Unlimited (limitIn (a .limits))
+    → weighedAnswer limit c s a ≡ plainWeighed limit (plainTarget c (a .scale) (a .floor)) c s

@@ -2,7 +2,6 @@
 use mathlib.Core.List.{List}
 use Prim.Native.Nat.{ℕ}
 use lib.IntN.{ℤ}
-use Rattle.bounds.specs.Bounds.{greatestWeight}
 use Rattle.answers.specs.Answers.{Answer, andThen}
 use Rattle.points.specs.Points.{Exponents}
 use Rattle.sheets.specs.Layout.{rowCount}
@@ -12,10 +11,10 @@ use Rattle.sharing.specs.Shifts.{shiftedRow}
 use Rattle.judgements.specs.Judgements.{firstsTo, judgedAnswer}
 use Rattle.weighing.specs.Unheld.{unheldAnswer}
 
--- 17 to 19; τ gives each point's target
-unfoldable pub rowsJudged : (Exponents → ℤ) → List ℕ → Answer
-rowsJudged τ s = judgedAnswer (firstsTo greatestWeight (shiftedRow τ s) (rowCount s)) (rowCount s)
+-- 17 to 19; the limit is that of 17, and τ gives each point's target
+unfoldable pub rowsJudged : ℕ → (Exponents → ℤ) → List ℕ → Answer
+rowsJudged limit τ s = judgedAnswer (firstsTo limit (shiftedRow τ s) (rowCount s)) (rowCount s)
 
 -- 16 to 19
-unfoldable pub weighedAnswer : List ℕ → List ℕ → Aim → Answer
-weighedAnswer c s a = andThen (unheldAnswer c s a) (rowsJudged (targetOf c a) s)
+unfoldable pub weighedAnswer : ℕ → List ℕ → List ℕ → Aim → Answer
+weighedAnswer limit c s a = andThen (unheldAnswer c s a) (rowsJudged limit (targetOf c a) s)

@@ -10,6 +10,7 @@ use lib.ListN.{length, getD, replicate, getD-replicate, length-replicate, List·
 use lib.Seq.{getD-append-add}
 use Rattle.integers.specs.Words.{u32At, i32At}
 use Rattle.bounds.specs.Bounds.{greatestExponent, greatestWeight, beyond}
+use Rattle.bounds.specs.Profiles.{inRange, fullProfile}
 use Rattle.answers.specs.Answers.{says, accepted, refused, refuseIf, refuseAt, blameless, andThen}
 use Rattle.answers.specs.Searches.{kept, first}
 use Rattle.answers.specs.declared.answers.Verdict.the-variants.{Accepted}
@@ -31,7 +32,7 @@ use Rattle.checks.specs.declared.proof_checks.RowRule.the-variants as R
 use Rattle.worked.specs.Sheets.{joined, word, words, claimOf, proofOf, squareWith, square, squareProof, twoTerms, oneRow, masked, limit, unlimited, limitsWith, oneLimit}
 use Rattle.worked.specs.Checks.{Case, claims, proves, limits, eight, full, manyPoints, manyRows, small, cases, Worked}
 
-small-worked : map (λ (c : Case). formedAnswer (c .claim) (c .proof) (c .limits)) small
+small-worked : map (λ (c : Case). formedAnswer (c .claim) (c .proof) (c .limits) fullProfile) small
     ≡ map (λ (c : Case). c .answer) small
 unfolding
     u32At i32At table bytesAt every everyPair samePoint risesTo evenSum hasMidpoint exponentsWithin accepted
@@ -40,7 +41,7 @@ unfolding
     P.proofHeaderRight P.headerAnswer P.qOrR P.anyBeyond P.rowBreaks P.rowsAnswer headAnswer formedAnswer limitOf
     limitsShaped powerRight limitRight limitBreaks limitsAnswer limit unlimited limitsWith oneLimit limits eight joined
     word words claimOf proofOf squareWith square squareProof claims proves twoTerms oneRow full manyPoints
-    manyRows masked small
+    manyRows masked small inRange
 small-worked = refl
 
 -- ---- 256 rows
@@ -95,7 +96,7 @@ none-lone : Nothing ≡ first (P.rowBreaks R.Unused many shape) 256
 unfolding first kept P.rowBreaks samePoint everyPair vOf wOf bytesAt table many manyRows manyPoints joined word
 none-lone = refl
 
-rows-right : says (Accepted 0) ≡ P.rowsAnswer many shape
+rows-right : says (Accepted 0) ≡ P.rowsAnswer many fullProfile shape
 unfolding P.rowsAnswer says
 rows-right =
     passed-at (Accepted 0) Nothing _ 12 _ exponents-low refl
@@ -103,21 +104,21 @@ rows-right =
     (passed-at (Accepted 0) Nothing _ 14 _ none-lone refl
     (passed-at (Accepted 0) Nothing _ 15 _ (all-right _ 256 (λ i l. weights-light i)) refl refl)))
 
-claim-right : says (Accepted 0) ≡ C.claimAnswer square
+claim-right : says (Accepted 0) ≡ C.claimAnswer square fullProfile
 unfolding
     says accepted refuseIf refuseAt kept first C.claimAnswer C.termsAnswer C.countsRight C.maskRight
     C.claimHeaderRight C.termBreaks floorOf termPoint coefficientOf i32At u32At bytesAt table beyond
-    exponentsWithin every risesTo squareWith square claimOf joined word words
+    exponentsWithin every risesTo squareWith square claimOf joined word words inRange
 claim-right = refl
 
-header-right : says (Accepted 0) ≡ P.headerAnswer 1 many
+header-right : says (Accepted 0) ≡ P.headerAnswer (fullProfile .rows) 1 many
 unfolding
     says accepted refuseIf P.headerAnswer P.proofHeaderRight scaleOf u32At many manyRows manyPoints joined word
 header-right = refl
 
-head-right : says (Accepted 0) ≡ headAnswer square many
+head-right : says (Accepted 0) ≡ headAnswer square many fullProfile
 unfolding headAnswer squareWith square claimOf joined word
-head-right = then-passed (Accepted 0) (C.claimAnswer square) claim-right 0 refl (Accepted 0) _ header-right
+head-right = then-passed (Accepted 0) (C.claimAnswer square fullProfile) claim-right 0 refl (Accepted 0) _ header-right
 
 limits-right : says (Accepted 0) ≡ limitsAnswer 1 (oneLimit 0 0 0)
 unfolding
@@ -125,10 +126,10 @@ unfolding
     u32At oneLimit limitsWith limit joined word
 limits-right = refl
 
-many-accepted : formedAnswer square many (oneLimit 0 0 0) ≡ accepted 0
+many-accepted : formedAnswer square many (oneLimit 0 0 0) fullProfile ≡ accepted 0
 unfolding formedAnswer says many manyRows manyPoints joined word square squareWith claimOf
 many-accepted =
-    sym (then-passed (Accepted 0) (headAnswer square many) head-right 0 refl (Accepted 0) _
+    sym (then-passed (Accepted 0) (headAnswer square many fullProfile) head-right 0 refl (Accepted 0) _
     (then-passed (Accepted 0) (limitsAnswer 1 (oneLimit 0 0 0)) limits-right 0 refl (Accepted 0) _ rows-right))
 
 pub worked : Worked

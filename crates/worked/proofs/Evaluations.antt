@@ -2,6 +2,7 @@
 use mathlib.Core.Path.{refl}
 use Rattle.integers.specs.Words.{u32At, i32At}
 use Rattle.bounds.specs.Bounds.{beyond}
+use Rattle.bounds.specs.Profiles.{inRange, fullProfile}
 use Rattle.answers.specs.Answers.{accepted, refused, refuseIf, refuseAt, blameless, andThen}
 use Rattle.answers.specs.Searches.{kept, first}
 use Rattle.points.specs.Lists.{table}
@@ -20,5 +21,5 @@ unfolding
     coefficientOf termOf termsOf accepted refused refuseIf refuseAt blameless andThen beyond joined word words
     claimOf twoTerms squareWith square oneTerm masked maskedCube minusSquare countsRight maskRight claimHeaderRight
     termBreaks termsAnswer claimAnswer kept first toldBy termValue tooLarge tooLargeAnswer evaluationAnswer
-    evaluationOf at oneAt least greatest cases
+    evaluationOf inRange at oneAt least greatest cases
 worked = refl

@@ -1,15 +1,17 @@
--- The cases of checks, of searches and of pages, computed.
+-- The cases of checks, of searches, of pages and of profiles, computed.
 use mathlib.Core.Path.{refl}
 use mathlib.Core.List.{[], _∷_}
 use lib.IntN.{negsuc}
 use Rattle.integers.specs.Words.{u32At, i32At, withBits, withI32}
 use Rattle.integers.specs.Division.{floorDiv, floorMod, share}
 use Rattle.bounds.specs.Bounds.{beyond}
+use Rattle.bounds.specs.Profiles.{inRange, fullProfile}
 use Rattle.answers.specs.Answers.{accepted, refused, refuseIf, refuseAt, blameless, andThen}
 use Rattle.answers.specs.Searches.{kept, first}
 use Rattle.points.specs.Lists.{table}
 use Rattle.points.specs.Points.{bytesAt, every, everyPair, samePoint, risesTo, midpointOf, evenSum, hasMidpoint, exponentsWithin, keepsSign, padded, pureAt}
-use Rattle.squares.specs.Sums.{gathered, coefficient}
+use Rattle.monomials.specs.Powers.{powerOf, monomialOf}
+use Rattle.squares.specs.Sums.{gathered, coefficient, value}
 use Rattle.squares.specs.Rows.{slotsAt}
 use Rattle.squares.specs.Domains.{limitAt, limitsTo}
 use Rattle.squares.specs.Targets.{lowered, worst, target}
@@ -31,6 +33,7 @@ use Rattle.weighing.specs.Unheld.{pointFor, unheldAt, unheld, unheldAnswer}
 use Rattle.weighing.specs.Exact.{weightsFor, exactProof}
 use Rattle.weighing.specs.Weighed.{rowsJudged, weighedAnswer}
 use Rattle.judging.specs.Check.{targetsOf, checkAnswer, outputOf}
+use Rattle.evaluation.specs.Evaluations as E
 use Rattle.floors.specs.Search as F
 use Rattle.text.specs.Text.{digits, natural, integer, textsTo, counted, numbered}
 use Rattle.text.specs.Columns.{column}
@@ -42,8 +45,9 @@ use Rattle.worked.specs.Sheets.{joined, word, words, claimOf, proofOf, s
 use Rattle.worked.specs.Judging.{spare, acceptsIn, refusesIn, accepts, refuses, motzkinExact, marked, tabled, withMask, worked, withLimits, cases, Worked, Targets, Exchanged}
 use Rattle.worked.specs.Searches as S
 use Rattle.worked.specs.Pages as Pages
+use Rattle.worked.specs.Profiles as Profiles
 
-computed : Worked × S.Worked × Targets × Pages.Worked × Pages.Lines
+computed : Worked × S.Worked × Targets × Pages.Worked × Pages.Lines × Profiles.Worked
 unfolding
     u32At i32At withBits withI32 floorDiv floorMod share table bytesAt every everyPair samePoint risesTo midpointOf
     evenSum hasMidpoint exponentsWithin keepsSign gathered coefficient slotsAt lowered worst target floorOf
@@ -64,8 +68,13 @@ unfolding
     digits natural integer textsTo counted numbered column scaleText acceptedLine refusedLine shownOf verdictLine
     pageLine laterColumns weightColumns rowColumns rowShown moreShown tableText tableLine pageOf pageAnswer
     pageOutput shiftedTriple checkedPage pageAfter Pages.paper Pages.shows Pages.refusesPage Pages.cases
-    Pages.worked Pages.heavy Pages.lastLines
-computed = (refl, (refl, refl), (refl, refl, refl, refl), refl, (refl, refl, refl, refl))
+    Pages.worked Pages.heavy Pages.lastLines inRange F.answerOf E.toldBy E.termValue E.tooLarge
+    E.tooLargeAnswer E.evaluationAnswer E.evaluationOf powerOf monomialOf value Profiles.within Profiles.wrong
+    Profiles.refusals Profiles.refusedBy Profiles.accepts Profiles.refuses Profiles.lowered Profiles.lighter
+    Profiles.heavy Profiles.cases Profiles.worked Profiles.searches Profiles.found Profiles.evaluations
+    Profiles.values
+computed =
+    (refl, (refl, refl), (refl, refl, refl, refl), refl, (refl, refl, refl, refl), (refl, refl, refl, refl, refl))
 
 pub all-worked : Worked
 all-worked = computed .0
@@ -81,6 +90,9 @@ all-pages = computed .3
 
 pub all-lines : Pages.Lines
 all-lines = computed .4
+
+pub all-profiles : Profiles.Worked
+all-profiles = computed .5
 
 -- the second sheet has H's second row first, then its first
 pub rows-exchanged : Exchanged

@@ -4,6 +4,7 @@ use mathlib.Core.List.{List, [], _∷_, _++_, map}
 use Prim.Native.Nat.{ℕ, _+_, _-_, _^_}
 use lib.IntN.{ℤ, pos, negsuc}
 use lib.ListN.{replicate}
+use Rattle.bounds.specs.Profiles.{fullProfile}
 use Rattle.answers.specs.Answers as Answers
 use Rattle.answers.specs.Answers.{Answer, accepted, refused}
 use Rattle.points.specs.Lists.{table}
@@ -116,6 +117,8 @@ small =
 unfoldable pub cases : List Case
 cases = proves (manyRows 120) (accepted 0) ∷ small
 
--- the definitions give every answer
+-- the definitions give every answer, under the full profile
 abbrev pub Worked : Type 0
-Worked = map (λ (c : Case). formedAnswer (c .claim) (c .proof) (c .limits)) cases ≡ map (λ (c : Case). c .answer) cases
+Worked =
+    map (λ (c : Case). formedAnswer (c .claim) (c .proof) (c .limits) fullProfile) cases
+    ≡ map (λ (c : Case). c .answer) cases

@@ -3,6 +3,7 @@ use mathlib.Core.Path.{_≡_}
 use mathlib.Core.List.{List, [], _∷_, map}
 use Prim.Native.Nat.{ℕ, _-_, _^_}
 use lib.IntN.{ℤ, pos, negsuc}
+use Rattle.bounds.specs.Profiles.{fullProfile}
 use Rattle.answers.specs.Answers.{claim, offsets, refused}
 use Rattle.evaluation.specs.Evaluations.{Told, value, refusal, evaluationOf}
 use Rattle.worked.specs.Sheets.{claimOf, twoTerms, square, maskedCube, minusSquare}
@@ -53,6 +54,6 @@ cases =
     ∷ at (claimOf 2 (pos 1) [] []) (least ∷ greatest ∷ []) (value (pos 0))
     ∷ []
 
--- the definitions give every result
+-- the definitions give every result, under the full profile
 abbrev pub Worked : Type 0
-Worked = map (λ (c : Case). evaluationOf (c .claim) (c .offsets)) cases ≡ map (λ (c : Case). c .told) cases
+Worked = map (λ (c : Case). evaluationOf (c .claim) fullProfile (c .offsets)) cases ≡ map (λ (c : Case). c .told) cases

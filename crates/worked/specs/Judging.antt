@@ -5,6 +5,7 @@ use mathlib.Core.List.{List, [], _∷_, _++_, map}
 use Prim.Native.Nat.{ℕ, _+_, _-_, _*_, _^_}
 use lib.IntN.{pos, negsuc}
 use lib.ListN.{length, replicate}
+use Rattle.bounds.specs.Profiles.{fullProfile}
 use Rattle.answers.specs.Answers.{Answer, proof, output, limits, accepted, refused}
 use Rattle.points.specs.Lists.{Reordered}
 use Rattle.squares.specs.Rows.{Row}
@@ -198,8 +199,8 @@ worked a = record {
   limits = a .limits;
   output = a .output;
   weights = map (λ (row : Row). row .weights) (shiftedRows (targetsOf (a .claim) (a .proof) (a .limits)) (a .proof));
-  answer = checkAnswer (a .claim) (a .proof) (a .limits) (length (a .output));
-  written = outputOf (a .claim) (a .proof) (a .limits) (a .output);
+  answer = checkAnswer (a .claim) (a .proof) (a .limits) fullProfile (length (a .output));
+  written = outputOf (a .claim) (a .proof) (a .limits) fullProfile (a .output);
 }
 
 unfoldable pub cases : List Case

@@ -7,3 +7,4 @@ pub mod Evaluations
 pub mod Fractions
 pub mod Reports
 pub mod Pages
+pub mod Profiles

@@ -5,6 +5,7 @@ use Prim.Native.Nat.{ℕ, _-_, _*_, _^_}
 use Prim.Native.String.{String}
 use lib.IntN.{pos, negsuc}
 use lib.ListN.{length, drop, replicate}
+use Rattle.bounds.specs.Profiles.{fullProfile}
 use Rattle.answers.specs.Answers.{Answer, page, accepted, refused}
 use Rattle.sheets.specs.Layout.{variables}
 use Rattle.rows.specs.declared.proof_sheet.Triple.{Triple}
@@ -89,16 +90,18 @@ cases =
     ("refused 1 at 0                                                          " ∷ [])
     ∷ []
 
--- the definitions give every answer and byte
+-- the definitions give every answer and byte, under the full profile
 unfoldable pub worked : Case → Case
 worked a = record {
   claim = a .claim;
   proof = a .proof;
   output = a .output;
   page = a .page;
-  answer = pageAnswer (a .claim) (a .proof) (noLimits (variables (a .claim))) (length (a .output)) (length (a .page));
-  written = pageOutput (a .claim) (a .proof) (noLimits (variables (a .claim))) (a .output) (length (a .page));
-  after = pageAfter (a .claim) (a .proof) (noLimits (variables (a .claim))) (length (a .output)) (a .page);
+  answer =
+      pageAnswer (a .claim) (a .proof) (noLimits (variables (a .claim))) fullProfile (length (a .output))
+      (length (a .page));
+  written = pageOutput (a .claim) (a .proof) (noLimits (variables (a .claim))) fullProfile (a .output) (length (a .page));
+  after = pageAfter (a .claim) (a .proof) (noLimits (variables (a .claim))) fullProfile (length (a .output)) (a .page);
 }
 
 abbrev pub Worked : Type 0

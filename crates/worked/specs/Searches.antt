@@ -5,6 +5,7 @@ use mathlib.Core.List.{List, [], _∷_, _++_, map}
 use Prim.Native.Nat.{ℕ, _+_, _^_, _-_}
 use lib.IntN.{ℤ, pos, negsuc}
 use lib.ListN.{length, replicate}
+use Rattle.bounds.specs.Profiles.{fullProfile}
 use Rattle.answers.specs.Answers.{Answer, output, range, refused}
 use Rattle.sheets.specs.Layout.{variables}
 use Rattle.limits.specs.LimitsSheet.{noLimits}
@@ -117,7 +118,7 @@ ranges =
     ∷ record { lo = pos (2 ^ 63 - 1); hi = negsuc (2 ^ 63 - 1); wrong = true }
     ∷ []
 
--- ---- the definitions give every floor, count, answer and byte
+-- ---- the definitions give every floor, count, answer and byte, under the full profile
 
 unfoldable pub worked : Case → Case
 worked a = record {
@@ -127,8 +128,8 @@ worked a = record {
   lo = a .lo;
   hi = a .hi;
   output = a .output;
-  told = searchOf (a .claim) (a .proof) (a .limits) (a .lo) (a .hi) (length (a .output));
-  written = searchOutput (a .claim) (a .proof) (a .limits) (a .lo) (a .hi) (a .output);
+  told = searchOf (a .claim) (a .proof) (a .limits) fullProfile (a .lo) (a .hi) (length (a .output));
+  written = searchOutput (a .claim) (a .proof) (a .limits) fullProfile (a .lo) (a .hi) (a .output);
 }
 
 abbrev pub Worked : Type 0

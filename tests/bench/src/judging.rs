@@ -1,6 +1,7 @@
 //! The check over any method of finding the shifted weights: refusals 16 to 19, the exact proof.
 
 use crate::fields::{refuse_at, Refusal, Sheets, MOST};
+use sheets::Profile;
 
 /// What a check is given.
 pub struct Given {
@@ -18,6 +19,11 @@ pub trait Method {
 
     /// The row's weights p, q, r after the shift.
     fn shifted(&self, sheets: &Sheets, row: usize) -> [i64; 3];
+}
+
+/// The library's check, under the full profile.
+pub fn by_library(given: &Given, output: &mut Vec<u8>) -> u64 {
+    library::check(&given.claim, &given.proof, &given.limits, Profile::FULL, output)
 }
 
 /// The check: answers the number of rows, or a refusal.

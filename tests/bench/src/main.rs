@@ -3,10 +3,11 @@
 //!
 //!     cargo run --release --bin bench
 //!
-//! All are given the same sheets in the same run, laid out in several ways by `layouts`. `judging`
-//! is common to both checks in Rust, `scanning` and `hashed` find the shifted weights; `searching`
-//! and `evaluation` are the library's methods for floors and values. `timing` takes the CPU time of
-//! the thread.
+//! All are given the same sheets in the same run, laid out in several ways by `layouts`, and the
+//! library the full profile, whose numbers the methods in Rust have as constants. `judging` is
+//! common to both checks in Rust, `scanning` and `hashed` find the shifted weights; `searching` and
+//! `evaluation` are the library's methods for floors and values. `timing` takes the CPU time of the
+//! thread.
 
 mod evaluation;
 mod fields;
@@ -23,7 +24,7 @@ use layouts::{Layout, SearchLayout, LAYOUTS, SEARCH_LAYOUTS};
 use scanning::Scanning;
 use searching::{by_checks, by_library, by_same_method, Found, Search};
 use sheets::random::Floors;
-use sheets::{Claim, Limits, Proof, PAGE_LENGTH};
+use sheets::{Claim, Limits, Profile, Proof, PAGE_LENGTH};
 use timing::{times, Function, Times, SAMPLES};
 
 type Check = Function<Given, Vec<u8>>;
@@ -73,7 +74,7 @@ fn check_times(claim: &Claim, proof: &Proof, limits: &Limits) -> [Times; 3] {
     let given = given(claim, proof, limits);
     let output = vec![0; given.proof.len()];
     let checks: [Check; 3] = [
-        |given, output| library::check(&given.claim, &given.proof, &given.limits, output),
+        judging::by_library,
         |given, output| judging::check::<Scanning>(given, output),
         |given, output| judging::check::<Hashed>(given, output),
     ];
@@ -97,9 +98,9 @@ fn page_times(claim: &Claim, proof: &Proof, limits: &Limits) -> [Times; 2] {
     let mut stored = (vec![0; given.proof.len()], vec![0; PAGE_LENGTH]);
     let checks: [PageCheck; 2] = [
         |Given { claim, proof, limits }, (output, page)| {
-            library::check_page(claim, proof, limits, output, page)
+            library::check_page(claim, proof, limits, Profile::FULL, output, page)
         },
-        |Given { claim, proof, limits }, (output, _)| library::check(claim, proof, limits, output),
+        |given, (output, _)| judging::by_library(given, output),
     ];
     checks[0](&given, &mut stored);
     times(checks, &given, stored, proof.rows.len() as u64)
@@ -162,7 +163,7 @@ fn print_evaluation(name: &str, exponent: fn(u8, u8) -> u8, offsets: [i32; 8]) {
 /// The times of the library and of the same method, which store the value.
 fn evaluation_times(claim: &[u8], offsets: &[i32]) -> [Times; 2] {
     let evaluations: [Evaluate; 2] = [
-        |(claim, offsets), value| library::evaluate(claim, offsets, value),
+        |(claim, offsets), value| library::evaluate(claim, Profile::FULL, offsets, value),
         |(claim, offsets), value| evaluation::evaluate(claim, offsets, value),
     ];
     times(evaluations, &(claim, offsets), 0, 0)

@@ -57,10 +57,10 @@ impl Buffer {
 
 /// Compares a check by the library: its answer and every byte of the output.
 pub fn check(case: &Case, rng: &mut Rng) -> Compared<Accepted> {
-    let Case { claim, proof, limits, room, .. } = case;
-    let verdict = oracle::check(claim, proof, limits, *room);
+    let Case { claim, proof, limits, profile, room, .. } = case;
+    let verdict = oracle::check(claim, proof, limits, *profile, *room);
     let mut output = Buffer::new(rng, *room);
-    let answer = library::check(claim, proof, limits, output.lent());
+    let answer = library::check(claim, proof, limits, *profile, output.lent());
 
     same("check", &code(verdict.as_ref(), rows), &answer, case)?;
     output.compare("output", exact(verdict.as_ref()), case)?;
@@ -73,11 +73,11 @@ pub fn check(case: &Case, rng: &mut Rng) -> Compared<Accepted> {
 /// Compares a check with a page by the library: its answer, every byte of the output and of the
 /// page. Where a page is written, a check without one comes to the same answer and output.
 pub fn check_page(case: &Case, rng: &mut Rng) -> Result<Paged, String> {
-    let Case { claim, proof, limits, room, page, .. } = case;
-    let paged = oracle::check_page(claim, proof, limits, *room, *page);
+    let Case { claim, proof, limits, profile, room, page, .. } = case;
+    let paged = oracle::check_page(claim, proof, limits, *profile, *room, *page);
     let (mut output, mut page) = (Buffer::new(rng, *room), Buffer::new(rng, *page));
     let mut alone = output.clone();
-    let answer = library::check_page(claim, proof, limits, output.lent(), page.lent());
+    let answer = library::check_page(claim, proof, limits, *profile, output.lent(), page.lent());
 
     let verdict = paged.verdict.as_ref();
     let written = paged.page.as_deref().unwrap_or_default();
@@ -85,7 +85,7 @@ pub fn check_page(case: &Case, rng: &mut Rng) -> Result<Paged, String> {
     page.compare("page", written.as_bytes(), case)?;
     output.compare("output beside the page", exact(verdict), case)?;
     if paged.page.is_some() {
-        let without = library::check(claim, proof, limits, alone.lent());
+        let without = library::check(claim, proof, limits, *profile, alone.lent());
         same("check without a page", &answer, &without, case)?;
         alone.compare("output without a page", exact(verdict), case)?;
     }
@@ -95,14 +95,15 @@ pub fn check_page(case: &Case, rng: &mut Rng) -> Result<Paged, String> {
 /// Compares a search by the library: its answer, the floor and the number of floors tried, which
 /// are random before, and every byte of the output.
 pub fn search(case: &Case, rng: &mut Rng) -> Compared<Found> {
-    let Case { claim, proof, limits, room, lo, hi, .. } = case;
-    let (lo, hi) = (*lo, *hi);
-    let found = oracle::search(claim, proof, limits, *room, lo, hi);
+    let Case { claim, proof, limits, profile, room, lo, hi, .. } = case;
+    let (profile, lo, hi) = (*profile, *lo, *hi);
+    let found = oracle::search(claim, proof, limits, profile, *room, lo, hi);
     let mut output = Buffer::new(rng, *room);
     let (mut floor, mut tried) = (rng.bits() as i64, rng.bits() as u32);
     let before = (floor, tried);
     let lent = output.lent();
-    let answer = library::search(claim, proof, limits, lo, hi, lent, &mut floor, &mut tried);
+    let answer =
+        library::search(claim, proof, limits, profile, lo, hi, lent, &mut floor, &mut tried);
 
     let verdict = found.as_ref().map(|found| &found.accepted);
     let stored = found.as_ref().map(|found| (found.accepted.floor.into(), found.tried));
@@ -122,7 +123,7 @@ fn is_checked(case: &Case, accepted: &Accepted) -> Outcome {
     let mut claim = case.claim.clone();
     claim[4..8].copy_from_slice(&accepted.floor.to_le_bytes());
     let mut output = vec![0; case.proof.len()];
-    let answer = library::check(&claim, &case.proof, &case.limits, &mut output);
+    let answer = library::check(&claim, &case.proof, &case.limits, case.profile, &mut output);
     same("check of the floor that was found", &rows(accepted), &answer, case)?;
     same("output of that check", &Hex(&accepted.bytes), &Hex(&output), case)
 }
@@ -130,24 +131,25 @@ fn is_checked(case: &Case, accepted: &Accepted) -> Outcome {
 /// An exact proof, whose weights add up, is accepted again and written as it is.
 fn keeps_exact(case: &Case, exact: &[u8]) -> Outcome {
     let mut output = vec![0; exact.len()];
-    let answer = library::check(&case.claim, exact, &case.limits, &mut output);
+    let answer = library::check(&case.claim, exact, &case.limits, case.profile, &mut output);
     same("acceptance of the exact proof", &true, &(answer < 1 << 16), case)?;
     same("output for the exact proof", &Hex(exact), &Hex(&output), case)
 }
 
 /// Compares an evaluation by the library: its answer, and the value, which is random before.
 fn evaluate(case: &Case, rng: &mut Rng) -> Compared<Integer> {
-    let exact = oracle::evaluate(&case.claim, &case.offsets);
+    let Case { claim, profile, offsets, .. } = case;
+    let exact = oracle::evaluate(claim, *profile, offsets);
     let mut value = rng.bits() as i64;
     let before = Integer::from(value);
-    let answer = library::evaluate(&case.claim, &case.offsets, &mut value);
+    let answer = library::evaluate(claim, *profile, offsets, &mut value);
 
     same("evaluation", &code(exact.as_ref(), |_| 0), &answer, case)?;
     same("value", exact.as_ref().unwrap_or(&before), &Integer::from(value), case)?;
     Ok(exact)
 }
 
-/// Compares the text that the program prints. It is not given the limits.
+/// Compares the text that the program prints. It is given neither the limits nor the profile.
 fn text(case: &Case) -> Compared<Accepted> {
     let input = case.input();
     let verdict = oracle::verdict(&input);
@@ -161,11 +163,12 @@ fn same<T: PartialEq + Display>(what: &str, oracle: &T, other: &T, case: &Case) 
     }
     Err(format!(
         "{what} differs\noracle   {oracle}\nanswered {other}\nclaim    {}\nproof    {}\n\
-         limits   {}\noutput   of {} bytes\npage     of {} bytes\noffsets  {:?}\n\
-         floors   from {} to {}",
+         limits   {}\nprofile  {:?}\noutput   of {} bytes\npage     of {} bytes\n\
+         offsets  {:?}\nfloors   from {} to {}",
         Hex(&case.claim),
         Hex(&case.proof),
         Hex(&case.limits),
+        case.profile,
         case.room,
         case.page,
         case.offsets,

@@ -9,7 +9,7 @@ use sheets::limited::minus_square;
 use sheets::masked::cube;
 use sheets::posts::{post_4, post_9};
 use sheets::random::{offsets, Kind, Rng};
-use sheets::{is_masked, Case, Example};
+use sheets::{is_masked, Case, Example, Profile};
 
 /// How many accepted sheets of each kind are looked at, and at how many places each.
 const SHEETS: usize = 300;
@@ -169,7 +169,7 @@ fn is_under_its_floor(example: &Example, case: &Case, offset: i32, value: i64) -
 /// The value that the library gives.
 fn value(claim: &[u8], offsets: &[i32]) -> Result<i64, String> {
     let mut value = 0;
-    match library::evaluate(claim, offsets, &mut value) {
+    match library::evaluate(claim, Profile::FULL, offsets, &mut value) {
         0 => Ok(value),
         answer => Err(format!("the answer is {answer} at {offsets:?}")),
     }

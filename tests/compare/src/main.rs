@@ -4,18 +4,20 @@
 //!     cargo run --bin compare [-- --seed N --cases N --library]
 //!
 //! `named` has the tests of single sheets, `limits` those of all fields of limits sheets, `pages`
-//! those of pages, `documents` those of the tables in other files, `floors` what a floor means,
-//! `random` each kind of random cases, `answers` the comparison itself. The program is the one that
-//! `rt check burmelox_check` writes, or that BURMELOX_PROGRAM names. `--library` leaves it out of
-//! the random cases.
+//! those of pages, `profiles` those of profiles, `larger` what larger ones leave as it is,
+//! `documents` the tables in other files, `floors` what a floor means, `random` each kind of random
+//! cases, `answers` the comparison itself. The program is the one that `rt check burmelox_check`
+//! writes, or that BURMELOX_PROGRAM names. `--library` leaves it out of the random cases.
 
 mod answers;
 mod documents;
 mod files;
 mod floors;
+mod larger;
 mod limits;
 mod named;
 mod pages;
+mod profiles;
 mod program;
 mod random;
 mod report;
@@ -40,6 +42,8 @@ fn main() -> ExitCode {
     named::run(&mut report);
     limits::run(&mut report);
     pages::run(&mut report);
+    profiles::run(&mut report);
+    larger::run(&mut report);
     documents::run(&mut report);
     floors::run(&mut report);
     random::run(&mut report, &options);

@@ -9,7 +9,7 @@ use sheets::limited::{self, LimitedExample};
 use sheets::random::Rng;
 use sheets::searches::{searches, Found, Search};
 use sheets::worked::{power_claim, square_input, SQUARE_CUTS};
-use sheets::{table, Case, Claim, Example, Proof, Row};
+use sheets::{table, Case, Claim, Example, Profile, Proof, Row};
 use std::process::Command;
 use std::{env, fs, process};
 
@@ -23,13 +23,20 @@ const C_PROGRAMS: [(&str, &str); 2] = [
          no limits: refused 24 at 0, sheet 6\n\
          third power: refused 25 at 0, sheet 6\n\
          no output: refused 11 at 0, sheet 3\n\
+         too many rows: refused 27 at 0, sheet 8\n\
+         first byte of the output 0\n\
          no row: 0\n\
+         no row in the least profile: 0\n\
+         first byte of the output 1\n\
          minus square within 3: 0\n\
          no page: refused 26 at 0, sheet 7\n\
+         too many rows for a page: refused 27 at 0, sheet 8\n\
+         refused 27 at 0                                                         \n\
          no claim for a page: refused 1 at 0, sheet 1\n\
          refused 1 at 0                                                          \n\
          a page: 0\n\
          accepted rows 0 scale 1 floor 0                                         \n\
+         too many rows to evaluate: refused 27 at 0, sheet 8\n\
          no claim to evaluate: refused 1 at 0, sheet 1\n\
          no offsets: refused 20 at 0, sheet 4\n\
          value 7\n\
@@ -37,6 +44,7 @@ const C_PROGRAMS: [(&str, &str); 2] = [
          no proof to search: refused 8 at 0, sheet 2\n\
          no limits to search: refused 24 at 0, sheet 6\n\
          no output to search: refused 11 at 0, sheet 3\n\
+         too many rows to search: refused 27 at 0, sheet 8\n\
          lo over hi: refused 22 at 0, sheet 5\n\
          one floor too many: refused 22 at 0, sheet 5\n\
          all numbers: refused 22 at 0, sheet 5\n\
@@ -172,7 +180,7 @@ fn comes_to_its_outcome(search: &Search) -> Outcome {
 
 fn reaches_2_to_56() -> Outcome {
     let mut value = 0;
-    let answer = library::evaluate(&power_claim(56).bytes(), &[2], &mut value);
+    let answer = library::evaluate(&power_claim(56).bytes(), Profile::FULL, &[2], &mut value);
     equal("the answer and the value", &(0, 1 << 56), &(answer, value))
 }
 

@@ -3,7 +3,9 @@
 use crate::answers;
 use crate::report::{Outcome, Report};
 use refusals::EntryPoint::{self, Check, Evaluation, PageCheck, Program, Search};
+use refusals::{BY_PROFILE, LIBRARY};
 use sheets::random::{Kind, Rng};
+use sheets::{Case, Profile};
 use std::collections::BTreeMap;
 
 /// How the cases are drawn, how many, and what they are held against.
@@ -13,9 +15,15 @@ pub struct Options {
     pub entry_points: Vec<EntryPoint>,
 }
 
-/// How often each entry point ended with each number; 0 stands for acceptances and values.
+/// An entry point, and the number that it ended with; 0 stands for acceptances and values.
+type Met = (EntryPoint, u32);
+
+/// How often each entry point ended with each number, and how often it did so by the profile alone.
 #[derive(Default)]
-struct Counts(BTreeMap<(EntryPoint, u32), usize>);
+struct Counts {
+    all: BTreeMap<Met, usize>,
+    by_profile: BTreeMap<Met, usize>,
+}
 
 pub fn run(report: &mut Report, options: &Options) {
     let Options { seed, entry_points, .. } = options;
@@ -34,6 +42,7 @@ pub fn run(report: &mut Report, options: &Options) {
     }
     counts.print(entry_points);
     report.add("every number is met", counts.are_complete(entry_points));
+    report.add("numbers are met by the profile alone", counts.are_complete_by_profile());
 }
 
 /// Draws a case, compares what it is answered, and sees that this is what it was made for.
@@ -45,9 +54,11 @@ fn run_case(
 ) -> Outcome {
     let case = kind.case(rng);
     for &entry_point in entry_points {
-        let met = answers::compare(entry_point, &case, rng)?;
-        let met = met.map_or(0, |refusal| refusal.number);
-        *counts.0.entry((entry_point, met)).or_default() += 1;
+        let met = number(entry_point, &case, rng)?;
+        *counts.all.entry((entry_point, met)).or_default() += 1;
+        if is_by_profile(entry_point, &case, met, rng)? {
+            *counts.by_profile.entry((entry_point, met)).or_default() += 1;
+        }
         if kind.expected(entry_point).is_some_and(|made_for| made_for != met) {
             return Err(format!("comes to {met} and was not made for that: {case:?}"));
         }
@@ -55,19 +66,53 @@ fn run_case(
     Ok(())
 }
 
+/// The number that the case comes to, 0 where it is accepted or has a value.
+fn number(entry_point: EntryPoint, case: &Case, rng: &mut Rng) -> Result<u32, String> {
+    let refusal = answers::compare(entry_point, case, rng)?;
+    Ok(refusal.map_or(0, |refusal| refusal.number))
+}
+
+/// The number that was met is of a check that reads the profile, and under the full profile, which
+/// is the program's in any case, the same sheets come to another.
+fn is_by_profile(
+    entry_point: EntryPoint,
+    case: &Case,
+    met: u32,
+    rng: &mut Rng,
+) -> Result<bool, String> {
+    if !BY_PROFILE.contains(&met) || case.profile == Profile::FULL || entry_point == Program {
+        return Ok(false);
+    }
+    Ok(met != number(entry_point, &case.clone().under(Profile::FULL), rng)?)
+}
+
+/// Each of these was met at least once.
+fn are_met(expected: impl Iterator<Item = Met>, counts: &BTreeMap<Met, usize>) -> Outcome {
+    let unmet: Vec<Met> = expected.filter(|met| !counts.contains_key(met)).collect();
+    if unmet.is_empty() {
+        Ok(())
+    } else {
+        Err(format!("not met: {unmet:?}"))
+    }
+}
+
 impl Counts {
     fn print(&self, entry_points: &[EntryPoint]) {
-        let line = |entry_point| {
-            let met = self.0.iter().filter(|((at, _), _)| *at == entry_point);
+        let list = |counts: &BTreeMap<Met, usize>, entry_point| {
+            let met = counts.iter().filter(|((at, _), _)| *at == entry_point);
             let met = met.map(|((_, number), count)| format!("{number}: {count}"));
             met.collect::<Vec<_>>().join(", ")
+        };
+        let line = |entry_point| {
+            let (all, tight) = (list(&self.all, entry_point), list(&self.by_profile, entry_point));
+            format!("{all}; by the profile alone {tight}")
         };
         println!("the library's checks by number, 0 for accepted: {}", line(Check));
         println!("the same with a page: {}", line(PageCheck));
         println!("the library's evaluations by number, 0 for a value: {}", line(Evaluation));
         println!("the library's searches by number, 0 for a floor: {}", line(Search));
         if entry_points.contains(&Program) {
-            println!("the program by number, 0 for accepted: {}", line(Program));
+            println!("the program by number, 0 for accepted: {}", list(&self.all, Program));
         } else {
             println!("the program was left out of the random cases; its numbers are not asked for");
         }
@@ -76,12 +121,13 @@ impl Counts {
     /// Each entry point met every number that it says, and accepted or gave values.
     fn are_complete(&self, entry_points: &[EntryPoint]) -> Outcome {
         let numbers = |at| [0].into_iter().chain(refusals::said_by(at)).map(move |n| (at, n));
-        let all = entry_points.iter().flat_map(|&entry_point| numbers(entry_point));
-        let unmet: Vec<_> = all.filter(|met| !self.0.contains_key(met)).collect();
-        if unmet.is_empty() {
-            Ok(())
-        } else {
-            Err(format!("not met: {unmet:?}"))
-        }
+        are_met(entry_points.iter().flat_map(|&at| numbers(at)), &self.all)
+    }
+
+    /// Each of the library's entry points met by the profile alone every number that goes by it.
+    fn are_complete_by_profile(&self) -> Outcome {
+        let read = |at| refusals::said_by(at).filter(|number| BY_PROFILE.contains(number));
+        let numbers = LIBRARY.into_iter().flat_map(|at| read(at).map(move |n| (at, n)));
+        are_met(numbers, &self.by_profile)
     }
 }

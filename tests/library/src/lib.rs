@@ -1,5 +1,7 @@
 //! The proved static library, as Rust calls it. `include/burmelox.h` says the same for C.
 
+pub use site::Profile;
+
 /// The archive that is linked.
 pub const ARCHIVE: &str = env!("BURMELOX_ARCHIVE");
 
@@ -11,6 +13,7 @@ extern "C" {
         proof_len: usize,
         limits: *const u8,
         limits_len: usize,
+        profile: Profile,
         output: *mut u8,
         output_len: usize,
     ) -> u64;
@@ -22,6 +25,7 @@ extern "C" {
         proof_len: usize,
         limits: *const u8,
         limits_len: usize,
+        profile: Profile,
         output: *mut u8,
         output_len: usize,
         page: *mut u8,
@@ -31,6 +35,7 @@ extern "C" {
     fn burmelox_evaluate(
         claim: *const u8,
         claim_len: usize,
+        profile: Profile,
         offsets: *const i32,
         offsets_len: usize,
         value: *mut i64,
@@ -43,6 +48,7 @@ extern "C" {
         proof_len: usize,
         limits: *const u8,
         limits_len: usize,
+        profile: Profile,
         lo: i64,
         hi: i64,
         output: *mut u8,
@@ -52,10 +58,16 @@ extern "C" {
     ) -> u64;
 }
 
-/// Checks a proof of a claim within limits. Answers the number of rows where it is accepted, and
-/// the first bytes of the output are then the exact proof; else the refusal: sheet × 2^32 + number
-/// × 2^16 + index.
-pub fn check(claim: &[u8], proof: &[u8], limits: &[u8], output: &mut [u8]) -> u64 {
+/// Checks a proof of a claim within limits, under a profile. Answers the number of rows where it is
+/// accepted, and the first bytes of the output are then the exact proof; else the refusal: sheet ×
+/// 2^32 + number × 2^16 + index.
+pub fn check(
+    claim: &[u8],
+    proof: &[u8],
+    limits: &[u8],
+    profile: Profile,
+    output: &mut [u8],
+) -> u64 {
     // SAFETY: each pointer comes with the length of its slice.
     unsafe {
         burmelox_check(
@@ -65,6 +77,7 @@ pub fn check(claim: &[u8], proof: &[u8], limits: &[u8], output: &mut [u8]) -> u6
             proof.len(),
             limits.as_ptr(),
             limits.len(),
+            profile,
             output.as_mut_ptr(),
             output.len(),
         )
@@ -77,6 +90,7 @@ pub fn check_page(
     claim: &[u8],
     proof: &[u8],
     limits: &[u8],
+    profile: Profile,
     output: &mut [u8],
     page: &mut [u8],
 ) -> u64 {
@@ -89,6 +103,7 @@ pub fn check_page(
             proof.len(),
             limits.as_ptr(),
             limits.len(),
+            profile,
             output.as_mut_ptr(),
             output.len(),
             page.as_mut_ptr(),
@@ -97,12 +112,19 @@ pub fn check_page(
     }
 }
 
-/// Evaluates a claim's polynomial at offsets. Answers 0 and stores the value, else a refusal as the
-/// check does.
-pub fn evaluate(claim: &[u8], offsets: &[i32], value: &mut i64) -> u64 {
+/// Evaluates a claim's polynomial at offsets, under a profile. Answers 0 and stores the value, else
+/// a refusal as the check does.
+pub fn evaluate(claim: &[u8], profile: Profile, offsets: &[i32], value: &mut i64) -> u64 {
     // SAFETY: each pointer comes with the length of its slice, and `value` is one number.
     unsafe {
-        burmelox_evaluate(claim.as_ptr(), claim.len(), offsets.as_ptr(), offsets.len(), value)
+        burmelox_evaluate(
+            claim.as_ptr(),
+            claim.len(),
+            profile,
+            offsets.as_ptr(),
+            offsets.len(),
+            value,
+        )
     }
 }
 
@@ -113,6 +135,7 @@ pub fn search(
     claim: &[u8],
     proof: &[u8],
     limits: &[u8],
+    profile: Profile,
     lo: i64,
     hi: i64,
     output: &mut [u8],
@@ -129,6 +152,7 @@ pub fn search(
             proof.len(),
             limits.as_ptr(),
             limits.len(),
+            profile,
             lo,
             hi,
             output.as_mut_ptr(),

@@ -5,7 +5,8 @@ use crate::claim::{self, Claim};
 use crate::limits::{self, Limits};
 use crate::proof::{self, Row};
 use crate::verdict::{refuse_at, refuse_if, Accepted, Refusal, Verdict};
-use crate::{Integer, Point};
+use crate::{profile, Integer, Point};
+use site::Profile;
 use std::collections::BTreeMap;
 
 /// A row's weights p, q, r after the shift.
@@ -17,43 +18,48 @@ type Targets = BTreeMap<Point, Integer>;
 /// The slots at each held point, in row order: the row, and which of its weights.
 type Slots = BTreeMap<Point, Vec<(usize, usize)>>;
 
-/// The verdict on a claim and a proof with limits and an output of `room` bytes.
-pub fn check(claim: &[u8], proof: &[u8], limits: &[u8], room: usize) -> Verdict {
-    Sheets::read(claim, proof, Some(limits), room)?.judge()
+/// The verdict on a claim and a proof with limits, a profile and an output of `room` bytes.
+pub fn check(claim: &[u8], proof: &[u8], limits: &[u8], profile: Profile, room: usize) -> Verdict {
+    Sheets::read(claim, proof, Some(limits), profile, room)?.judge()
 }
 
-/// The verdict where there is no limits sheet and no variable is limited.
+/// The verdict where there is no limits sheet and no variable is limited, under the full profile.
 pub fn check_unlimited(claim: &[u8], proof: &[u8], room: usize) -> Verdict {
-    Sheets::read(claim, proof, None, room)?.judge()
+    Sheets::read(claim, proof, None, Profile::FULL, room)?.judge()
 }
 
-/// Sheets that passed the checks 1 to 15, 24 and 25, with the bytes of the proof.
+/// Sheets that passed the checks 27, 1 to 15, 24 and 25, with the bytes of the proof and the
+/// greatest weight.
 pub struct Sheets<'a> {
     pub claim: Claim,
     scale: u32,
     rows: Vec<Row>,
     proof: &'a [u8],
     limits: Limits,
+    weight: Integer,
 }
 
 impl<'a> Sheets<'a> {
-    /// The sheets in the order of their checks: 1 to 10, 24, 25, 11, 12 to 15.
+    /// The sheets in the order of their checks: 27, 1 to 10, 24, 25, 11, 12 to 15.
     pub fn read(
         claim: &[u8],
         proof: &'a [u8],
         limits: Option<&[u8]>,
+        profile: Profile,
         room: usize,
     ) -> Result<Sheets<'a>, Refusal> {
-        let claim = claim::read(claim)?;
+        profile::check(profile)?;
+        let claim = claim::read(claim, profile)?;
         let n = claim.variables;
-        let (k, scale) = proof::header(proof, n)?;
+        let (k, scale) = proof::header(proof, n, profile)?;
         let limits = match limits {
             Some(sheet) => limits::read(sheet, n)?,
             None => Limits::default(),
         };
         refuse_if(11, room < proof.len())?;
-        let rows = proof::rows(proof, n, k)?;
-        Ok(Sheets { claim, scale, rows, proof, limits })
+        let rows = proof::rows(proof, n, k, profile)?;
+        let weight = Integer::from(profile.weight);
+        Ok(Sheets { claim, scale, rows, proof, limits, weight })
     }
 
     /// The verdict by 16 to 19.
@@ -63,7 +69,7 @@ impl<'a> Sheets<'a> {
         refuse_at(16, self.without_slot(&targets, &slots))?;
 
         let shifted = shift(&self.rows, &targets, &slots);
-        refuse_at(17, shifted.iter().position(is_beyond))?;
+        refuse_at(17, shifted.iter().position(|weights| is_beyond(weights, &self.weight)))?;
         refuse_at(18, shifted.iter().position(has_negative_end))?;
         refuse_at(19, shifted.iter().position(has_large_cross))?;
 
@@ -139,8 +145,8 @@ fn shift(rows: &[Row], targets: &Targets, slots: &Slots) -> Vec<Shifted> {
     shifted
 }
 
-fn is_beyond(weights: &Shifted) -> bool {
-    weights.iter().any(|weight| weight.abs() > Integer::from(1 << 30))
+fn is_beyond(weights: &Shifted, most: &Integer) -> bool {
+    weights.iter().any(|weight| weight.abs() > *most)
 }
 
 fn has_negative_end([p, q, _]: &Shifted) -> bool {
@@ -151,7 +157,7 @@ fn has_large_cross([p, q, r]: &Shifted) -> bool {
     r * r > &Integer::from(4) * &(p * q)
 }
 
-/// Judged weights, which are within ±2^30, in 32 bits each.
+/// Judged weights, which are within ±2^30 under every profile, in 32 bits each.
 fn narrow(weights: &Shifted) -> [i32; 3] {
     weights.each_ref().map(|weight| weight.to_i32().expect("17 refuses weights beyond ±2^30"))
 }

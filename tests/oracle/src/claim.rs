@@ -1,7 +1,8 @@
 //! The claim sheet: refusals 1 to 7.
 
 use crate::verdict::{refuse_at, refuse_if, Refusal};
-use crate::{beyond, points, too_high, word, words, Point};
+use crate::{beyond, points, too_high, word, words, Point, MOST};
+use site::Profile;
 
 /// A claim: the polynomial as its terms, the variables that are never negative, and the floor.
 pub struct Claim {
@@ -43,17 +44,17 @@ pub fn length(n: usize, t: usize) -> usize {
     8 + t * (n + 4)
 }
 
-/// The claim in the sheet.
-pub fn read(bytes: &[u8]) -> Result<Claim, Refusal> {
+/// The claim in the sheet, under a profile in range.
+pub fn read(bytes: &[u8], profile: Profile) -> Result<Claim, Refusal> {
     let (n, t) = header(bytes)?;
     refuse_if(3, bytes.len() != length(n, t))?;
     let floor = word(&bytes[4..8]);
     let (exponents, coefficients) = bytes[8..].split_at(t * n);
     let (points, coefficients) = (points(exponents, n), words(coefficients));
 
-    refuse_if(4, beyond(floor))?;
-    refuse_at(5, coefficients.iter().position(|&c| c == 0 || beyond(c)))?;
-    refuse_at(6, points.iter().position(too_high))?;
+    refuse_if(4, beyond(floor, MOST))?;
+    refuse_at(5, coefficients.iter().position(|&c| c == 0 || beyond(c, MOST)))?;
+    refuse_at(6, points.iter().position(|point| too_high(point, profile.exponent)))?;
     let falling = points.windows(2).position(|two| two[0] >= two[1]);
     refuse_at(7, falling.map(|index| index + 1))?;
     let terms = points.into_iter().zip(coefficients).collect();

@@ -1,12 +1,14 @@
-//! Evaluation: the exact value of a claim's polynomial, refusals 1 to 7, 20 and 21.
+//! Evaluation: the exact value of a claim's polynomial, refusals 27, 1 to 7, 20 and 21.
 
 use crate::claim::{self, Claim};
 use crate::verdict::{refuse_at, refuse_if, Refusal};
-use crate::Integer;
+use crate::{profile, Integer};
+use site::Profile;
 
 /// The exact value of the claim's polynomial at the offsets, where no term is over 2^56.
-pub fn evaluate(claim: &[u8], offsets: &[i32]) -> Result<Integer, Refusal> {
-    let polynomial = claim::read(claim)?;
+pub fn evaluate(claim: &[u8], profile: Profile, offsets: &[i32]) -> Result<Integer, Refusal> {
+    profile::check(profile)?;
+    let polynomial = claim::read(claim, profile)?;
     refuse_if(20, offsets.len() != polynomial.variables)?;
     let offsets: Vec<Integer> = offsets.iter().map(|&offset| Integer::from(offset)).collect();
     let terms = terms(&polynomial, &offsets);

@@ -5,6 +5,7 @@ use crate::claim;
 use crate::evaluate::{sum, terms};
 use crate::verdict::Refusal;
 use crate::{Integer, Point};
+use site::Profile;
 
 /// The floor and the polynomial's value, both multiplied by d to the polynomial's greatest total
 /// degree.
@@ -17,7 +18,7 @@ pub struct Sides {
 /// Each term, and the floor as a constant term, is multiplied by d to the degree it lacks of the
 /// claim's greatest total degree, which is 0 without terms.
 pub fn sides(claim: &[u8], floor: &Integer, h: &[Integer], d: u32) -> Result<Sides, Refusal> {
-    let polynomial = claim::read(claim)?;
+    let polynomial = claim::read(claim, Profile::FULL)?;
     let degrees: Vec<usize> = polynomial.terms.iter().map(|(point, _)| degree(point)).collect();
     let greatest = degrees.iter().copied().max().unwrap_or(0);
     let powers = powers(&Integer::from(d), greatest);

@@ -3,8 +3,8 @@
 //! Sheets are parsed into structures, targets and slots are kept in maps by point, and every
 //! number that is computed is an [`Integer`]. One module a section: `claim`, `proof`, `check`
 //! (targets, sharing, judging), `evaluate`, `text` (what the program prints). Of document 02,
-//! note 1 is `search`, note 4 `limits`, note 5 `fractions`, note 6 `page`, and the mask of note 3
-//! is in `claim`.
+//! note 1 is `search`, note 4 `limits`, note 5 `fractions`, note 6 `page`, note 7 `profile`, and
+//! the mask of note 3 is in `claim`.
 
 mod check;
 mod claim;
@@ -13,6 +13,7 @@ mod fractions;
 mod integer;
 mod limits;
 mod page;
+mod profile;
 mod proof;
 mod search;
 mod text;
@@ -30,12 +31,12 @@ pub use verdict::{Accepted, Refusal, Verdict};
 /// A point: its exponents, one for each variable. Points are ordered by the first variable first.
 type Point = Vec<u8>;
 
-/// The greatest exponent.
-const MOST_EXPONENT: u8 = 120;
+/// The greatest floor and the greatest coefficient, under every profile.
+const MOST: u32 = 1 << 30;
 
-/// A floor, a coefficient or a weight read from a sheet is beyond ±2^30.
-fn beyond(number: i32) -> bool {
-    number.unsigned_abs() > 1 << 30
+/// A floor, a coefficient or a weight read from a sheet is beyond ± the greatest.
+fn beyond(number: i32, most: u32) -> bool {
+    number.unsigned_abs() > most
 }
 
 /// The signed 32-bit number in four bytes.
@@ -53,7 +54,7 @@ fn points(bytes: &[u8], n: usize) -> Vec<Point> {
     bytes.chunks_exact(n).map(<[u8]>::to_vec).collect()
 }
 
-/// A point has an exponent that is too large.
-fn too_high(point: &Point) -> bool {
-    point.iter().any(|&exponent| exponent > MOST_EXPONENT)
+/// A point has an exponent over the greatest.
+fn too_high(point: &Point, most: u32) -> bool {
+    point.iter().any(|&exponent| u32::from(exponent) > most)
 }

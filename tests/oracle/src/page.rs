@@ -3,6 +3,7 @@
 use crate::check::check;
 use crate::text::first_line;
 use crate::verdict::{refuse_if, shifted_rows, Verdict};
+use site::Profile;
 
 /// The lines of a page, and the characters of each before its line feed.
 const LINES: usize = 40;
@@ -19,11 +20,18 @@ pub struct Paged {
 }
 
 /// A check with a page buffer of `length` bytes. Where 26 refuses that, no page is written.
-pub fn check_page(claim: &[u8], proof: &[u8], limits: &[u8], room: usize, length: usize) -> Paged {
+pub fn check_page(
+    claim: &[u8],
+    proof: &[u8],
+    limits: &[u8],
+    profile: Profile,
+    room: usize,
+    length: usize,
+) -> Paged {
     if let Err(refusal) = refuse_if(26, length != LINES * (WIDTH + 1)) {
         return Paged { verdict: Err(refusal), page: None };
     }
-    let verdict = check(claim, proof, limits, room);
+    let verdict = check(claim, proof, limits, profile, room);
     let page = Some(page(&verdict));
     Paged { verdict, page }
 }

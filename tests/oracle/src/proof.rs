@@ -2,6 +2,7 @@
 
 use crate::verdict::{refuse_at, refuse_if, Refusal};
 use crate::{beyond, points, too_high, words, Point};
+use site::Profile;
 
 /// A row: two points and the weights p, q, r proposed for it.
 pub struct Row {
@@ -32,24 +33,29 @@ impl Row {
 }
 
 /// The number of rows and the scale, for a claim of `n` variables: refusals 8 to 10.
-pub fn header(bytes: &[u8], n: usize) -> Result<(usize, u32), Refusal> {
+pub fn header(bytes: &[u8], n: usize, profile: Profile) -> Result<(usize, u32), Refusal> {
     refuse_if(8, bytes.len() < 8)?;
-    let k = usize::from(u16::from_le_bytes([bytes[2], bytes[3]]));
+    let k = u16::from_le_bytes([bytes[2], bytes[3]]);
     let scale = u32::from_le_bytes([bytes[4], bytes[5], bytes[6], bytes[7]]);
-    let header_is_right =
-        usize::from(bytes[0]) == n && bytes[1] == 0 && k <= 256 && (1..=1 << 20).contains(&scale);
+    let header_is_right = usize::from(bytes[0]) == n
+        && bytes[1] == 0
+        && u32::from(k) <= profile.rows
+        && (1..=1 << 20).contains(&scale);
     refuse_if(9, !header_is_right)?;
+    let k = usize::from(k);
     refuse_if(10, bytes.len() != 8 + k * (2 * n + 12))?;
     Ok((k, scale))
 }
 
 /// The `k` rows of a sheet whose header is right: refusals 12 to 15.
-pub fn rows(bytes: &[u8], n: usize, k: usize) -> Result<Vec<Row>, Refusal> {
+pub fn rows(bytes: &[u8], n: usize, k: usize, profile: Profile) -> Result<Vec<Row>, Refusal> {
     let rows = read_rows(&bytes[8..], n, k);
-    refuse_at(12, rows.iter().position(|row| too_high(&row.v) || too_high(&row.w)))?;
+    let is_high = |point| too_high(point, profile.exponent);
+    let is_heavy = |&weight: &i32| beyond(weight, profile.weight);
+    refuse_at(12, rows.iter().position(|row| is_high(&row.v) || is_high(&row.w)))?;
     refuse_at(13, rows.iter().position(|row| row.midpoint().is_none()))?;
     refuse_at(14, rows.iter().position(|row| row.is_lone() && row.weights[1..] != [0, 0]))?;
-    refuse_at(15, rows.iter().position(|row| row.weights.iter().any(|&weight| beyond(weight))))?;
+    refuse_at(15, rows.iter().position(|row| row.weights.iter().any(is_heavy)))?;
     Ok(rows)
 }
 

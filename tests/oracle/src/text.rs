@@ -14,7 +14,7 @@ pub fn text(input: &[u8]) -> String {
 }
 
 /// The verdict on the input: the claim as long as its header says, directly after it the proof, no
-/// variable limited, an output as long as the proof.
+/// variable limited, the full profile, an output as long as the proof.
 pub fn verdict(input: &[u8]) -> Verdict {
     let (claim, proof) = split(&input[..input.len().min(MOST_INPUT)]);
     check_unlimited(claim, proof, proof.len())

@@ -1,5 +1,5 @@
 //! The oracle against documents 01 and 02: the examples, the table of refusals, the program's
-//! input, masks, evaluations and searches. Limits and pages have files of their own.
+//! input, masks, evaluations and searches. Limits, pages and profiles have files of their own.
 
 mod common;
 
@@ -9,7 +9,7 @@ use sheets::masked::{b_claim, cube, product_claim};
 use sheets::worked::{
     lone_proof, motzkin_claim, power_claim, square_claim, square_input, square_proof, SQUARE_CUTS,
 };
-use sheets::{posts, searches, table, Case, Claim, Proof};
+use sheets::{posts, searches, table, Case, Claim, Profile, Proof};
 use std::collections::BTreeSet;
 
 #[test]
@@ -53,6 +53,7 @@ fn refusals_blame_a_sheet() {
         (Sheet::Range, vec![22, 23]),
         (Sheet::Limits, vec![24, 25]),
         (Sheet::Page, vec![26]),
+        (Sheet::Profile, vec![27]),
     ];
     for (sheet, numbers) in blamed {
         for number in numbers {
@@ -63,15 +64,15 @@ fn refusals_blame_a_sheet() {
     assert_eq!(third_row.code(), (2 << 32) + (19 << 16) + 2);
 }
 
-/// Of the numbers that document 01 and notes 1 to 6 of document 02 define, up to 26.
+/// Of the numbers that document 01 and notes 1 to 7 of document 02 define, up to 27.
 #[test]
 fn entry_points_say_their_numbers_in_the_order_of_checks() {
-    let said = |entry_point| said_by(entry_point).filter(|&number| number <= 26);
-    let to_15 = || (1..=10).chain([24, 25]).chain(11..=15);
+    let said = |entry_point| said_by(entry_point).filter(|&number| number <= 27);
+    let to_15 = || [27].into_iter().chain(1..=10).chain([24, 25]).chain(11..=15);
     let to_19 = || to_15().chain(16..=19);
     assert!(said(EntryPoint::Check).eq(to_19()));
     assert!(said(EntryPoint::PageCheck).eq([26].into_iter().chain(to_19())));
-    assert!(said(EntryPoint::Evaluation).eq((1..=7).chain([20, 21])));
+    assert!(said(EntryPoint::Evaluation).eq([27].into_iter().chain(1..=7).chain([20, 21])));
     assert!(said(EntryPoint::Search).eq(to_15().chain([22, 23])));
     assert!(said(EntryPoint::Program).eq((1..=10).chain(12..=19)));
 }
@@ -157,7 +158,7 @@ fn a_mask_has_bits_of_variables_only() {
     }
     let mut claim = b_claim(1).bytes();
     claim[3] = 1;
-    assert_eq!(evaluate(&claim, &[0]), Err(CLAIM_HEADER));
+    assert_eq!(evaluate(&claim, Profile::FULL, &[0]), Err(CLAIM_HEADER));
 }
 
 /// 16 names the first term without a slot by the order of terms alone.
@@ -176,13 +177,13 @@ fn an_accepted_claim_may_be_under_its_floor_at_a_masked_negative_offset() {
     let cube = cube();
     assert_eq!(shifted(cube.claim.clone(), &cube.proof), Ok(vec![[1, 0, 0]]));
     assert_eq!(cube.claim.floor, 0);
-    assert_eq!(evaluate(&cube.claim.bytes(), &[-2]), Ok(Integer::from(-8)));
-    assert_eq!(evaluate(&cube.claim.bytes(), &[2]), Ok(Integer::from(8)));
+    assert_eq!(evaluate(&cube.claim.bytes(), Profile::FULL, &[-2]), Ok(Integer::from(-8)));
+    assert_eq!(evaluate(&cube.claim.bytes(), Profile::FULL, &[2]), Ok(Integer::from(8)));
 }
 
 #[test]
 fn evaluations_are_exact() {
-    let value = |claim: Claim, offsets: &[i32]| evaluate(&claim.bytes(), offsets);
+    let value = |claim: Claim, offsets: &[i32]| evaluate(&claim.bytes(), Profile::FULL, offsets);
     let square = || square_claim(0, -2);
     assert_eq!(value(power_claim(56), &[2]), Ok(Integer::from(1i64 << 56)));
     assert_eq!(value(power_claim(57), &[2]), Err(Refusal { number: 21, index: 0 }));
@@ -198,15 +199,19 @@ fn evaluations_are_exact() {
 #[test]
 fn a_zero_offset_makes_its_term_zero_however_large_the_rest() {
     let claim = Claim::new(0, &[([0, 0], 7), ([120, 1], 1)]).bytes();
-    assert_eq!(evaluate(&claim, &[i32::MIN, 0]), Ok(Integer::from(7)));
-    assert_eq!(evaluate(&claim, &[i32::MIN, 1]), Err(Refusal { number: 21, index: 1 }));
+    assert_eq!(evaluate(&claim, Profile::FULL, &[i32::MIN, 0]), Ok(Integer::from(7)));
+    assert_eq!(
+        evaluate(&claim, Profile::FULL, &[i32::MIN, 1]),
+        Err(Refusal { number: 21, index: 1 })
+    );
 }
 
 #[test]
 fn searches_come_to_their_outcomes() {
     for searches::Search { name, case, outcome } in searches::searches() {
-        let Case { claim, proof, limits, room, lo, hi, .. } = case;
-        let found = search(&claim, &proof, &limits, room, lo, hi).map(|found| searches::Found {
+        let Case { claim, proof, limits, profile, room, lo, hi, .. } = case;
+        let found = search(&claim, &proof, &limits, profile, room, lo, hi);
+        let found = found.map(|found| searches::Found {
             floor: found.accepted.floor.into(),
             tried: found.tried,
             exact: found.accepted.bytes,

@@ -38,7 +38,7 @@ fn over_1_the_value_is_that_of_an_evaluation() {
     let mut given = 0;
     for _ in 0..1000 {
         let case = Kind::Accepted.case(&mut rng);
-        let Ok(value) = evaluate(&case.claim, &case.offsets) else { continue };
+        let Ok(value) = evaluate(&case.claim, case.profile, &case.offsets) else { continue };
         given += 1;
         let sides = at(&case.claim, -7, &case.offsets, 1);
         assert_eq!(sides, Sides { floor: Integer::from(-7), value });

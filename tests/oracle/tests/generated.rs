@@ -4,8 +4,8 @@ mod common;
 
 use oracle::{check, check_unlimited, evaluate, search, Integer, Refusal, Verdict};
 use refusals::LIBRARY;
-use sheets::random::{Kind, Plan, Rng, Shape};
-use sheets::{Case, Limits, MOST};
+use sheets::random::{larger, Kind, Plan, Rng, Shape};
+use sheets::{Case, Limits, Profile, MOST};
 use std::collections::BTreeSet;
 
 /// The kinds of accepted cases.
@@ -41,7 +41,7 @@ fn every_kind_comes_to_what_it_was_made_for() {
 
 /// The verdict on the case.
 fn verdict(case: &Case) -> Verdict {
-    check(&case.claim, &case.proof, &case.limits, case.room)
+    check(&case.claim, &case.proof, &case.limits, case.profile, case.room)
 }
 
 /// The verdict on the case with another mask.
@@ -51,7 +51,7 @@ fn with_mask(case: &Case, mask: u8) -> Verdict {
     verdict(&Case { claim, ..case.clone() })
 }
 
-/// The verdict on the case without its limits.
+/// The verdict on the case without its limits, under the full profile.
 fn without_limits(case: &Case) -> Verdict {
     check_unlimited(&case.claim, &case.proof, case.room)
 }
@@ -77,7 +77,8 @@ fn masks_count_among_the_accepted() {
     assert!(partly > 10, "{partly} of them do not keep every sign");
 }
 
-/// Where no variable is limited, a check says what it says without a limits sheet.
+/// Where no variable is limited and the profile is full, a check says what it says without a limits
+/// sheet.
 #[test]
 fn unlimited_cases_are_judged_as_before() {
     for kind in Kind::all() {
@@ -85,7 +86,7 @@ fn unlimited_cases_are_judged_as_before() {
         for _ in 0..100 {
             let case = kind.case(&mut rng);
             let n = case.claim.first().copied().unwrap_or(0);
-            let unlimited = case.limited(&Limits::none(n));
+            let unlimited = case.limited(&Limits::none(n)).under(Profile::FULL);
             assert_eq!(verdict(&unlimited), without_limits(&unlimited), "{kind}");
         }
     }
@@ -122,6 +123,60 @@ fn limits_count_among_the_accepted() {
     assert!(added > 100, "{added} pure powers are no claim terms");
 }
 
+/// Cases that the profile alone refuses are accepted under the full one, as they were before.
+#[test]
+fn tight_profiles_refuse_what_the_full_one_accepts() {
+    for number in refusals::BY_PROFILE {
+        let mut rng = Rng::new(10);
+        for _ in 0..200 {
+            let case = Kind::Tight(number).case(&mut rng);
+            assert_eq!(verdict(&case).map_err(|refusal| refusal.number), Err(number));
+            assert!(verdict(&case.under(Profile::FULL)).is_ok(), "{number}");
+        }
+    }
+}
+
+/// What is accepted under a profile is accepted under larger ones, with the same exact proof.
+#[test]
+fn larger_profiles_accept_alike() {
+    for kind in ACCEPTED {
+        let mut rng = Rng::new(11);
+        for _ in 0..200 {
+            let case = kind.case(&mut rng);
+            let profile = larger(&mut rng, case.profile);
+            assert_eq!(verdict(&case), verdict(&case.clone().under(profile)), "{kind}");
+        }
+    }
+}
+
+/// About half of the accepted cases have the full profile, and of the others many one that is as
+/// small as they allow: any number of it less by one refuses them.
+#[test]
+fn accepted_cases_have_full_and_tight_profiles() {
+    let (mut full, mut tight) = (0, 0);
+    for kind in ACCEPTED {
+        let mut rng = Rng::new(12);
+        for _ in 0..200 {
+            let case = kind.case(&mut rng);
+            full += usize::from(case.profile == Profile::FULL);
+            let is_refused = |&profile: &Profile| verdict(&case.clone().under(profile)).is_err();
+            tight += usize::from(smaller(case.profile).iter().all(is_refused));
+        }
+    }
+    assert!((250..400).contains(&full), "{full} cases of 600 have the full profile");
+    assert!(tight > 100, "{tight} cases need all of their profile");
+}
+
+/// The profiles that are less by one in one number.
+fn smaller(profile: Profile) -> [Profile; 3] {
+    let Profile { exponent, weight, rows } = profile;
+    [
+        Profile { exponent: exponent.wrapping_sub(1), ..profile },
+        Profile { weight: weight - 1, ..profile },
+        Profile { rows: rows.wrapping_sub(1), ..profile },
+    ]
+}
+
 /// Points that limits add are named behind the constant.
 #[test]
 fn added_points_without_a_slot_are_met() {
@@ -135,7 +190,8 @@ fn added_points_without_a_slot_are_met() {
     assert_eq!(named, (0..8).collect());
 }
 
-/// A search finds the highest of the carried floors, and none past the lowest.
+/// A search finds the highest of the carried floors, and none past the lowest, also where the
+/// profile allows no more than the plan needs.
 #[test]
 fn carried_floors_are_found() {
     const TOP: i64 = MOST as i64;
@@ -144,8 +200,9 @@ fn carried_floors_are_found() {
     for _ in 0..1000 {
         let plan = Plan::random(&mut rng, Shape::random, &[]);
         let (claim, proof, limits) = (plan.claim.bytes(), plan.proof.bytes(), plan.limits.bytes());
-        let found = |lo, hi| search(&claim, &proof, &limits, proof.len(), lo, hi);
-        let (low, high) = plan.carried().into_inner();
+        let profile = rng.pick(&[Profile::FULL, plan.needed()]);
+        let found = |lo, hi| search(&claim, &proof, &limits, profile, proof.len(), lo, hi);
+        let (low, high) = plan.carried(profile.weight).into_inner();
         let highest = found((high - 2).max(-TOP), (high + 2).min(TOP)).expect("one is carried");
         let tried = (high + 2).min(TOP) - high + 1;
         assert_eq!((highest.accepted.floor.into(), highest.tried.into()), (high, tried));
@@ -179,6 +236,7 @@ fn plans_reach_the_limits() {
 fn values_reach_64_times_2_to_56() {
     let mut rng = Rng::new(4);
     let cases = (0..200).map(|_| Kind::Largest.case(&mut rng));
-    let values = cases.map(|case| evaluate(&case.claim, &case.offsets).expect("no term is over"));
+    let values = cases
+        .map(|case| evaluate(&case.claim, case.profile, &case.offsets).expect("no term is over"));
     assert_eq!(values.max(), Some(Integer::from(1i64 << 62)));
 }

@@ -3,12 +3,12 @@
 use oracle::{check, evaluate, printed, search, Integer, Refusal};
 use sheets::limited::{self, minus_square, minus_square_claim, parabola_claim};
 use sheets::worked::{lone_proof, square_claim, square_proof};
-use sheets::{Case, Claim, Limit, Limits, Proof};
+use sheets::{Case, Claim, Limit, Limits, Profile, Proof};
 
 /// The shifted weights of an accepted case.
 fn shifted(case: &Case) -> Result<Vec<[i32; 3]>, Refusal> {
-    let Case { claim, proof, limits, room, .. } = case;
-    check(claim, proof, limits, *room).map(|accepted| accepted.weights)
+    let Case { claim, proof, limits, profile, room, .. } = case;
+    check(claim, proof, limits, *profile, *room).map(|accepted| accepted.weights)
 }
 
 /// The same of a claim and a proof with limits.
@@ -33,8 +33,8 @@ fn second(entry: Limit) -> Limits {
 #[test]
 fn examples_with_limits_come_to_their_text() {
     for limited in limited::examples() {
-        let Case { claim, proof, limits, room, .. } = limited.case();
-        let text = printed(&check(&claim, &proof, &limits, room));
+        let Case { claim, proof, limits, profile, room, .. } = limited.case();
+        let text = printed(&check(&claim, &proof, &limits, profile, room));
         assert_eq!(text, limited.example.text, "{}", limited.example.name);
     }
 }
@@ -43,9 +43,9 @@ fn examples_with_limits_come_to_their_text() {
 #[test]
 fn accepted_examples_have_the_highest_floor() {
     for limited in limited::examples() {
-        let Case { claim, proof, limits, room, lo, .. } = limited.case();
-        if let Ok(accepted) = check(&claim, &proof, &limits, room) {
-            let found = search(&claim, &proof, &limits, room, lo - 1, lo + 100);
+        let Case { claim, proof, limits, profile, room, lo, .. } = limited.case();
+        if let Ok(accepted) = check(&claim, &proof, &limits, profile, room) {
+            let found = search(&claim, &proof, &limits, profile, room, lo - 1, lo + 100);
             let found = found.map(|found| found.accepted);
             assert_eq!(found, Ok(accepted), "{}", limited.example.name);
         }
@@ -208,7 +208,7 @@ fn limits_are_read_between_the_proof_and_the_output() {
 fn an_accepted_claim_may_be_under_its_floor_outside_the_limits() {
     let limited = minus_square();
     assert_eq!(shifted(&limited.case()), Ok(vec![]));
-    let value = |offset| evaluate(&limited.example.claim.bytes(), &[offset]);
+    let value = |offset| evaluate(&limited.example.claim.bytes(), Profile::FULL, &[offset]);
     assert_eq!(value(3), Ok(Integer::from(-9)));
     assert_eq!(value(-4), Ok(Integer::from(-16)));
 }

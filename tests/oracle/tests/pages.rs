@@ -3,11 +3,11 @@
 use oracle::{check_page, Paged, Refusal};
 use refusals::{rule, EntryPoint};
 use sheets::pages::{self, lone_rows};
-use sheets::worked::{square_claim, square_proof};
+use sheets::worked::{square_case, square_claim, square_proof};
 use sheets::{table, Case, Claim, Proof, MOST, PAGE_LENGTH};
 
 fn paged(case: &Case) -> Paged {
-    check_page(&case.claim, &case.proof, &case.limits, case.room, case.page)
+    check_page(&case.claim, &case.proof, &case.limits, case.profile, case.room, case.page)
 }
 
 /// The 40 lines of the page, without the spaces that fill them up to 72 characters.
@@ -17,10 +17,6 @@ fn lines(case: &Case) -> Vec<String> {
     assert_eq!((lines.len(), page.len()), (40, PAGE_LENGTH));
     assert!(lines.iter().all(|line| line.len() == 73));
     lines.iter().map(|line| line.trim_end().to_string()).collect()
-}
-
-fn square() -> Case {
-    Case::new(&square_claim(0, -2), &square_proof())
 }
 
 #[test]
@@ -87,9 +83,9 @@ fn shifted_weights_are_on_the_page() {
 #[test]
 fn a_page_of_wrong_length_is_refused_before_all_else() {
     let wrong = Paged { verdict: Err(Refusal { number: 26, index: 0 }), page: None };
-    let empty = Case { claim: vec![], ..square() };
+    let empty = Case { claim: vec![], ..square_case() };
     for page in [0, 1, 72, 73, 2880, PAGE_LENGTH - 1, PAGE_LENGTH + 1, 2 * PAGE_LENGTH] {
-        assert_eq!(paged(&Case { page, ..square() }), wrong, "{page}");
+        assert_eq!(paged(&Case { page, ..square_case() }), wrong, "{page}");
         assert_eq!(paged(&Case { page, ..empty.clone() }), wrong, "{page}");
     }
     assert_eq!(lines(&empty)[0], "refused 1 at 0");

@@ -2,7 +2,7 @@
 //! the order of checks. A request that adds a number adds a row here.
 
 use EntryPoint::{Check, Evaluation, PageCheck, Program, Search};
-use Sheet::{Claim, Limits, Offsets, Output, Page, Proof, Range};
+use Sheet::{Claim, Limits, Offsets, Output, Page, Profile, Proof, Range};
 
 /// The sheet at fault, numbered as the library's answers have it.
 #[derive(Clone, Copy, Debug, PartialEq, Eq)]
@@ -64,12 +64,13 @@ const LIBRARY_CHECKS: &[EntryPoint] = &[Check, PageCheck, Search];
 const JUDGES: &[EntryPoint] = &[Check, PageCheck, Program];
 
 /// The rules in the order of their checks: the place in this list is the place in that order, and
-/// the number says nothing of it: 26 stands before 1, 24 and 25 after 10, and 22 after 15. Later
-/// requests put 38 before 26, 27 between 26 and 1, 39 between 10 and 24, and 34 between 12 and 13.
-/// The program never says 11, since its output is as long as the proof, nor 24 and 25, since it
-/// limits no variable.
+/// the number says nothing of it: 26 and 27 stand before 1, 24 and 25 after 10, and 22 after 15.
+/// Later requests put 38 before 26, 39 between 10 and 24, and 34 between 12 and 13. The program
+/// never says 11, since its output is as long as the proof, nor 24 and 25, since it limits no
+/// variable, nor 27, since its profile is the full one.
 pub const RULES: &[Rule] = &[
     Rule::new(26, Page, &[PageCheck]),
+    Rule::new(27, Profile, &LIBRARY),
     Rule::new(1, Claim, CLAIM_READERS),
     Rule::new(2, Claim, CLAIM_READERS),
     Rule::new(3, Claim, CLAIM_READERS),
@@ -96,6 +97,9 @@ pub const RULES: &[Rule] = &[
     Rule::new(21, Claim, &[Evaluation]),
     Rule::new(23, Range, &[Search]),
 ];
+
+/// The numbers of the checks that read the profile.
+pub const BY_PROFILE: [u32; 5] = [6, 9, 12, 15, 17];
 
 /// The rule of a number.
 pub fn rule(number: u32) -> &'static Rule {

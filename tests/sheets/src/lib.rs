@@ -2,8 +2,8 @@
 //!
 //! `worked`, `masked`, `posts` and `papers` hold sheets with the text the program prints for them,
 //! `limited` those with limits and what a check says of them, `pages` pages of some of them,
-//! `table` the examples of the table of refusals, `searches` searches with what they find, `random`
-//! the generators.
+//! `profiles` sheets under profiles, `table` the examples of the table of refusals, `searches`
+//! searches with what they find, `random` the generators.
 
 pub mod limited;
 pub mod limits;
@@ -11,17 +11,19 @@ pub mod masked;
 pub mod pages;
 pub mod papers;
 pub mod posts;
+pub mod profiles;
 pub mod random;
 pub mod searches;
 pub mod table;
 pub mod worked;
 
 pub use limits::{Limit, Limits};
+pub use site::Profile;
 
 /// A point: its exponents.
 pub type Point = Vec<u8>;
 
-/// The greatest weight, coefficient and floor.
+/// The greatest weight under any profile, and the greatest coefficient and floor under all.
 pub const MOST: i32 = 1 << 30;
 
 /// A claim has at most so many terms.
@@ -74,15 +76,16 @@ pub struct Example {
     pub text: &'static str,
 }
 
-/// What one test hands to the check (three sheets and an output of `room` bytes), to the check with
-/// a page (the same, and a page buffer of `page` bytes), to an evaluation (the claim and the
-/// offsets) and to a search (as to the check, and floors from `lo` to `hi`). The program is given
-/// the claim and the proof alone.
+/// What one test hands to the check (three sheets, a profile and an output of `room` bytes), to the
+/// check with a page (the same, and a page buffer of `page` bytes), to an evaluation (the claim,
+/// the profile and the offsets) and to a search (as to the check, and floors from `lo` to `hi`).
+/// The program is given the claim and the proof alone.
 #[derive(Clone, Debug)]
 pub struct Case {
     pub claim: Vec<u8>,
     pub proof: Vec<u8>,
     pub limits: Vec<u8>,
+    pub profile: Profile,
     pub room: usize,
     pub page: usize,
     pub offsets: Vec<i32>,
@@ -174,19 +177,25 @@ impl Example {
 }
 
 impl Case {
-    /// A check with no variable limited, an output as long as the proof and a page of the right
-    /// length, an evaluation at zeros, and a search among the claim's own floor alone.
+    /// A check with no variable limited, the full profile, an output as long as the proof and a
+    /// page of the right length, an evaluation at zeros, and a search among the claim's own floor
+    /// alone.
     pub fn new(claim: &Claim, proof: &Proof) -> Case {
         let (floor, offsets) = (claim.floor.into(), vec![0; claim.n.into()]);
         let limits = Limits::none(claim.n).bytes();
         let (claim, proof) = (claim.bytes(), proof.bytes());
-        let (room, page) = (proof.len(), PAGE_LENGTH);
-        Case { claim, proof, limits, room, page, offsets, lo: floor, hi: floor }
+        let (profile, room, page) = (Profile::FULL, proof.len(), PAGE_LENGTH);
+        Case { claim, proof, limits, profile, room, page, offsets, lo: floor, hi: floor }
     }
 
     /// The case with limits.
     pub fn limited(self, limits: &Limits) -> Case {
         Case { limits: limits.bytes(), ..self }
+    }
+
+    /// The case under a profile.
+    pub fn under(self, profile: Profile) -> Case {
+        Case { profile, ..self }
     }
 
     /// The program's input: the claim and directly after it the proof.

@@ -1,6 +1,6 @@
 //! The worked sheets A to J of document 01, and H with two rows exchanged.
 
-use crate::{Claim, Example, Proof};
+use crate::{Case, Claim, Example, Proof};
 
 /// The claim of Square, x² − 2x + 1, with a floor and a coefficient at point 1.
 pub fn square_claim(floor: i32, middle: i32) -> Claim {
@@ -10,6 +10,11 @@ pub fn square_claim(floor: i32, middle: i32) -> Claim {
 /// The proof of Square: S 1 and one row 0, 2 weighted 1, 1, −2.
 pub fn square_proof() -> Proof {
     Proof::new(1, &[([0], [2], [1, 1, -2])])
+}
+
+/// Square as a case.
+pub fn square_case() -> Case {
+    Case::new(&square_claim(0, -2), &square_proof())
 }
 
 /// The program's input for Square, of 45 bytes: the claim, and from byte 23 on the proof.

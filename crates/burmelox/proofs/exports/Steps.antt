@@ -8,6 +8,7 @@ use native.Mathlib.Omega.{arith}
 use lib.IntN.{ℤ}
 use lib.ListN.{length}
 use Rattle.integers.proofs.words.Laws.{Bytes}
+use Rattle.bounds.specs.declared.profiles.Profile.{Profile}
 use Rattle.answers.specs.Answers.{Answer, sheetNumber, accepted, refused, says, Passes, Short}
 use Rattle.answers.specs.declared.answers.Sheet.{Sheet}
 use Rattle.answers.specs.declared.answers.Verdict.{Verdict}
@@ -17,7 +18,8 @@ use Rattle.sheets.specs.Layout.{rowCount}
 use Rattle.judging.specs.Check.{checkAnswer, outputOf}
 use Rattle.judging.specs.Promises.{LongEnough, CheckPromises}
 use Rattle.judging.proofs.Promises.{accepted-rows, check-short, check-promises}
-use Rattle.evaluation.specs.Evaluations.{value, tells, evaluationAnswer, evaluationOf, EvaluationPromises}
+use Rattle.evaluation.specs.Evaluations.{value, tells, evaluationAnswer, evaluationOf}
+use Rattle.evaluation.specs.Promises.{EvaluationPromises}
 use Rattle.evaluation.specs.declared.evaluations.Evaluation.{Evaluation}
 use Rattle.evaluation.specs.declared.evaluations.Evaluation.the-variants.{Value, Refused}
 use Rattle.evaluation.proofs.Promises.{evaluation-promises}
@@ -78,112 +80,112 @@ module _ (a : Answer) (r : ℕ) (e : r ≡ codeOf a) where
 
 -- ---- burmelox_check: v is the verdict, r its code, o the output afterwards
 
-module _ (c s ls out : List ℕ) (v : Verdict) (e : says v ≡ checkAnswer c s ls (length out)) (bc : Bytes c)
+module _ (c s ls : List ℕ) (π : Profile) (out : List ℕ) (v : Verdict) (e : says v ≡ checkAnswer c s ls π (length out)) (bc : Bytes c)
     (bs : Bytes s) where
   pub checked-short : Short 65536 (says v)
-  checked-short = rw e (check-short c s ls (length out) (omega arith) bc bs)
+  checked-short = rw e (check-short c s ls π (length out) (omega arith) bc bs)
 
   module _ (r : ℕ) (er : r ≡ codeOf (says v)) where
     abbrev answer : Answer
-    answer = checkAnswer c s ls (length out)
+    answer = checkAnswer c s ls π (length out)
 
     pub check-code : r ≡ codeOf answer
     check-code = er ∙ ap codeOf e
 
     pub check-coded : Coded answer r
     check-coded =
-        coded answer r check-code (check-short c s ls (length out) (omega arith) bc bs) (rowCount s)
-        (accepted-rows c s ls (length out))
+        coded answer r check-code (check-short c s ls π (length out) (omega arith) bc bs) (rowCount s)
+        (accepted-rows c s ls π (length out))
 
-    pub check-promised : (o : List ℕ) → o ≡ outputOf c s ls out
-        → CheckPromises c s ls out (LongEnough s out) (Accepted r) r o
+    pub check-promised : (o : List ℕ) → o ≡ outputOf c s ls π out
+        → CheckPromises c s ls π out (LongEnough s out) (Accepted r) r o
     check-promised =
-        check-promises c s ls out _ _ _ (λ e. e) (check-coded .accepted)
-        (λ h. accepted-code _ _ check-code _ (accepted-rows c s ls (length out) h)) bs
+        check-promises c s ls π out _ _ _ (λ e. e) (check-coded .accepted)
+        (λ h. accepted-code _ _ check-code _ (accepted-rows c s ls π (length out) h)) bs
 
 -- ---- burmelox_check_page: v is the verdict, r its code, o and p are the output and the page afterwards
 
-module _ (c s ls out page : List ℕ) (v : Verdict) (e : says v ≡ pageAnswer c s ls (length out) (length page))
+module _ (c s ls : List ℕ) (π : Profile) (out page : List ℕ) (v : Verdict) (e : says v ≡ pageAnswer c s ls π (length out) (length page))
     (bc : Bytes c) (bs : Bytes s) where
   pub paged-short : Short 65536 (says v)
-  paged-short = rw e (page-short c s ls (length out) (length page) (omega arith) bc bs)
+  paged-short = rw e (page-short c s ls π (length out) (length page) (omega arith) bc bs)
 
   module _ (r : ℕ) (er : r ≡ codeOf (says v)) where
-    pub page-code : r ≡ codeOf (pageAnswer c s ls (length out) (length page))
+    pub page-code : r ≡ codeOf (pageAnswer c s ls π (length out) (length page))
     page-code = er ∙ ap codeOf e
 
-    pub page-coded : Coded (pageAnswer c s ls (length out) (length page)) r
+    pub page-coded : Coded (pageAnswer c s ls π (length out) (length page)) r
     page-coded =
-        coded _ r page-code (page-short c s ls (length out) (length page) (omega arith) bc bs) (rowCount s)
-        (page-rows c s ls out page)
+        coded _ r page-code (page-short c s ls π (length out) (length page) (omega arith) bc bs) (rowCount s)
+        (page-rows c s ls π out page)
 
-    pub page-promised : (o p : List ℕ) → o ≡ pageOutput c s ls out (length page)
-        → p ≡ pageAfter c s ls (length out) page → (A : Type 0) (k : ℕ) → PagePromises c s ls out page A k o p
-        → PagePromises c s ls out page (Accepted r) r o p
+    pub page-promised : (o p : List ℕ) → o ≡ pageOutput c s ls π out (length page)
+        → p ≡ pageAfter c s ls π (length out) page → (A : Type 0) (k : ℕ) → PagePromises c s ls π out page A k o p
+        → PagePromises c s ls π out page (Accepted r) r o p
     page-promised o p eo ep A k given =
-        page-promises c s ls out page _ _ (page-coded .accepted)
-        (λ h. accepted-code _ _ page-code _ (page-rows c s ls out page h)) bc bs o p eo ep (given .lined)
+        page-promises c s ls π out page _ _ (page-coded .accepted)
+        (λ h. accepted-code _ _ page-code _ (page-rows c s ls π out page h)) bc bs o p eo ep (given .lined)
 
 -- ---- burmelox_evaluate: t is the evaluation, r the answer, `after` what is stored
 
-module _ (c : List ℕ) (x : List ℤ) (t : Evaluation) (e : tells t ≡ evaluationOf c x) where
+module _ (c : List ℕ) (π : Profile) (x : List ℤ) (t : Evaluation) (e : tells t ≡ evaluationOf c π x) where
   module _ (sheet : Sheet) (h : t ≡ Refused sheet) where
     pub refused-short : Bytes c → Short 65536 (says (Verdicts.Refused sheet))
-    refused-short b = rw (tells-refusal c x t e sheet h) (evaluation-short c x (omega arith) b)
+    refused-short b = rw (tells-refusal c π x t e sheet h) (evaluation-short c π x (omega arith) b)
 
-    pub refused-code : (r : ℕ) → r ≡ codeOf (says (Verdicts.Refused sheet)) → r ≡ codeOf (evaluationAnswer c x)
-    refused-code r er = er ∙ ap codeOf (tells-refusal c x t e sheet h)
+    pub refused-code : (r : ℕ) → r ≡ codeOf (says (Verdicts.Refused sheet)) → r ≡ codeOf (evaluationAnswer c π x)
+    refused-code r er = er ∙ ap codeOf (tells-refusal c π x t e sheet h)
 
-    pub refused-value : (z : ℤ) → z ≡ toldValue (evaluationOf c x) z
+    pub refused-value : (z : ℤ) → z ≡ toldValue (evaluationOf c π x) z
     unfolding toldValue
     refused-value z =
-        let q = tells-refusal c x t e sheet h in
-        rw (failed-refusal c x (failed (Verdicts.Refused sheet) _ q sheet refl))
+        let q = tells-refusal c π x t e sheet h in
+        rw (failed-refusal c π x (failed (Verdicts.Refused sheet) _ q sheet refl))
 
   module _ (z : ℤ) (h : t ≡ Value z) where
-    pub given-code : 0 ≡ codeOf (evaluationAnswer c x)
+    pub given-code : 0 ≡ codeOf (evaluationAnswer c π x)
     given-code =
-        sym (accepted-code _ _ refl 0 (evaluation-passed c x (value-passed c x z (tells-value c x t e z h))))
+        sym (accepted-code _ _ refl 0 (evaluation-passed c π x (value-passed c π x z (tells-value c π x t e z h))))
 
-    pub given-value : (z′ before : ℤ) → z′ ≡ z → z′ ≡ toldValue (evaluationOf c x) before
+    pub given-value : (z′ before : ℤ) → z′ ≡ z → z′ ≡ toldValue (evaluationOf c π x) before
     unfolding toldValue
-    given-value z′ before ez = rw (tells-value c x t e z h) ez
+    given-value z′ before ez = rw (tells-value c π x t e z h) ez
 
-module _ (c : List ℕ) (x : List ℤ) (bc : Bytes c) (r : ℕ) (before after : ℤ) (er : r ≡ codeOf (evaluationAnswer c x))
-    (ev : after ≡ toldValue (evaluationOf c x) before) where
-  evaluation-coded : Coded (evaluationAnswer c x) r
-  evaluation-coded = coded (evaluationAnswer c x) r er (evaluation-short c x (omega arith) bc) 0 (evaluation-passed c x)
+module _ (c : List ℕ) (π : Profile) (x : List ℤ) (bc : Bytes c) (r : ℕ) (before after : ℤ) (er : r ≡ codeOf (evaluationAnswer c π x))
+    (ev : after ≡ toldValue (evaluationOf c π x) before) where
+  evaluation-coded : Coded (evaluationAnswer c π x) r
+  evaluation-coded = coded (evaluationAnswer c π x) r er (evaluation-short c π x (omega arith) bc) 0 (evaluation-passed c π x)
 
-  zero-coded : (r ≡ 0) ↔ Passes (evaluationAnswer c x)
-  zero-coded = (λ q. below-passed _ r er (omega (arith, q)), λ h. accepted-code _ r er 0 (evaluation-passed c x h))
+  zero-coded : (r ≡ 0) ↔ Passes (evaluationAnswer c π x)
+  zero-coded = (λ q. below-passed _ r er (omega (arith, q)), λ h. accepted-code _ r er 0 (evaluation-passed c π x h))
 
   leaves : Leaves (r ≡ 0) before after
   unfolding toldValue
   leaves = record {
     leaves = λ n.
-        passes-or-fails (evaluationAnswer c x) (λ q. absurd (n (zero-coded .1 q)))
-        (λ q. ev ∙ rw (failed-refusal c x q));
+        passes-or-fails (evaluationAnswer c π x) (λ q. absurd (n (zero-coded .1 q)))
+        (λ q. ev ∙ rw (failed-refusal c π x q));
   }
 
-  stores : (z : ℤ) → Stores r after z ↔ (evaluationOf c x ≡ value z)
+  stores : (z : ℤ) → Stores r after z ↔ (evaluationOf c π x ≡ value z)
   unfolding toldValue
   stores z = (
-    λ q. let g = passed-value c x (zero-coded .0 (q .0)) in g ∙ ap value (sym (rw g at ev) ∙ q .1),
-    λ q. (zero-coded .1 (value-passed c x z q), rw q at ev),
+    λ q. let g = passed-value c π x (zero-coded .0 (q .0)) in g ∙ ap value (sym (rw g at ev) ∙ q .1),
+    λ q. (zero-coded .1 (value-passed c π x z q), rw q at ev),
   )
 
-  pub evaluated : (r ≡ codeOf (evaluationAnswer c x)) × (Coded (evaluationAnswer c x) r
-      × ((after ≡ toldValue (evaluationOf c x) before) × (Leaves (r ≡ 0) before after
-      × EvaluationPromises c x (Stores r after))))
-  evaluated = (er, (evaluation-coded, (ev, (leaves, evaluation-promises c x _ stores))))
+  pub evaluated : (r ≡ codeOf (evaluationAnswer c π x)) × (Coded (evaluationAnswer c π x) r
+      × ((after ≡ toldValue (evaluationOf c π x) before) × (Leaves (r ≡ 0) before after
+      × EvaluationPromises c π x (Stores r after))))
+  evaluated = (er, (evaluation-coded, (ev, (leaves, evaluation-promises c π x _ stores))))
 
 -- ---- burmelox_search: t is the search, r the answer, b and m what is stored, o the output afterwards
 
-module _ (c s ls : List ℕ) (lo hi : ℤ) (out : List ℕ) where
+module _ (c s ls : List ℕ) (π : Profile) (lo hi : ℤ) (out : List ℕ) where
   abbrev told : Floors.Told
-  told = searchOf c s ls lo hi (length out)
+  told = searchOf c s ls π lo hi (length out)
 
-  module _ (t : Searched) (lo′ hi′ : ℤ) (e : Floors.tells t ≡ searchOf c s ls lo′ hi′ (length out)) (el : lo′ ≡ lo)
+  module _ (t : Searched) (lo′ hi′ : ℤ) (e : Floors.tells t ≡ searchOf c s ls π lo′ hi′ (length out)) (el : lo′ ≡ lo)
       (eh : hi′ ≡ hi) where
     told-here : Floors.tells t ≡ told
     told-here = e ∙ rw (el, eh)
@@ -194,7 +196,7 @@ module _ (c s ls : List ℕ) (lo hi : ℤ) (out : List ℕ) where
 
       pub search-short : Bytes c → Bytes s → Short 65536 (says (Verdicts.Refused sheet))
       search-short bc bs =
-          rw (answer-refusal _ _ unfound) at (told-short c s ls lo hi (length out) {limit = 65536} (omega arith) bc bs)
+          rw (answer-refusal _ _ unfound) at (told-short c s ls π lo hi (length out) {limit = 65536} (omega arith) bc bs)
 
       pub unfound-code : (r : ℕ) → r ≡ codeOf (says (Verdicts.Refused sheet)) → r ≡ codeOf (answerOf told)
       unfound-code r er = er ∙ ap codeOf (sym (answer-refusal _ _ unfound))
@@ -222,16 +224,16 @@ module _ (c s ls : List ℕ) (lo hi : ℤ) (out : List ℕ) where
       unfolding toldTried
       found-tried before = rw found
 
-  pub search-output : (o : List ℕ) (lo′ hi′ : ℤ) → o ≡ searchOutput c s ls lo′ hi′ out → lo′ ≡ lo → hi′ ≡ hi
-      → o ≡ searchOutput c s ls lo hi out
+  pub search-output : (o : List ℕ) (lo′ hi′ : ℤ) → o ≡ searchOutput c s ls π lo′ hi′ out → lo′ ≡ lo → hi′ ≡ hi
+      → o ≡ searchOutput c s ls π lo hi out
   search-output o lo′ hi′ e el eh = e ∙ rw (el, eh)
 
   module _ (bc : Bytes c) (bs : Bytes s) (r : ℕ) (b₀ b : ℤ) (m₀ m : ℕ) (o : List ℕ) (er : r ≡ codeOf (answerOf told))
-      (eb : b ≡ toldFloor told b₀) (em : m ≡ toldTried told m₀) (eo : o ≡ searchOutput c s ls lo hi out) where
+      (eb : b ≡ toldFloor told b₀) (em : m ≡ toldTried told m₀) (eo : o ≡ searchOutput c s ls π lo hi out) where
     search-coded : Coded (answerOf told) r
     search-coded =
-        coded (answerOf told) r er (told-short c s ls lo hi (length out) (omega arith) bc bs) (rowCount s)
-        (told-accepted c s ls lo hi (length out))
+        coded (answerOf told) r er (told-short c s ls π lo hi (length out) (omega arith) bc bs) (rowCount s)
+        (told-accepted c s ls π lo hi (length out))
 
     -- what is told, by what the caller sees
     module _ (floor : ℤ) (tried k : ℕ) where
@@ -260,7 +262,7 @@ module _ (c s ls : List ℕ) (lo hi : ℤ) (out : List ℕ) where
               cc
           go (Floors.refusal a) e =
               let p = search-coded .accepted .0 (q .0) in
-              absurd (true≢false (sym p ∙ rw (answer-refusal told a e) (told-fails c s ls lo hi (length out) a e)))
+              absurd (true≢false (sym p ∙ rw (answer-refusal told a e) (told-fails c s ls π lo hi (length out) a e)))
 
     none-seen : numberIn r ≡ 23 → told ≡ Floors.refusal (refused 23 0)
     none-seen n = go told refl
@@ -273,7 +275,7 @@ module _ (c s ls : List ℕ) (lo hi : ℤ) (out : List ℕ) where
             absurd (omega (arith, number, accepted-numbers _ k (answer-found told f j k e) .0))
         go (Floors.refusal a) e =
             e ∙ ap Floors.refusal
-            (told-none c s ls lo hi (length out) bc bs a e (rw (answer-refusal told a e) at number))
+            (told-none c s ls π lo hi (length out) bs a e (rw (answer-refusal told a e) at number))
 
     seen-none : told ≡ Floors.refusal (refused 23 0) → numberIn r ≡ 23
     seen-none e = search-coded .number ∙ rw (answer-refusal told _ e, refused-number)
@@ -286,15 +288,15 @@ module _ (c s ls : List ℕ) (lo hi : ℤ) (out : List ℕ) where
         go n (Floors.found f j k) e = absurd (n (seen-found f j k e .0))
         go n (Floors.refusal a) e = h a e
 
-    pub searched : (r ≡ codeOf (answerOf told)) × (Coded (answerOf told) r × ((o ≡ searchOutput c s ls lo hi out)
+    pub searched : (r ≡ codeOf (answerOf told)) × (Coded (answerOf told) r × ((o ≡ searchOutput c s ls π lo hi out)
         × ((b ≡ toldFloor told b₀) × ((m ≡ toldTried told m₀)
         × ((Leaves (Accepted r) b₀ b × Leaves (Accepted r) m₀ m)
-        × SearchPromises c s ls lo hi out (Finds r b m) (numberIn r ≡ 23) o)))))
+        × SearchPromises c s ls π lo hi out (Finds r b m) (numberIn r ≡ 23) o)))))
     unfolding toldFloor toldTried
     searched =
         let floor-kept = kept b₀ b (λ a e. eb ∙ rw e) in
         let tried-kept = kept m₀ m (λ a e. em ∙ rw e) in
         let promises =
-        search-promises c s ls lo hi out _ _ (λ f j k. (found-seen f j k, seen-found f j k)) (none-seen, seen-none)
-        bc bs o eo in
+        search-promises c s ls π lo hi out _ _ (λ f j k. (found-seen f j k, seen-found f j k)) (none-seen, seen-none)
+        bs o eo in
         (er, (search-coded, (eo, (eb, (em, ((floor-kept, tried-kept), promises))))))

@@ -7,6 +7,7 @@ use native.Mathlib.Omega.{arith}
 use lib.ListN.{length, getD, set, take, drop, replicate, length-drop, length-replicate}
 use lib.Seq.{take-all, getD-drop}
 use Rattle.integers.proofs.words.Laws.{Bytes}
+use Rattle.bounds.specs.Profiles.{fullProfile}
 use Rattle.answers.specs.Answers.{says, blameless, Passes}
 use Rattle.answers.specs.declared.answers.Verdict.{Verdict}
 use Rattle.answers.proofs.answers.Laws.{passes-or-fails}
@@ -35,9 +36,9 @@ take-zeros zero most h = refl
 take-zeros (suc k) zero h = absurd (omega arith)
 take-zeros (suc k) (suc most) h = ap (λ (l : List ℕ). 0 ∷ l) (take-zeros k most (omega arith))
 
--- the check with no variable limited
-unlimited : (c s : List ℕ) → CheckUnlimited c s (noLimits (variables c))
-unlimited c s = check-unlimited c s (noLimits (variables c)) (none-limited (variables c))
+-- the check with no variable limited, under the full profile
+unlimited : (c s : List ℕ) → CheckUnlimited c s (noLimits (variables c)) fullProfile
+unlimited c s = check-unlimited c s (noLimits (variables c)) fullProfile (none-limited (variables c))
 
 -- ---- said_variables
 
@@ -57,16 +58,16 @@ module _ (c : List ℕ) (n : ℕ) (en : n ≡ variables c) where
   limits-part l = sym (ap length (unlimited-is l) ∙ none-length (variables c) ∙ rw (← en) (omega arith))
 
   module _ (s out o : List ℕ) (l : n < 256)
-      (eo : o ≡ outputOf c s (take (1 + 7 * n) (set (replicate 1786 0) 0 n)) out) where
-    pub sheets-output : o ≡ plainOutput c s out
+      (eo : o ≡ outputOf c s (take (1 + 7 * n) (set (replicate 1786 0) 0 n)) fullProfile out) where
+    pub sheets-output : o ≡ plainOutput c s fullProfile out
     sheets-output = eo ∙ rw (unlimited-is l) (unlimited c s .output out)
 
     pub sheets-written : (m m′ : List ℕ) (v : Verdict) (end : ℕ) → Written m 0 (reportText c o (says v)) m′ end
-        → says v ≡ checkAnswer c s (take (1 + 7 * n) (set (replicate 1786 0) 0 n)) (length out)
+        → says v ≡ checkAnswer c s (take (1 + 7 * n) (set (replicate 1786 0) 0 n)) fullProfile (length out)
         → Written m 0 (sheetsText c s out) m′ end
     unfolding sheetsText
     sheets-written m m′ v end w ev =
-        let e : says v ≡ plainAnswer c s (length out) =
+        let e : says v ≡ plainAnswer c s fullProfile (length out) =
         ev ∙ rw (unlimited-is l) (unlimited c s .answer (length out)) in
         rw (← e, ← sheets-output) w
 
@@ -99,48 +100,48 @@ module _ (c s : List ℕ) where
   as-long : length (zeros (length s)) ≡ length s
   as-long = length-replicate {A = ℕ} (length s) 0
 
-  answers : (room : ℕ) → checkAnswer c s ls room ≡ plainAnswer c s room
+  answers : (room : ℕ) → checkAnswer c s ls fullProfile room ≡ plainAnswer c s fullProfile room
   answers = unlimited c s .answer
 
-  accepted-text : Passes (plainAnswer c s (length s)) → sheetsText c s (zeros (length s)) ≡ acceptedLines c s
+  accepted-text : Passes (plainAnswer c s fullProfile (length s)) → sheetsText c s (zeros (length s)) ≡ acceptedLines c s
   unfolding sheetsText acceptedLines
   accepted-text h =
       let out = zeros (length s) in
-      let p : Passes (checkAnswer c s ls (length out)) = rw (as-long, answers) h in
+      let p : Passes (checkAnswer c s ls fullProfile (length out)) = rw (as-long, answers) h in
       rw (
         ← (unlimited c s .output out),
         ← (answers (length out)),
-        ← (plain-targets c s ls (none-limited (variables c))),
-        accepted-rows c s ls (length out) p,
+        ← (plain-targets c s ls fullProfile (none-limited (variables c))),
+        accepted-rows c s ls fullProfile (length out) p,
       )
-      (accepted-lines c (outputOf c s ls out) (rowCount s) (claim-left c s ls out p) (room-left c s ls out p)
-      (scaleOf s) (λ i. tripleFor (weightsFor (targetsOf c s ls) s i)) (scale-left c s ls out p)
-      (weights-left c s ls out p))
+      (accepted-lines c (outputOf c s ls fullProfile out) (rowCount s) (claim-left c s ls fullProfile out p) (room-left c s ls fullProfile out p)
+      (scaleOf s) (λ i. tripleFor (weightsFor (targetsOf c s ls) s i)) (scale-left c s ls fullProfile out p)
+      (weights-left c s ls fullProfile out p))
 
-  refused-text : blameless (plainAnswer c s (length s)) ≡ false
+  refused-text : blameless (plainAnswer c s fullProfile (length s)) ≡ false
       → sheetsText c s (zeros (length s))
-      ≡ ended (refusedLine (plainAnswer c s (length s) .number) (plainAnswer c s (length s) .value))
+      ≡ ended (refusedLine (plainAnswer c s fullProfile (length s) .number) (plainAnswer c s fullProfile (length s) .value))
   unfolding sheetsText
-  refused-text h = rw as-long (refused-lines c (plainOutput c s (zeros (length s))) (plainAnswer c s (length s)) h)
+  refused-text h = rw as-long (refused-lines c (plainOutput c s fullProfile (zeros (length s))) (plainAnswer c s fullProfile (length s)) h)
 
-  passed-begins : Passes (plainAnswer c s (length s)) → Accepts (sheetsText c s (zeros (length s)))
+  passed-begins : Passes (plainAnswer c s fullProfile (length s)) → Accepts (sheetsText c s (zeros (length s)))
   unfolding acceptedLines
   passed-begins h = rw (accepted-text h) (accepted-word _ _ _ _)
 
   -- no refusal begins so
-  begins-passed : Accepts (sheetsText c s (zeros (length s))) → Passes (plainAnswer c s (length s))
+  begins-passed : Accepts (sheetsText c s (zeros (length s))) → Passes (plainAnswer c s fullProfile (length s))
   begins-passed h =
-      passes-or-fails (plainAnswer c s (length s)) (λ q. q)
+      passes-or-fails (plainAnswer c s fullProfile (length s)) (λ q. q)
       (λ q.
       let w : _≡_ {A = ℕ} 97 114 =
       ap (λ (l : List ℕ). getD l 0 0) (sym h ∙ ap (take 8) (refused-text q) ∙ refused-word _ _) in
       absurd (omega (arith, w)))
 
   text-promises : Bytes s
-      → CheckPromises c s ls (zeros (length s)) (LongEnough s (zeros (length s)))
-      (Accepts (sheetsText c s (zeros (length s)))) (rowCount s) (plainOutput c s (zeros (length s)))
+      → CheckPromises c s ls fullProfile (zeros (length s)) (LongEnough s (zeros (length s)))
+      (Accepts (sheetsText c s (zeros (length s)))) (rowCount s) (plainOutput c s fullProfile (zeros (length s)))
   text-promises b =
-      check-promises c s ls (zeros (length s)) _ _ _ (λ r. r)
+      check-promises c s ls fullProfile (zeros (length s)) _ _ _ (λ r. r)
       (λ h. rw (as-long, answers) (begins-passed h), λ h. passed-begins (rw (as-long, answers) at h))
       (λ h. refl) b _ (rw (unlimited c s .output (zeros (length s))))
 

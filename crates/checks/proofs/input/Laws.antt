@@ -1,4 +1,4 @@
--- Laws of the checks 1 to 15, 24 and 25: what it says of three sheets that they are passed.
+-- Laws of the checks 27, 1 to 15, 24 and 25: what it says of three sheets that they are passed.
 use mathlib.Core.Path.{_≡_, refl}
 use mathlib.Core.List.{List}
 use Prim.Native.Nat.{ℕ, _<_, _≤_}
@@ -8,36 +8,43 @@ use lib.ListN.{length}
 use borrow.Author.Tests.{le-ltb, ltb-false}
 use Rattle.integers.proofs.words.Laws.{Bytes}
 use Rattle.bounds.specs.Bounds.{greatestWeight}
+use Rattle.bounds.specs.Profiles.{InRange, Larger}
+use Rattle.bounds.specs.declared.profiles.Profile.{Profile}
 use Rattle.answers.specs.Answers.{says, Passes, Short}
 use Rattle.answers.specs.declared.answers.Verdict.the-variants.{Accepted}
 use Rattle.answers.proofs.answers.Laws.{number-then, passed-if, accepted-says, passes-if, passes-then, then-passes, then-on, passed, short-accepted, short-if, short-then}
-use Rattle.sheets.specs.Layout.{variables, termCount, shapeOf, LimitsRoom}
+use Rattle.sheets.specs.Layout.{variables, termCount, rowCount, shapeOf, LimitsRoom}
 use Rattle.sheets.specs.ClaimSheet.{withFloor}
 use Rattle.sheets.proofs.claim_sheet.Laws.{floored-before}
+use Rattle.rows.specs.ProofSheet.{tripleOf}
 use Rattle.limits.specs.LimitsSheet.{limitsOf}
 use Rattle.limits.specs.LimitChecks.{limitsAnswer, RightLimits}
 use Rattle.limits.proofs.limit_checks.Laws.{limits-room, limits-right, limits-short, limits-other}
 use Rattle.claims.specs.ClaimChecks.{claimAnswer, ClaimFacts}
-use Rattle.claims.proofs.claim_checks.Laws.{claim-facts, claim-floored, claim-short}
-use Rattle.checks.specs.ProofChecks.{rowsAnswer, HeaderFacts, ProofFacts}
+use Rattle.claims.proofs.claim_checks.Laws.{profile-facts, claim-facts, claim-larger, claim-floored, claim-short, claim-other}
+use Rattle.checks.specs.ProofChecks.{rowsAnswer, Within, HeaderFacts, ProofFacts}
 use Rattle.checks.specs.Input.{headAnswer, roomAnswer, bodyAnswer, restAnswer, inputAnswer, formedAnswer, WellFormed, InputUnlimited}
-use Rattle.checks.proofs.proof_checks.Laws.{header-facts, proof-facts, header-short, rows-short}
+use Rattle.checks.proofs.proof_checks.Laws.{header-facts, proposed-within, proof-facts, header-larger, rows-larger, header-short, rows-short}
 
 -- ---- 1 to 10
 
 -- what it says that they are passed
-module _ (c s : List ℕ) (h : Passes (headAnswer c s)) where
-  head-claimed : Passes (claimAnswer c)
+module _ (c s : List ℕ) (π : Profile) (h : Passes (headAnswer c s π)) where
+  head-claimed : Passes (claimAnswer c π)
   unfolding headAnswer
   head-claimed = passes-then _ _ h .0
 
+  pub head-range : InRange π
+  head-range = profile-facts c π head-claimed
+
   pub head-claim-facts : ClaimFacts c (variables c) (termCount c)
-  head-claim-facts = claim-facts c head-claimed
+  head-claim-facts = claim-facts c π head-claimed
 
   pub head-facts : (variables s ≡ variables c) × HeaderFacts s (shapeOf s)
   unfolding headAnswer
   head-facts =
-      header-facts (variables c) s (head-claim-facts .some) (head-claim-facts .room .few) (passes-then _ _ h .1)
+      header-facts (π .rows) (variables c) s (head-range .rows-within) (head-claim-facts .some)
+      (head-claim-facts .room .few) (passes-then _ _ h .1)
 
 -- ---- 11
 
@@ -52,8 +59,8 @@ module _ (asked room : ℕ) where
 
 -- ---- well-formed sheets
 
-module _ (c s l : List ℕ) (f : WellFormed c s l) where
-  formed-head : Passes (headAnswer c s)
+module _ (c s l : List ℕ) (π : Profile) (f : WellFormed c s l π) where
+  formed-head : Passes (headAnswer c s π)
   unfolding formedAnswer
   formed-head = passes-then _ _ f .0
 
@@ -61,18 +68,24 @@ module _ (c s l : List ℕ) (f : WellFormed c s l) where
   unfolding formedAnswer
   formed-limits = passes-then _ _ (passes-then _ _ f .1) .0
 
-  formed-rows : Passes (rowsAnswer s (shapeOf s))
+  formed-rows : Passes (rowsAnswer s π (shapeOf s))
   unfolding formedAnswer
   formed-rows = passes-then _ _ (passes-then _ _ f .1) .1
 
+  pub range-formed : InRange π
+  range-formed = head-range c s π formed-head
+
   pub claim-formed : ClaimFacts c (variables c) (termCount c)
-  claim-formed = head-claim-facts c s formed-head
+  claim-formed = head-claim-facts c s π formed-head
 
   pub same-formed : variables s ≡ variables c
-  same-formed = head-facts c s formed-head .0
+  same-formed = head-facts c s π formed-head .0
 
   pub proof-formed : ProofFacts s (shapeOf s)
-  proof-formed = proof-facts s (head-facts c s formed-head .1) formed-rows
+  proof-formed = proof-facts s π formed-rows range-formed (head-facts c s π formed-head .1)
+
+  pub weights-formed : (i : ℕ) → i < rowCount s → Within (π .weight) (tripleOf s (shapeOf s) i)
+  weights-formed = proposed-within s π formed-rows
 
   pub room-formed : LimitsRoom l (variables c)
   room-formed = limits-room (variables c) l (claim-formed .room .few) formed-limits
@@ -81,24 +94,24 @@ module _ (c s l : List ℕ) (f : WellFormed c s l) where
   limits-formed = limits-right (variables c) l formed-limits
 
 -- they are passed exactly where the sheets are well-formed and the output is long enough
-module _ (c s l : List ℕ) (room : ℕ) where
-  pub input-passes : WellFormed c s l → length s ≤ room → Passes (inputAnswer c s l room)
+module _ (c s l : List ℕ) (π : Profile) (room : ℕ) where
+  pub input-passes : WellFormed c s l π → length s ≤ room → Passes (inputAnswer c s l π room)
   unfolding inputAnswer restAnswer bodyAnswer
   input-passes f k =
-      then-passes _ _ (formed-head c s l f)
-      (then-passes _ _ (formed-limits c s l f)
-      (then-passes _ _ (passed (Accepted 0) _ (room-enough (length s) room k) 0 refl) (formed-rows c s l f)))
+      then-passes _ _ (formed-head c s l π f)
+      (then-passes _ _ (formed-limits c s l π f)
+      (then-passes _ _ (passed (Accepted 0) _ (room-enough (length s) room k) 0 refl) (formed-rows c s l π f)))
 
-  module _ (h : Passes (inputAnswer c s l room)) where
+  module _ (h : Passes (inputAnswer c s l π room)) where
     parts : Passes (limitsAnswer (variables c) l) × Passes (roomAnswer (length s) room)
-        × Passes (rowsAnswer s (shapeOf s))
+        × Passes (rowsAnswer s π (shapeOf s))
     unfolding inputAnswer restAnswer bodyAnswer
     parts =
         let a = passes-then _ _ (passes-then _ _ h .1) in
         let b = passes-then _ _ (a .1) in
         (a .0, b .0, b .1)
 
-    pub input-formed : WellFormed c s l
+    pub input-formed : WellFormed c s l π
     unfolding inputAnswer formedAnswer
     input-formed = then-passes _ _ (passes-then _ _ h .0) (then-passes _ _ (parts .0) (parts .2))
 
@@ -106,42 +119,62 @@ module _ (c s l : List ℕ) (room : ℕ) where
     input-enough = enough (length s) room (parts .1)
 
     -- and with another floor in the claim they are passed as well
-    pub input-floored : (b : ℤ) → natAbs b ≤ greatestWeight → Passes (inputAnswer (withFloor c b) s l room)
+    pub input-floored : (b : ℤ) → natAbs b ≤ greatestWeight → Passes (inputAnswer (withFloor c b) s l π room)
     unfolding inputAnswer headAnswer
     input-floored b w =
         let a = passes-then _ _ h in
         let d = passes-then _ _ (a .0) in
         rw (floored-before c b 0 (omega arith))
-        (then-passes _ _ (then-passes _ _ (claim-floored c b w (d .0)) (d .1)) (a .1))
+        (then-passes _ _ (then-passes _ _ (claim-floored c b π w (d .0)) (d .1)) (a .1))
+
+-- and under a larger profile as well
+pub input-larger : (c s l : List ℕ) (π ρ : Profile) → Larger π ρ → (room : ℕ) → Passes (inputAnswer c s l π room)
+    → Passes (inputAnswer c s l ρ room)
+unfolding inputAnswer restAnswer bodyAnswer headAnswer
+input-larger c s l π ρ larger room h =
+    let head = passes-then _ _ (passes-then _ _ h .0) in
+    let p = parts c s l π room h in
+    then-passes _ _
+    (then-passes _ _ (claim-larger c π ρ larger (head .0))
+    (header-larger _ _ (larger .rows-larger) (variables c) s (head .1)))
+    (then-passes _ _ (p .0) (then-passes _ _ (p .1) (rows-larger s π ρ larger (shapeOf s) (p .2))))
 
 -- every answer is short
-head-short : (c s : List ℕ) {limit : ℕ} → 10 < limit → Bytes c → Short limit (headAnswer c s)
+head-short : (c s : List ℕ) (π : Profile) {limit : ℕ} → 27 < limit → Bytes c → Short limit (headAnswer c s π)
 unfolding headAnswer
-head-short c s h bc = short-then _ _ (claim-short c (omega arith) bc) (header-short (variables c) s h)
+head-short c s π h bc = short-then _ _ (claim-short c π h bc) (header-short (π .rows) (variables c) s (omega arith))
 
-body-short : (s : List ℕ) (room : ℕ) {limit : ℕ} → 15 < limit → Bytes s → Short limit (bodyAnswer s room)
+body-short : (s : List ℕ) (π : Profile) (room : ℕ) {limit : ℕ} → 15 < limit → Bytes s
+    → Short limit (bodyAnswer s π room)
 unfolding bodyAnswer roomAnswer
-body-short s room h bs =
-    short-then _ _ (short-if 11 _ (omega arith) (short-accepted 0 (omega arith) (omega arith)) _) (rows-short s h bs)
+body-short s π room h bs =
+    short-then _ _ (short-if 11 _ (omega arith) (short-accepted 0 (omega arith) (omega arith)) _) (rows-short s π h bs)
 
-pub input-short : {limit : ℕ} (c s l : List ℕ) (room : ℕ) → 25 < limit → Bytes c → Bytes s
-    → Short limit (inputAnswer c s l room)
+pub input-short : {limit : ℕ} (c s l : List ℕ) (π : Profile) (room : ℕ) → 27 < limit → Bytes c → Bytes s
+    → Short limit (inputAnswer c s l π room)
 unfolding inputAnswer restAnswer
-input-short c s l room h bc bs =
-    short-then _ _ (head-short c s (omega arith) bc)
-    (short-then _ _ (limits-short (variables c) l h (omega (arith, bc 0))) (body-short s room (omega arith) bs))
+input-short c s l π room h bc bs =
+    short-then _ _ (head-short c s π h bc)
+    (short-then _ _ (limits-short (variables c) l (omega arith) (omega (arith, bc 0)))
+    (body-short s π room (omega arith) bs))
 
 -- and none is 23, which a search says of its own
-pub input-other : (c s l : List ℕ) (room : ℕ) → Bytes c → Bytes s → inputAnswer c s l room .number ≡ 23 → ⊥
+head-other : (c s : List ℕ) (π : Profile) → headAnswer c s π .number ≡ 23 → ⊥
+unfolding headAnswer
+head-other c s π =
+    number-then (λ m. m ≡ 23 → ⊥) _ _ (claim-other c π)
+    (λ e. omega (arith, header-short {limit = 11} (π .rows) (variables c) s (omega arith) .number-short))
+
+pub input-other : (c s l : List ℕ) (π : Profile) (room : ℕ) → Bytes s → inputAnswer c s l π room .number ≡ 23 → ⊥
 unfolding inputAnswer restAnswer
-input-other c s l room bc bs =
+input-other c s l π room bs =
     let Other : ℕ → Type 0 = λ m. m ≡ 23 → ⊥ in
-    number-then Other _ _ (λ e. omega (arith, head-short c s {limit = 11} (omega arith) bc .number-short))
+    number-then Other _ _ (head-other c s π)
     (number-then Other _ _ (limits-other (variables c) l)
-    (λ e. omega (arith, body-short s room {limit = 16} (omega arith) bs .number-short)))
+    (λ e. omega (arith, body-short s π room {limit = 16} (omega arith) bs .number-short)))
 
 -- ---- without limits
 
-pub input-unlimited : (c s l : List ℕ) → Passes (limitsAnswer (variables c) l) → InputUnlimited c s l
+pub input-unlimited : (c s l : List ℕ) (π : Profile) → Passes (limitsAnswer (variables c) l) → InputUnlimited c s l π
 unfolding inputAnswer restAnswer formedAnswer
-input-unlimited c s l h = record { input = λ room. rw (then-on _ _ h); formed = rw (then-on _ _ h) }
+input-unlimited c s l π h = record { input = λ room. rw (then-on _ _ h); formed = rw (then-on _ _ h) }

@@ -1,21 +1,26 @@
--- Laws of the checks 8 to 10 and 12 to 15: what it says of a proof that it passes them, and how short its answers are.
-use mathlib.Core.Path.{_≡_, refl}
-use mathlib.Core.Bool.{true, false, and-eq-true-iff}
+-- Laws of the checks 8 to 10 and 12 to 15: what it says of a proof that it passes them, that it passes them under a
+-- larger profile, and how short its answers are.
+use mathlib.Core.Path.{_≡_, refl, sym}
+use mathlib.Core.Bool.{Bool, true, false, _&&_, false≢true, and-eq-true-iff}
 use mathlib.Core.List.{List}
 use Prim.Native.Nat.{ℕ, _<_, _≤_}
 use native.Mathlib.Omega.{arith}
+use lib.Dec.{eqb, leb}
 use lib.IntN.{pos}
-use lib.ListN.{length}
-use borrow.Author.Tests.{leb-true, eqb-true, not-false}
+use lib.ListN.{length, getD}
+use borrow.Author.Tests.{leb-true, le-leb, eqb-true, not-false}
 use Rattle.integers.proofs.Integers.{abs-zero}
 use Rattle.integers.proofs.words.Laws.{Bytes}
 use Rattle.integers.proofs.Tests.{nor, nand}
-use Rattle.bounds.specs.Bounds.{greatestExponent, greatestWeight, mostVariables}
+use Rattle.bounds.specs.Bounds.{mostVariables, mostRows, greatestExponent}
+use Rattle.bounds.specs.Profiles.{InRange, Larger}
+use Rattle.bounds.specs.declared.profiles.Profile.{Profile}
 use Rattle.bounds.proofs.bounds.Laws.{within-bound, bound-within}
 use Rattle.answers.specs.Answers.{Passes, Short}
-use Rattle.answers.proofs.answers.Laws.{passes-if, passes-at, short-accepted, short-if, short-at}
-use Rattle.answers.proofs.searches.Laws.{none-wrong}
+use Rattle.answers.proofs.answers.Laws.{passes-if, passes-at, if-on, at-on, short-accepted, short-if, short-at}
+use Rattle.answers.proofs.searches.Laws.{none-wrong, all-right}
 use Rattle.points.specs.Points.{samePoint, hasMidpoint, exponentsWithin}
+use Rattle.points.proofs.points.Laws.{within-larger}
 use Rattle.sheets.specs.Layout.{variables, rowCount, shapeOf, proofLength}
 use Rattle.sheets.specs.declared.layout.Shape.{Shape}
 use Rattle.rows.specs.ProofSheet.{vOf, wOf, tripleOf}
@@ -47,11 +52,28 @@ module _ (limit : ℕ) (x : Triple) where
         bound-within limit (x .r) (w .r-within),
       )
 
+-- within a limit, and so within a larger one
+pub triple-larger : (limit larger : ℕ) → limit ≤ larger → (x : Triple) → Within limit x → Within larger x
+triple-larger limit larger l x w = record {
+  p-within = omega (arith, w .p-within, l);
+  q-within = omega (arith, w .q-within, l);
+  r-within = omega (arith, w .r-within, l);
+}
+
 module _ (s : List ℕ) (sh : Shape) (i : ℕ) where
-  ends-facts : rowBreaks (Exponent greatestExponent) s sh i ≡ false
-      → (exponentsWithin greatestExponent (vOf s sh i) ≡ true) × (exponentsWithin greatestExponent (wOf s sh i) ≡ true)
+  abbrev Ends : ℕ → Type 0
+  Ends limit = (exponentsWithin limit (vOf s sh i) ≡ true) × (exponentsWithin limit (wOf s sh i) ≡ true)
+
+  ends-facts : (limit : ℕ) → rowBreaks (Exponent limit) s sh i ≡ false → Ends limit
   unfolding rowBreaks
-  ends-facts h = let z = nor _ _ h in (not-false _ (z .0), not-false _ (z .1))
+  ends-facts limit h = let z = nor _ _ h in (not-false _ (z .0), not-false _ (z .1))
+
+  ends-larger : (limit larger : ℕ) → limit ≤ larger → Ends limit → Ends larger
+  ends-larger limit larger l h = (within-larger limit larger l _ (h .0), within-larger limit larger l _ (h .1))
+
+  ends-break : (limit : ℕ) → Ends limit → rowBreaks (Exponent limit) s sh i ≡ false
+  unfolding rowBreaks
+  ends-break limit h = rw (h .0, h .1)
 
   whole-fact : rowBreaks Midpoint s sh i ≡ false → hasMidpoint (vOf s sh i) (wOf s sh i) ≡ true
   unfolding rowBreaks
@@ -64,15 +86,19 @@ module _ (s : List ℕ) (sh : Shape) (i : ℕ) where
       let z = nor _ _ (nand (samePoint (vOf s sh i) (wOf s sh i)) _ h e) in
       (abs-zero _ (eqb-true _ _ (not-false _ (z .0))), abs-zero _ (eqb-true _ _ (not-false _ (z .1))))
 
-  weights-fact : rowBreaks (Weight greatestWeight) s sh i ≡ false → Within greatestWeight (tripleOf s sh i)
+  weights-fact : (limit : ℕ) → rowBreaks (Weight limit) s sh i ≡ false → Within limit (tripleOf s sh i)
   unfolding rowBreaks
-  weights-fact h = none-beyond greatestWeight _ h
+  weights-fact limit h = none-beyond limit _ h
+
+  weights-break : (limit : ℕ) → Within limit (tripleOf s sh i) → rowBreaks (Weight limit) s sh i ≡ false
+  unfolding rowBreaks
+  weights-break limit w = within-none limit _ w
 
 -- 8 to 10, beside a claim of n variables
-pub header-facts : (n : ℕ) (s : List ℕ) → 1 ≤ n → n ≤ mostVariables → Passes (headerAnswer n s)
-    → (variables s ≡ n) × HeaderFacts s (shapeOf s)
+pub header-facts : (limit n : ℕ) (s : List ℕ) → limit ≤ mostRows → 1 ≤ n → n ≤ mostVariables
+    → Passes (headerAnswer limit n s) → (variables s ≡ n) × HeaderFacts s (shapeOf s)
 unfolding headerAnswer proofHeaderRight
-header-facts n s some few h =
+header-facts limit n s most some few h =
     let p₈ = passes-if _ 8 _ refl h in
     let p₉ = passes-if _ 9 _ refl (p₈ .1) in
     let p₁₀ = passes-if _ 10 _ refl (p₉ .1) in
@@ -84,44 +110,102 @@ header-facts n s some few h =
       same,
       record {
         some = rw same some;
-        room = record { few = rw same few; rows = leb-true _ _ (f .1); long = omega arith };
+        room = record { few = rw same few; rows = omega (arith, leb-true (rowCount s) limit (f .1)); long = omega arith };
         sized = sized;
         scale-positive = leb-true _ _ (e .1);
         scale-within = leb-true _ _ (d .1);
       },
     )
 
-pub proof-facts : (s : List ℕ) → HeaderFacts s (shapeOf s) → Passes (rowsAnswer s (shapeOf s))
-    → ProofFacts s (shapeOf s)
+module _ (s : List ℕ) (π : Profile) (h : Passes (rowsAnswer s π (shapeOf s))) where
+  -- 15
+  pub proposed-within : (i : ℕ) → i < rowCount s → Within (π .weight) (tripleOf s (shapeOf s) i)
+  unfolding rowsAnswer
+  proposed-within i l =
+      let p₁₃ = passes-at _ 12 _ refl h .1 in
+      let p₁₄ = passes-at _ 13 _ refl p₁₃ .1 in
+      let p₁₅ = passes-at _ 14 _ refl p₁₄ .1 in
+      weights-fact s _ i _ (none-wrong _ _ (passes-at _ 15 _ refl p₁₅ .0) i l)
+
+  pub proof-facts : InRange π → HeaderFacts s (shapeOf s) → ProofFacts s (shapeOf s)
+  unfolding rowsAnswer
+  proof-facts r header =
+      let p₁₂ = passes-at _ 12 _ refl h in
+      let p₁₃ = passes-at _ 13 _ refl (p₁₂ .1) in
+      let p₁₄ = passes-at _ 14 _ refl (p₁₃ .1) in
+      let ends : (i : ℕ) → i < rowCount s → Ends s (shapeOf s) i greatestExponent =
+      λ i l. ends-larger s _ i _ _ (r .exponent-within) (ends-facts s _ i _ (none-wrong _ _ (p₁₂ .0) i l)) in
+      record {
+        header = header;
+        v-within = λ i l. ends i l .0;
+        w-within = λ i l. ends i l .1;
+        whole = λ i l. whole-fact s _ i (none-wrong _ _ (p₁₃ .0) i l);
+        unused = λ i l. unused-facts s _ i (none-wrong _ _ (p₁₄ .0) i l);
+        weights-within = λ i l. triple-larger _ _ (r .weight-within) _ (proposed-within i l);
+      }
+
+-- ---- with larger limits they are passed as well
+
+one-weaker : (a b b′ d e : Bool) → (b ≡ true → b′ ≡ true) → a && b && d && e ≡ true → a && b′ && d && e ≡ true
+one-weaker true true b′ d e f h = rw (f refl) h
+one-weaker true false b′ d e f h = absurd (false≢true h)
+one-weaker false b b′ d e f h = absurd (false≢true h)
+
+header-right-larger : (limit larger : ℕ) → limit ≤ larger → (n : ℕ) (s : List ℕ) → proofHeaderRight limit n s ≡ true
+    → proofHeaderRight larger n s ≡ true
+unfolding proofHeaderRight
+header-right-larger limit larger l n s =
+    one-weaker (eqb (variables s) n && eqb (getD s 1 0) 0) (leb (rowCount s) limit) _ _ _
+    (λ h. let few = leb-true (rowCount s) limit h in le-leb (rowCount s) larger (omega arith))
+
+pub header-larger : (limit larger : ℕ) → limit ≤ larger → (n : ℕ) (s : List ℕ) → Passes (headerAnswer limit n s)
+    → Passes (headerAnswer larger n s)
+unfolding headerAnswer
+header-larger limit larger l n s h =
+    let p₈ = passes-if _ 8 _ refl h in
+    let p₉ = passes-if _ 9 _ refl (p₈ .1) in
+    rw (
+      if-on _ 8 _ (p₈ .0),
+      header-right-larger limit larger l n s (not-false _ (p₉ .0)),
+      if-on false 9 _ refl,
+    )
+    (p₉ .1)
+
+pub rows-larger : (s : List ℕ) (π ρ : Profile) → Larger π ρ → (sh : Shape) → Passes (rowsAnswer s π sh)
+    → Passes (rowsAnswer s ρ sh)
 unfolding rowsAnswer
-proof-facts s header h =
+rows-larger s π ρ l sh h =
     let p₁₂ = passes-at _ 12 _ refl h in
     let p₁₃ = passes-at _ 13 _ refl (p₁₂ .1) in
     let p₁₄ = passes-at _ 14 _ refl (p₁₃ .1) in
     let p₁₅ = passes-at _ 15 _ refl (p₁₄ .1) in
-    record {
-      header = header;
-      v-within = λ i l. ends-facts s _ i (none-wrong _ _ (p₁₂ .0) i l) .0;
-      w-within = λ i l. ends-facts s _ i (none-wrong _ _ (p₁₂ .0) i l) .1;
-      whole = λ i l. whole-fact s _ i (none-wrong _ _ (p₁₃ .0) i l);
-      unused = λ i l. unused-facts s _ i (none-wrong _ _ (p₁₄ .0) i l);
-      weights-within = λ i l. weights-fact s _ i (none-wrong _ _ (p₁₅ .0) i l);
-    }
+    let ends =
+    all-right (rowBreaks (Exponent (ρ .exponent)) s sh) (sh .k)
+    (λ i m.
+    ends-break s sh i _
+    (ends-larger s sh i _ _ (l .exponent-larger) (ends-facts s sh i _ (none-wrong _ _ (p₁₂ .0) i m)))) in
+    let weights =
+    all-right (rowBreaks (Weight (ρ .weight)) s sh) (sh .k)
+    (λ i m.
+    weights-break s sh i _
+    (triple-larger _ _ (l .weight-larger) _ (weights-fact s sh i _ (none-wrong _ _ (p₁₅ .0) i m)))) in
+    rw (at-on _ 12 _ (sym ends), at-on _ 13 _ (p₁₃ .0), at-on _ 14 _ (p₁₄ .0), at-on _ 15 _ (sym weights)) (p₁₅ .1)
 
 -- ---- every number is document 01's, and an index is below a count that two bytes give
 
-pub header-short : {limit : ℕ} (n : ℕ) (s : List ℕ) → 10 < limit → Short limit (headerAnswer n s)
+pub header-short : {limit : ℕ} (most n : ℕ) (s : List ℕ) → 10 < limit → Short limit (headerAnswer most n s)
 unfolding headerAnswer
-header-short n s h =
+header-short most n s h =
     short-if 8 _ (omega arith)
     (short-if 9 _ (omega arith) (short-if 10 _ (omega arith) (short-accepted 0 (omega arith) (omega arith)) _) _) _
 
 pub rows-counted : (s : List ℕ) → Bytes s → rowCount s < 65536
 rows-counted s b = omega (arith, b 2, b 3)
 
-pub rows-short : {limit : ℕ} (s : List ℕ) → 15 < limit → Bytes s → Short limit (rowsAnswer s (shapeOf s))
+pub rows-short : {limit : ℕ} (s : List ℕ) (π : Profile) → 15 < limit → Bytes s
+    → Short limit (rowsAnswer s π (shapeOf s))
 unfolding rowsAnswer
-rows-short s h b =
+rows-short s π h b =
     let k : rowCount s ≤ 65536 = omega (arith, rows-counted s b) in
     short-at 12 _ (omega arith)
     (short-at 13 _ (omega arith)

@@ -1,5 +1,5 @@
--- Laws of the checks 1 to 7: what it says of a claim that it passes them, what 2 asks without a mask, that it may have
--- another floor, and how short its answers are.
+-- Laws of the checks 27 and 1 to 7: what it says of a claim that it passes them, that it passes them under a larger
+-- profile and with another floor, what 2 asks without a mask, and how short its answers are.
 use mathlib.Core.Path.{_≡_, refl, sym, _∙_, fun-ext}
 use mathlib.Core.Bool.{Bool, true, false, _&&_, true≢false, and-eq-true-iff}
 use mathlib.Core.List.{List}
@@ -15,14 +15,17 @@ use Rattle.integers.proofs.Integers.{fits-within}
 use Rattle.integers.proofs.words.Laws.{Bytes}
 use Rattle.integers.proofs.Tests.{nor, nand}
 use Rattle.bounds.specs.Bounds.{greatestExponent, greatestWeight, mostVariables, mostTerms}
+use Rattle.bounds.specs.Profiles.{InRange, Larger}
+use Rattle.bounds.specs.declared.profiles.Profile.{Profile}
 use Rattle.bounds.proofs.bounds.Laws.{within-bound, bound-within}
+use Rattle.bounds.proofs.profiles.Laws.{range-facts, facts-range}
 use Rattle.answers.specs.Answers.{says, Passes, Short}
 use Rattle.answers.specs.declared.answers.Verdict.{Verdict}
 use Rattle.answers.specs.declared.answers.Verdict.the-variants.{Accepted}
-use Rattle.answers.proofs.answers.Laws.{passes-if, passes-at, if-on, passed, short-accepted, short-if, short-at}
-use Rattle.answers.proofs.searches.Laws.{none-wrong}
+use Rattle.answers.proofs.answers.Laws.{passes-if, passes-at, if-on, at-on, passed, number-accepted, number-if, number-at, short-accepted, short-if, short-at}
+use Rattle.answers.proofs.searches.Laws.{none-wrong, all-right}
 use Rattle.points.specs.Points.{samePoint, risesTo, exponentsWithin}
-use Rattle.points.proofs.points.Laws.{same-eq, rises-self, rises-trans}
+use Rattle.points.proofs.points.Laws.{same-eq, rises-self, rises-trans, within-larger}
 use Rattle.sheets.specs.Layout.{variables, termCount, maskOf, ClaimRoom, claimLength}
 use Rattle.sheets.specs.ClaimSheet.{floorOf, withFloor, termPoint, coefficientOf}
 use Rattle.sheets.proofs.claim_sheet.Laws.{floored-length, floored-floor, floored-before, floored-point, floored-coefficient}
@@ -38,10 +41,15 @@ module _ (c : List ℕ) (n t i : ℕ) where
   unfolding termBreaks
   coefficient-fact h = within-bound greatestWeight _ (nor (eqb (natAbs (coefficientOf c n t i)) 0) _ h .1)
 
-  exponents-fact : termBreaks (Exponent greatestExponent) c n t i ≡ false
-      → exponentsWithin greatestExponent (termPoint c n i) ≡ true
+  exponents-fact : (limit : ℕ) → termBreaks (Exponent limit) c n t i ≡ false
+      → exponentsWithin limit (termPoint c n i) ≡ true
   unfolding termBreaks
-  exponents-fact h = not-false _ h
+  exponents-fact limit h = not-false _ h
+
+  exponents-break : (limit : ℕ) → exponentsWithin limit (termPoint c n i) ≡ true
+      → termBreaks (Exponent limit) c n t i ≡ false
+  unfolding termBreaks
+  exponents-break limit h = rw h
 
   rising-fact : termBreaks Order c n t (suc i) ≡ false → risesTo (termPoint c n i) (termPoint c n (suc i)) ≡ true
   unfolding termBreaks
@@ -67,10 +75,16 @@ header-room c h sized =
     let f = counts-fact c (and-eq-true-iff _ _ .0 (a .0) .0) in
     (f .0, record { few = f .1; terms = f .2; long = omega arith })
 
-pub claim-facts : (c : List ℕ) → Passes (claimAnswer c) → ClaimFacts c (variables c) (termCount c)
+-- 27
+pub profile-facts : (c : List ℕ) (π : Profile) → Passes (claimAnswer c π) → InRange π
+unfolding claimAnswer
+profile-facts c π h = range-facts π (not-false _ (passes-if _ 27 _ refl h .0))
+
+pub claim-facts : (c : List ℕ) (π : Profile) → Passes (claimAnswer c π) → ClaimFacts c (variables c) (termCount c)
 unfolding claimAnswer termsAnswer
-claim-facts c h =
-    let p₁ = passes-if _ 1 _ refl h in
+claim-facts c π h =
+    let p₀ = passes-if _ 27 _ refl h in
+    let p₁ = passes-if _ 1 _ refl (p₀ .1) in
     let p₂ = passes-if _ 2 _ refl (p₁ .1) in
     let p₃ = passes-if _ 3 _ refl (p₂ .1) in
     let p₄ = passes-if _ 4 _ refl (p₃ .1) in
@@ -85,9 +99,44 @@ claim-facts c h =
       sized = sized;
       floor-within = within-bound greatestWeight (floorOf c) (p₄ .0);
       coefficient-within = λ i l. coefficient-fact c _ _ i (none-wrong _ _ (p₅ .0) i l);
-      exponents-within = λ i l. exponents-fact c _ _ i (none-wrong _ _ (p₆ .0) i l);
+      exponents-within = λ i l.
+          within-larger (π .exponent) greatestExponent (profile-facts c π h .exponent-within) _
+          (exponents-fact c _ _ i (π .exponent) (none-wrong _ _ (p₆ .0) i l));
       rising = λ i l. rising-fact c _ _ i (none-wrong _ _ (p₇ .0) (suc i) l);
     }
+
+-- ---- a claim that passes under a profile passes under a larger one
+
+terms-larger : (c : List ℕ) (π ρ : Profile) → Larger π ρ → (n t : ℕ) → Passes (termsAnswer c π n t)
+    → Passes (termsAnswer c ρ n t)
+unfolding termsAnswer
+terms-larger c π ρ l n t h =
+    let p₅ = passes-at _ 5 _ refl h in
+    let p₆ = passes-at _ 6 _ refl (p₅ .1) in
+    let none =
+    all-right (termBreaks (Exponent (ρ .exponent)) c n t) t
+    (λ i m.
+    exponents-break c n t i _
+    (within-larger _ _ (l .exponent-larger) _ (exponents-fact c n t i _ (none-wrong _ _ (p₆ .0) i m)))) in
+    rw (at-on _ 5 _ (p₅ .0), at-on _ 6 _ (sym none)) (p₆ .1)
+
+pub claim-larger : (c : List ℕ) (π ρ : Profile) → Larger π ρ → Passes (claimAnswer c π) → Passes (claimAnswer c ρ)
+unfolding claimAnswer
+claim-larger c π ρ l h =
+    let p₀ = passes-if _ 27 _ refl h in
+    let p₁ = passes-if _ 1 _ refl (p₀ .1) in
+    let p₂ = passes-if _ 2 _ refl (p₁ .1) in
+    let p₃ = passes-if _ 3 _ refl (p₂ .1) in
+    let p₄ = passes-if _ 4 _ refl (p₃ .1) in
+    rw (
+      facts-range ρ (l .in-range),
+      if-on _ 27 _ refl,
+      if-on _ 1 _ (p₁ .0),
+      if-on _ 2 _ (p₂ .0),
+      if-on _ 3 _ (p₃ .0),
+      if-on _ 4 _ (p₄ .0),
+    )
+    (terms-larger c π ρ l _ _ (p₄ .1))
 
 -- without a mask: "Bytes 2 and 3: zero"
 pub header-unmasked : (c : List ℕ) → maskOf c ≡ 0
@@ -104,9 +153,9 @@ module _ (c : List ℕ) (b : ℤ) where
   breaks-floored (Exponent limit) n t = fun-ext (λ i. rw (floored-point c b n i))
   breaks-floored Order n t = fun-ext (λ i. rw (floored-point c b n i, floored-point c b n (i - 1)))
 
-  terms-floored : (n t : ℕ) → termsAnswer (withFloor c b) n t ≡ termsAnswer c n t
+  terms-floored : (π : Profile) (n t : ℕ) → termsAnswer (withFloor c b) π n t ≡ termsAnswer c π n t
   unfolding termsAnswer
-  terms-floored n t = rw (breaks-floored _ n t, breaks-floored _ n t, breaks-floored _ n t)
+  terms-floored π n t = rw (breaks-floored _ n t, breaks-floored _ n t, breaks-floored _ n t)
 
   header-floored : claimHeaderRight (withFloor c b) ≡ claimHeaderRight c
   unfolding claimHeaderRight countsRight maskRight
@@ -117,10 +166,12 @@ module _ (c : List ℕ) (b : ℤ) where
     floored-before c b 3 (omega arith),
   )
 
-  pub claim-floored : natAbs b ≤ greatestWeight → Passes (claimAnswer c) → Passes (claimAnswer (withFloor c b))
+  pub claim-floored : (π : Profile) → natAbs b ≤ greatestWeight → Passes (claimAnswer c π)
+      → Passes (claimAnswer (withFloor c b) π)
   unfolding claimAnswer
-  claim-floored w h =
-      let p₁ = passes-if _ 1 _ refl h in
+  claim-floored π w h =
+      let p₀ = passes-if _ 27 _ refl h in
+      let p₁ = passes-if _ 1 _ refl (p₀ .1) in
       let p₂ = passes-if _ 2 _ refl (p₁ .1) in
       let p₃ = passes-if _ 3 _ refl (p₂ .1) in
       let p₄ = passes-if _ 4 _ refl (p₃ .1) in
@@ -132,6 +183,7 @@ module _ (c : List ℕ) (b : ℤ) where
         floored-before c b 1 (omega arith),
         read,
         terms-floored,
+        if-on _ 27 _ (p₀ .0),
         if-on _ 1 _ (p₁ .0),
         if-on _ 2 _ (p₂ .0),
         if-on _ 3 _ (p₃ .0),
@@ -140,9 +192,9 @@ module _ (c : List ℕ) (b : ℤ) where
       (p₄ .1)
 
 -- of a claim that a verdict accepts
-module _ (c : List ℕ) (v : Verdict) (e : says v ≡ claimAnswer c) (j : ℕ) (h : v ≡ Accepted j) where
+module _ (c : List ℕ) (π : Profile) (v : Verdict) (e : says v ≡ claimAnswer c π) (j : ℕ) (h : v ≡ Accepted j) where
   pub claim-passed : ClaimFacts c (variables c) (termCount c)
-  claim-passed = claim-facts c (passed v _ e j h)
+  claim-passed = claim-facts c π (passed v _ e j h)
 
   pub claim-long : 8 ≤ length c
   claim-long = omega (arith, claim-passed .sized)
@@ -163,14 +215,29 @@ points-differ c n t f i j l h = go (samePoint (termPoint c n i) (termPoint c n j
     go false e r = refl
 
 -- every number is document 01's, and an index is below a count that a byte gives
-pub claim-short : {limit : ℕ} (c : List ℕ) → 7 < limit → Bytes c → Short limit (claimAnswer c)
+pub claim-short : {limit : ℕ} (c : List ℕ) (π : Profile) → 27 < limit → Bytes c → Short limit (claimAnswer c π)
 unfolding claimAnswer termsAnswer
-claim-short c h b =
+claim-short c π h b =
     let t : termCount c ≤ 65536 = omega (arith, b 1) in
-    short-if 1 _ (omega arith)
+    short-if 27 _ (omega arith)
+    (short-if 1 _ (omega arith)
     (short-if 2 _ (omega arith)
     (short-if 3 _ (omega arith)
     (short-if 4 _ (omega arith)
     (short-at 5 _ (omega arith)
     (short-at 6 _ (omega arith)
-    (short-at 7 _ (omega arith) (short-accepted 0 (omega arith) (omega arith)) _ _ t) _ _ t) _ _ t) _) _) _) _
+    (short-at 7 _ (omega arith) (short-accepted 0 (omega arith) (omega arith)) _ _ t) _ _ t) _ _ t) _) _) _) _) _
+
+-- none is 23, which a search says of its own
+pub claim-other : (c : List ℕ) (π : Profile) → claimAnswer c π .number ≡ 23 → ⊥
+unfolding claimAnswer termsAnswer
+claim-other c π =
+    let Other : ℕ → Type 0 = λ m. m ≡ 23 → ⊥ in
+    number-if Other _ 27 _ (λ e. omega arith)
+    (number-if Other _ 1 _ (λ e. omega arith)
+    (number-if Other _ 2 _ (λ e. omega arith)
+    (number-if Other _ 3 _ (λ e. omega arith)
+    (number-if Other _ 4 _ (λ e. omega arith)
+    (number-at Other _ 5 _ (λ e. omega arith)
+    (number-at Other _ 6 _ (λ e. omega arith)
+    (number-at Other _ 7 _ (λ e. omega arith) (number-accepted Other 0 (λ e. omega arith)))))))))

@@ -11,6 +11,8 @@ use lib.IntN.{ℤ, natAbs}
 use lib.ListN.{length, getD}
 use borrow.Author.Tests.{not-true, eq-eqb, eqb-true, ne-eqb, lt-ltb, le-ltb, le-leb, lt-leb, not-false}
 use Rattle.bounds.specs.Bounds.{beyond, mostVariables, mostTerms}
+use Rattle.bounds.specs.Profiles.{InRange}
+use Rattle.bounds.specs.declared.profiles.Profile.{Profile}
 use Rattle.bounds.proofs.bounds.Laws.{over}
 use Rattle.answers.specs.Answers.{says}
 use Rattle.answers.specs.declared.answers.Verdict.{Verdict}
@@ -117,6 +119,10 @@ pub floor-judged : (c : List ℕ) (limit : ℕ) (b r : Bool) (z z′ : ℤ) → 
     → r ≡ b → beyond limit (floorOf c) ≡ b
 floor-judged c limit b r z z′ e ez back h = rw (← ez, ← back) (sym e ∙ h)
 
-pub terms-judged : (c : List ℕ) (n t : ℕ) (v : Verdict) → says v ≡ termsAnswer c n t → n ≡ variables c → t ≡ termCount c
-    → says v ≡ termsAnswer c (variables c) (termCount c)
-terms-judged c n t v h en et = rw (← en, ← et) h
+-- r is the test of the profile
+pub profile-right : (π : Profile) (r : Bool) → (r ≡ false) ↔ InRange π → r ≡ false → InRange π
+profile-right π r s h = s .0 h
+
+pub terms-judged : (c : List ℕ) (π : Profile) (n t : ℕ) (v : Verdict) → says v ≡ termsAnswer c π n t → n ≡ variables c
+    → t ≡ termCount c → says v ≡ termsAnswer c π (variables c) (termCount c)
+terms-judged c π n t v h en et = rw (← en, ← et) h

@@ -9,6 +9,7 @@ use lib.IntN.{ℤ}
 use lib.ListN.{length}
 use Rattle.integers.proofs.words.Laws.{Bytes}
 use Rattle.integers.proofs.Tests.{never}
+use Rattle.bounds.specs.declared.profiles.Profile.{Profile}
 use Rattle.answers.specs.Answers.{Answer, accepted, says, blameless, Passes, Short}
 use Rattle.answers.specs.Searches.{first}
 use Rattle.answers.specs.declared.answers.Sheet.{Sheet}
@@ -50,17 +51,17 @@ module _ (a : Answer) (z : ℤ) where
 
 -- ---- for the crates above
 
-module _ (c : List ℕ) (x : List ℤ) where
-  pub evaluation-short : {limit : ℕ} → 21 < limit → Bytes c → Short limit (evaluationAnswer c x)
+module _ (c : List ℕ) (π : Profile) (x : List ℤ) where
+  pub evaluation-short : {limit : ℕ} → 27 < limit → Bytes c → Short limit (evaluationAnswer c π x)
   unfolding evaluationAnswer tooLargeAnswer
   evaluation-short h b =
       let t : termCount c ≤ 65536 = omega (arith, b 1) in
-      short-then _ _ (claim-short c (omega arith) b)
+      short-then _ _ (claim-short c π h b)
       (short-if 20 _ (omega arith) (short-at 21 _ (omega arith) (short-accepted 0 (omega arith) (omega arith)) _ _ t) _)
 
-  module _ (h : Passes (evaluationAnswer c x)) where
-    -- what it says of 1 to 7, of 20 and of 21
-    pub each-passed : Passes (claimAnswer c) × (not (eqb (length x) (variables c)) ≡ false)
+  module _ (h : Passes (evaluationAnswer c π x)) where
+    -- what it says of 27 and 1 to 7, of 20 and of 21
+    pub each-passed : Passes (claimAnswer c π) × (not (eqb (length x) (variables c)) ≡ false)
         × (first (tooLarge c (variables c) (termCount c) x) (termCount c) ≡ Nothing)
     unfolding evaluationAnswer tooLargeAnswer
     each-passed =
@@ -68,28 +69,28 @@ module _ (c : List ℕ) (x : List ℤ) where
         let q = passes-if _ 20 _ refl (p .1) in
         (p .0, q .0, passes-at _ 21 _ refl (q .1) .0)
 
-    pub evaluation-passed : evaluationAnswer c x ≡ accepted 0
+    pub evaluation-passed : evaluationAnswer c π x ≡ accepted 0
     unfolding evaluationAnswer tooLargeAnswer
     evaluation-passed =
         then-on _ _ (each-passed .0) ∙ if-on _ 20 _ (each-passed .1) ∙ at-on _ 21 _ (each-passed .2)
 
-    pub passed-value : evaluationOf c x ≡ Spec.value (valueAt x (termsOf c))
+    pub passed-value : evaluationOf c π x ≡ Spec.value (valueAt x (termsOf c))
     unfolding evaluationOf
     passed-value = told-passed _ _ h
 
-  pub failed-refusal : blameless (evaluationAnswer c x) ≡ false → evaluationOf c x ≡ refusal (evaluationAnswer c x)
+  pub failed-refusal : blameless (evaluationAnswer c π x) ≡ false → evaluationOf c π x ≡ refusal (evaluationAnswer c π x)
   unfolding evaluationOf
   failed-refusal h = told-failed _ _ h
 
-  pub value-passed : (z : ℤ) → evaluationOf c x ≡ Spec.value z → Passes (evaluationAnswer c x)
+  pub value-passed : (z : ℤ) → evaluationOf c π x ≡ Spec.value z → Passes (evaluationAnswer c π x)
   unfolding evaluationOf
   value-passed z h = value-told _ _ z h .0
 
-  module _ (r : Evaluation) (e : tells r ≡ evaluationOf c x) where
-    pub tells-value : (z : ℤ) → r ≡ Value z → evaluationOf c x ≡ Spec.value z
+  module _ (r : Evaluation) (e : tells r ≡ evaluationOf c π x) where
+    pub tells-value : (z : ℤ) → r ≡ Value z → evaluationOf c π x ≡ Spec.value z
     unfolding tells
     tells-value z h = rw (← e, h)
 
-    pub tells-refusal : (sheet : Sheet) → r ≡ Refused sheet → says (Verdicts.Refused sheet) ≡ evaluationAnswer c x
+    pub tells-refusal : (sheet : Sheet) → r ≡ Refused sheet → says (Verdicts.Refused sheet) ≡ evaluationAnswer c π x
     unfolding tells evaluationOf
     tells-refusal sheet h = refusal-told _ _ _ (sym e ∙ ap tells h)

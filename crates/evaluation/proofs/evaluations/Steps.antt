@@ -14,6 +14,7 @@ use mir.Val.{SFits, toZ, ofZ}
 use mir.Facts.{toZ-ofZ}
 use Rattle.integers.proofs.Integers.{abs-add, fits-within}
 use Rattle.bounds.specs.Bounds.{greatestValue}
+use Rattle.bounds.specs.declared.profiles.Profile.{Profile}
 use Rattle.bounds.proofs.bounds.Laws.{over-bound, bound-within}
 use Rattle.answers.specs.Answers.{Answer, accepted, says, refuseIf}
 use Rattle.answers.specs.Searches.{first}
@@ -43,7 +44,8 @@ use Rattle.claims.proofs.claim_checks.Laws.{claim-passed}
 use Rattle.evaluation.proofs.Promises.{evaluation-promises}
 use Rattle.evaluation.proofs.evaluations.Laws.{told-passed}
 use Rattle.evaluation.specs.Evaluations as Spec
-use Rattle.evaluation.specs.Evaluations.{tells, toldBy, termValue, tooLarge, tooLargeAnswer, sumTo, summed, evaluationAnswer, evaluationOf, EvaluationPromises}
+use Rattle.evaluation.specs.Evaluations.{tells, toldBy, termValue, tooLarge, tooLargeAnswer, sumTo, summed, evaluationAnswer, evaluationOf}
+use Rattle.evaluation.specs.Promises.{EvaluationPromises}
 use Rattle.evaluation.specs.declared.evaluations.Evaluation.{Evaluation}
 use Rattle.evaluation.specs.declared.evaluations.Evaluation.the-variants.{Value, Refused}
 
@@ -136,32 +138,32 @@ module _ (c : List ℕ) (n t : ℕ) (x : List ℤ) where
       (accepted-passes _ 0 refl))))
 
 -- evaluate: v is the verdict on the claim
-module _ (c : List ℕ) (x : List ℤ) (v : Verdict) (e : says v ≡ claimAnswer c) where
-  pub claim-refused : (y : Sheet) → v ≡ Verdicts.Refused y → tells (Refused y) ≡ evaluationOf c x
+module _ (c : List ℕ) (π : Profile) (x : List ℤ) (v : Verdict) (e : says v ≡ claimAnswer c π) where
+  pub claim-refused : (y : Sheet) → v ≡ Verdicts.Refused y → tells (Refused y) ≡ evaluationOf c π x
   unfolding evaluationOf evaluationAnswer
-  claim-refused y h = told-refused y _ _ (sym (ap says h) ∙ then-refused v (claimAnswer c) e y h _)
+  claim-refused y h = told-refused y _ _ (sym (ap says h) ∙ then-refused v (claimAnswer c π) e y h _)
 
   module _ (j : ℕ) (h : v ≡ Verdicts.Accepted j) where
     module _ (n : ℕ) (en : n ≡ variables c) where
-      pub offsets-refused : (length x ≡ n → ⊥) → tells (Refused (Offsets 20 0)) ≡ evaluationOf c x
+      pub offsets-refused : (length x ≡ n → ⊥) → tells (Refused (Offsets 20 0)) ≡ evaluationOf c π x
       unfolding evaluationOf evaluationAnswer
       offsets-refused d =
           let w : not (eqb (length x) (variables c)) ≡ true = rw (← en, ne-eqb _ _ d) in
           told-refused (Offsets 20 0) _ _
-          (then-passed v (claimAnswer c) e j h (Verdicts.Refused (Offsets 20 0)) _
+          (then-passed v (claimAnswer c π) e j h (Verdicts.Refused (Offsets 20 0)) _
           (refused-if (Verdicts.Refused (Offsets 20 0)) _ 20 _ w (refused-says _ 20 0 refl)))
 
       module _ (t : ℕ) (et : t ≡ termCount c) where
         pub terms-room : ClaimRoom c n t
-        terms-room = rw (en, et) (claim-passed c v e j h .room)
+        terms-room = rw (en, et) (claim-passed c π v e j h .room)
 
-        pub all-summed : (r : Evaluation) → length x ≡ n → tells r ≡ summed c n t x → tells r ≡ evaluationOf c x
+        pub all-summed : (r : Evaluation) → length x ≡ n → tells r ≡ summed c n t x → tells r ≡ evaluationOf c π x
         unfolding evaluationOf evaluationAnswer summed sumTo
         all-summed r d er =
             let w : not (eqb (length x) (variables c)) ≡ false = rw (← en, eq-eqb _ _ d) in
             let last = tooLargeAnswer c (variables c) (termCount c) x in
             rw (
-              then-on (claimAnswer c) (refuseIf (not (eqb (length x) (variables c))) 20 last) (passed v _ e j h),
+              then-on (claimAnswer c π) (refuseIf (not (eqb (length x) (variables c))) 20 last) (passed v _ e j h),
               if-on _ 20 last w,
               ← terms-table c n t en et,
               ← en,
@@ -170,6 +172,6 @@ module _ (c : List ℕ) (x : List ℤ) (v : Verdict) (e : says v ≡ claimAnswer
             er
 
 -- r is the evaluation
-pub promised : (c : List ℕ) (x : List ℤ) (r : Evaluation) → tells r ≡ evaluationOf c x
-    → (tells r ≡ evaluationOf c x) × EvaluationPromises c x (λ z. tells r ≡ Spec.value z)
-promised c x r h = (h, evaluation-promises c x _ (λ z. (λ e. sym h ∙ e, λ e. h ∙ e)))
+pub promised : (c : List ℕ) (π : Profile) (x : List ℤ) (r : Evaluation) → tells r ≡ evaluationOf c π x
+    → (tells r ≡ evaluationOf c π x) × EvaluationPromises c π x (λ z. tells r ≡ Spec.value z)
+promised c π x r h = (h, evaluation-promises c π x _ (λ z. (λ e. sym h ∙ e, λ e. h ∙ e)))

@@ -11,6 +11,7 @@ use Rattle.integers.proofs.Integers.{ring, ints, by-le, read-eq, ltZ-false, le-
 use Rattle.integers.proofs.Tests.{nor}
 use Rattle.integers.proofs.words.Laws.{Bytes}
 use Rattle.bounds.specs.Bounds.{greatestWeight, greatestSpan}
+use Rattle.bounds.specs.declared.profiles.Profile.{Profile}
 use Rattle.bounds.proofs.bounds.Laws.{within-bound, bound-within}
 use Rattle.answers.specs.Answers.{Answer, accepted, says, blameless, Passes, Short}
 use Rattle.answers.specs.Searches.{first}
@@ -19,7 +20,7 @@ use Rattle.answers.specs.declared.answers.Verdict.the-variants as Verdicts
 use Rattle.answers.proofs.answers.Laws.{number-accepted, number-if, number-then, passes-then, passes-if, then-passes, passed, passed-if, accepted-says, short-accepted, short-if, short-then}
 use Rattle.answers.proofs.searches.Laws.{first-same}
 use Rattle.checks.specs.Input.{inputAnswer, WellFormed}
-use Rattle.checks.proofs.input.Laws.{input-formed, input-passes, input-short, input-other}
+use Rattle.checks.proofs.input.Laws.{range-formed, input-formed, input-passes, input-short, input-other}
 use Rattle.targets.specs.Targets.{aimOf}
 use Rattle.targets.specs.declared.targets.Aim.{Aim}
 use Rattle.sharing.proofs.shifts.Laws.{sheets-checked}
@@ -101,8 +102,8 @@ module _ (lo hi : ℤ) (r : RightRange lo hi) where
 
 -- ---- sheets and a range that pass all checks before 16
 
-module _ (c s ls : List ℕ) (lo hi : ℤ) (room : ℕ) (h : Passes (rangeAnswer c s ls lo hi room)) where
-  pub input-passed : Passes (inputAnswer c s ls room)
+module _ (c s ls : List ℕ) (π : Profile) (lo hi : ℤ) (room : ℕ) (h : Passes (rangeAnswer c s ls π lo hi room)) where
+  pub input-passed : Passes (inputAnswer c s ls π room)
   unfolding rangeAnswer
   input-passed = passes-then _ _ h .0
 
@@ -114,42 +115,43 @@ module _ (c s ls : List ℕ) (lo hi : ℤ) (room : ℕ) (h : Passes (rangeAnswer
   abbrev own : Aim
   own = aimOf c s ls
 
-  pub searchable : Searchable c s own lo hi
+  pub searchable : Searchable (π .weight) c s own lo hi
   searchable = record {
-    sheets = sheets-checked c s ls (input-formed c s ls room input-passed);
+    light = range-formed c s ls π (input-formed c s ls π room input-passed) .weight-within;
+    sheets = sheets-checked c s ls π (input-formed c s ls π room input-passed);
     ranged = range-passed;
   }
 
   -- the check of each floor
-  accepts-after : (i : ℕ) → i < floorCount lo hi → accepts c s ls room (floorAfter hi i) ≡ passesAfter c s own hi i
+  accepts-after : (i : ℕ) → i < floorCount lo hi → accepts c s ls π room (floorAfter hi i) ≡ passesAfter (π .weight) c s own hi i
   unfolding accepts passesAfter aimAfter
   accepts-after i l =
       ap blameless
-      (floored-answer c s ls room input-passed (floorAfter hi i)
+      (floored-answer c s ls π room input-passed (floorAfter hi i)
       (after-within lo hi (right-range lo hi range-passed) i l))
 
-  pub refused-before : refusedBefore c s ls lo hi room ≡ first (passesAfter c s own hi) (floorCount lo hi)
+  pub refused-before : refusedBefore c s ls π lo hi room ≡ first (passesAfter (π .weight) c s own hi) (floorCount lo hi)
   unfolding refusedBefore
   refused-before = first-same _ _ (floorCount lo hi) accepts-after
 
 -- they pass where the sheets are well-formed, the output is long enough and the range is right; no answer is 23
-module _ (c s ls : List ℕ) (lo hi : ℤ) (room : ℕ) where
-  pub range-passes : WellFormed c s ls → length s ≤ room → rangeWrong lo hi ≡ false
-      → Passes (rangeAnswer c s ls lo hi room)
+module _ (c s ls : List ℕ) (π : Profile) (lo hi : ℤ) (room : ℕ) where
+  pub range-passes : WellFormed c s ls π → length s ≤ room → rangeWrong lo hi ≡ false
+      → Passes (rangeAnswer c s ls π lo hi room)
   unfolding rangeAnswer
   range-passes f l r =
-      then-passes _ _ (input-passes c s ls room f l)
+      then-passes _ _ (input-passes c s ls π room f l)
       (passed (Verdicts.Accepted 0) _ (passed-if (Verdicts.Accepted 0) _ 22 _ r (accepted-says 0)) 0 refl)
 
-  pub range-short : {limit : ℕ} → 25 < limit → Bytes c → Bytes s → Short limit (rangeAnswer c s ls lo hi room)
+  pub range-short : {limit : ℕ} → 27 < limit → Bytes c → Bytes s → Short limit (rangeAnswer c s ls π lo hi room)
   unfolding rangeAnswer
   range-short h bc bs =
-      short-then _ _ (input-short c s ls room h bc bs)
+      short-then _ _ (input-short c s ls π room h bc bs)
       (short-if 22 _ (omega arith) (short-accepted 0 (omega arith) (omega arith)) _)
 
-  pub range-other : Bytes c → Bytes s → rangeAnswer c s ls lo hi room .number ≡ 23 → ⊥
+  pub range-other : Bytes s → rangeAnswer c s ls π lo hi room .number ≡ 23 → ⊥
   unfolding rangeAnswer
-  range-other bc bs =
+  range-other bs =
       let Other : ℕ → Type 0 = λ m. m ≡ 23 → ⊥ in
-      number-then Other _ _ (input-other c s ls room bc bs)
+      number-then Other _ _ (input-other c s ls π room bs)
       (number-if Other _ 22 _ (λ e. omega arith) (number-accepted Other 0 (λ e. omega arith)))

@@ -15,6 +15,7 @@ use mir.Facts.{toZ-ofZ, toZ-pos}
 use Rattle.integers.proofs.Integers.{back, ltZ-false, abs-sub, difference-nonneg, fits-within}
 use Rattle.integers.proofs.words.Laws.{Bytes}
 use Rattle.bounds.specs.Bounds.{greatestWeight, greatestSpan, beyond}
+use Rattle.bounds.specs.declared.profiles.Profile.{Profile}
 use Rattle.bounds.proofs.bounds.Laws.{within-bound, over-nonneg}
 use Rattle.answers.specs.Answers.{refused, says, Passes}
 use Rattle.answers.specs.Searches.{first}
@@ -36,6 +37,7 @@ use Rattle.targets.proofs.targets.Laws.{floor-at, floor-within-at}
 use Rattle.sharing.proofs.shifts.Laws.{claim-eight, proof-eight}
 use Rattle.weighing.specs.Exact.{exactProof, Writable}
 use Rattle.weighing.proofs.weighed.Laws.{weighed-within}
+use Rattle.weighing.proofs.exact.Laws.{all-larger}
 use Rattle.judging.proofs.check.Laws.{floored-output}
 use Rattle.floors.specs.Search.{found, refusal, tells, rangeWrong, rangeAnswer, floorCount, floorAfter, refusedBefore, toldAfter, searchOf, outputBy, searchOutput, aimAfter, passesAfter, outputAfter, Searchable}
 use Rattle.floors.specs.Promises.{RightRange, SearchPromises}
@@ -126,10 +128,10 @@ module _ (lo hi lo′ hi′ : ℤ) (el : lo′ ≡ lo) (eh : hi′ ≡ hi) where
       unfolding floorCount
       count-is = omega (arith, size)
 
--- ---- check_range: v is the verdict on 1 to 15, 24 and 25, r whether the range is wrong
+-- ---- check_range: v is the verdict on 27, 1 to 15, 24 and 25, r whether the range is wrong
 
-module _ (c s ls : List ℕ) (lo hi : ℤ) (room : ℕ) (v : Verdict) (e : says v ≡ inputAnswer c s ls room) where
-  pub input-refused : (x : Sheet) → v ≡ Verdicts.Refused x → says v ≡ rangeAnswer c s ls lo hi room
+module _ (c s ls : List ℕ) (π : Profile) (lo hi : ℤ) (room : ℕ) (v : Verdict) (e : says v ≡ inputAnswer c s ls π room) where
+  pub input-refused : (x : Sheet) → v ≡ Verdicts.Refused x → says v ≡ rangeAnswer c s ls π lo hi room
   unfolding rangeAnswer
   input-refused x h = then-refused v _ e x h _
 
@@ -138,12 +140,12 @@ module _ (c s ls : List ℕ) (lo hi : ℤ) (room : ℕ) (v : Verdict) (e : says 
     tested : (b : Bool) → r ≡ b → rangeWrong lo hi ≡ b
     tested b w = sym (er ∙ rw (el, eh)) ∙ w
 
-    pub range-refused : r ≡ true → says (Verdicts.Refused (Range 22 0)) ≡ rangeAnswer c s ls lo hi room
+    pub range-refused : r ≡ true → says (Verdicts.Refused (Range 22 0)) ≡ rangeAnswer c s ls π lo hi room
     unfolding rangeAnswer
     range-refused w =
         then-passed v _ e j h _ _ (refused-if _ _ 22 _ (tested true w) (refused-says (Range 22 0) 22 0 refl))
 
-    pub range-right : r ≡ false → says (Verdicts.Accepted 0) ≡ rangeAnswer c s ls lo hi room
+    pub range-right : r ≡ false → says (Verdicts.Accepted 0) ≡ rangeAnswer c s ls π lo hi room
     unfolding rangeAnswer
     range-right w = then-passed v _ e j h _ _ (passed-if _ _ 22 _ (tested false w) (accepted-says 0))
 
@@ -164,7 +166,7 @@ module _ (a : Aim) (hi hi′ : ℤ) (i : ℕ) (eh : hi′ ≡ hi) (w : natAbs hi
 
 -- ---- walk: m is the number of floors and n that of the tests, a the aim of a floor, f what its trial found
 
-module _ (c s : List ℕ) (own : Aim) (lo hi : ℤ) (given : Searchable c s own lo hi) where
+module _ (limit : ℕ) (c s : List ℕ) (own : Aim) (lo hi : ℤ) (given : Searchable limit c s own lo hi) where
   right-here : RightRange lo hi
   right-here = right-range lo hi (given .ranged)
 
@@ -177,8 +179,8 @@ module _ (c s : List ℕ) (own : Aim) (lo hi : ℤ) (given : Searchable c s own 
     walk-tests = tests-few c s n en _ (given .sheets)
 
   module _ (lo′ hi′ : ℤ) (el : lo′ ≡ lo) (eh : hi′ ≡ hi) where
-    pub walk-end : (i m : ℕ) → m ≡ floorCount lo′ hi′ → m ≤ i → i ≤ m → first (passesAfter c s own hi′) i ≡ Nothing
-        → Nothing ≡ first (passesAfter c s own hi) (floorCount lo hi)
+    pub walk-end : (i m : ℕ) → m ≡ floorCount lo′ hi′ → m ≤ i → i ≤ m → first (passesAfter limit c s own hi′) i ≡ Nothing
+        → Nothing ≡ first (passesAfter limit c s own hi) (floorCount lo hi)
     walk-end i m em l h before = rw (← eh, ← el) (first-end _ _ i (rw em at l) (rw em at h) before)
 
     pub walk-range : rangeWrong lo′ hi′ ≡ false
@@ -208,52 +210,52 @@ module _ (c s : List ℕ) (own : Aim) (lo hi : ℤ) (given : Searchable c s own 
             })
 
         module _ (n last : ℕ) (en : n ≡ testCount c s) (ll : last < n) (f : Index.Found)
-            (ef : f ≡ first (failsFrom c s a last) n) where
+            (ef : f ≡ first (failsFrom limit c s a last) n) where
           from-inside : last < testCount c s
           from-inside = rw en at ll
 
-          pub trial-passed : f ≡ Nothing → true ≡ passesAfter c s own hi′ i
+          pub trial-passed : f ≡ Nothing → true ≡ passesAfter limit c s own hi′ i
           unfolding passesAfter
           trial-passed h =
-              sym (rw (← ea) (cycle-passed c s a last from-inside (rw en at (sym ef ∙ h))))
+              sym (rw (← ea) (cycle-passed limit c s a last from-inside (rw en at (sym ef ∙ h))))
 
           module _ (j : ℕ) (h : f ≡ At j) where
-            pub trial-failed : false ≡ passesAfter c s own hi′ i
+            pub trial-failed : false ≡ passesAfter limit c s own hi′ i
             unfolding passesAfter
             trial-failed =
-                sym (rw (← ea) (cycle-failed c s a last from-inside j (rw en at (sym ef ∙ h))))
+                sym (rw (← ea) (cycle-failed limit c s a last from-inside j (rw en at (sym ef ∙ h))))
 
             pub test-below : j < n
             test-below = first-inside _ n j (sym ef ∙ h) .0
 
-      pub walk-next : false ≡ passesAfter c s own hi′ i → first (passesAfter c s own hi′) i ≡ Nothing
-          → first (passesAfter c s own hi′) (i + 1) ≡ Nothing
+      pub walk-next : false ≡ passesAfter limit c s own hi′ i → first (passesAfter limit c s own hi′) i ≡ Nothing
+          → first (passesAfter limit c s own hi′) (i + 1) ≡ Nothing
       walk-next h before = first-next _ i false before h refl
 
-      pub walk-stop : true ≡ passesAfter c s own hi′ i → first (passesAfter c s own hi′) i ≡ Nothing
-          → At i ≡ first (passesAfter c s own hi) (floorCount lo hi)
+      pub walk-stop : true ≡ passesAfter limit c s own hi′ i → first (passesAfter limit c s own hi′) i ≡ Nothing
+          → At i ≡ first (passesAfter limit c s own hi) (floorCount lo hi)
       walk-stop h before = rw (← eh, ← el) (first-stop _ (floorCount lo′ hi′) i true (rw em at l) before h refl)
 
 -- ---- search_checked: f is what the walk found
 
-module _ (c s : List ℕ) (own : Aim) (lo hi : ℤ) (given : Searchable c s own lo hi) (lo′ hi′ : ℤ) (f : Index.Found)
-    (ef : f ≡ first (passesAfter c s own hi′) (floorCount lo′ hi′)) (el : lo′ ≡ lo) (eh : hi′ ≡ hi) where
-  walked : f ≡ first (passesAfter c s own hi) (floorCount lo hi)
+module _ (limit : ℕ) (c s : List ℕ) (own : Aim) (lo hi : ℤ) (given : Searchable limit c s own lo hi) (lo′ hi′ : ℤ) (f : Index.Found)
+    (ef : f ≡ first (passesAfter limit c s own hi′) (floorCount lo′ hi′)) (el : lo′ ≡ lo) (eh : hi′ ≡ hi) where
+  walked : f ≡ first (passesAfter limit c s own hi) (floorCount lo hi)
   walked = ef ∙ rw (el, eh)
 
   module _ (q : f ≡ Nothing) where
-    pub none-told : tells (Refused (Range 23 0)) ≡ toldAfter s hi (first (passesAfter c s own hi) (floorCount lo hi))
+    pub none-told : tells (Refused (Range 23 0)) ≡ toldAfter s hi (first (passesAfter limit c s own hi) (floorCount lo hi))
     unfolding tells toldAfter
     none-told = rw (← walked, q) (ap refusal (refused-says (Range 23 0) 23 0 refl))
 
     pub none-written : (out : List ℕ)
-        → out ≡ outputAfter c s own hi out (first (passesAfter c s own hi) (floorCount lo hi))
+        → out ≡ outputAfter c s own hi out (first (passesAfter limit c s own hi) (floorCount lo hi))
     unfolding outputAfter
     none-written out = rw (← walked, q)
 
   module _ (i : ℕ) (q : f ≡ At i) where
-    found-inside : (i < floorCount lo hi) × (passesAfter c s own hi i ≡ true)
-    found-inside = first-inside (passesAfter c s own hi) (floorCount lo hi) i (sym walked ∙ q)
+    found-inside : (i < floorCount lo hi) × (passesAfter limit c s own hi i ≡ true)
+    found-inside = first-inside (passesAfter limit c s own hi) (floorCount lo hi) i (sym walked ∙ q)
 
     right : RightRange lo hi
     right = right-range lo hi (given .ranged)
@@ -278,96 +280,96 @@ module _ (c s : List ℕ) (own : Aim) (lo hi : ℤ) (given : Searchable c s own 
       pub found-writable : (out : List ℕ) → length s ≤ length out → Writable c s a out
       unfolding passesAfter
       found-writable out room = record {
-        sheets = walk-checked c s own lo hi given lo hi refl refl i _ refl (found-inside .0) a aim-is;
-        light = weighed-within c s a (rw aim-is (found-inside .1));
+        sheets = walk-checked limit c s own lo hi given lo hi refl refl i _ refl (found-inside .0) a aim-is;
+        light = all-larger _ _ (given .light) _ s (weighed-within limit c s a (rw aim-is (found-inside .1)));
         room = room;
       }
 
       pub found-told : (b : ℤ) (t k : ℕ) → b ≡ a .floor → t ≡ i + 1 → k ≡ rowCount s
-          → tells (Found b t k) ≡ toldAfter s hi (first (passesAfter c s own hi) (floorCount lo hi))
+          → tells (Found b t k) ≡ toldAfter s hi (first (passesAfter limit c s own hi) (floorCount lo hi))
       unfolding tells toldAfter aimAfter
       found-told b t k eb et ek =
           rw (← walked, q, eb, aim-is, floor-at own (floorAfter hi i), et, ek, add-one)
 
       pub found-written : (o out : List ℕ) → o ≡ exactProof (targetOf c a) s ++ drop (length s) out
-          → o ≡ outputAfter c s own hi out (first (passesAfter c s own hi) (floorCount lo hi))
+          → o ≡ outputAfter c s own hi out (first (passesAfter limit c s own hi) (floorCount lo hi))
       unfolding outputAfter
       found-written o out eo = eo ∙ rw (← walked, q, aim-is)
 
 -- ---- search: v is the verdict before 16
 
-module _ (c s ls : List ℕ) (lo hi : ℤ) (out : List ℕ) (v : Verdict) (lo′ hi′ : ℤ)
-    (e : says v ≡ rangeAnswer c s ls lo′ hi′ (length out)) (el : lo′ ≡ lo) (eh : hi′ ≡ hi) where
-  ranged-is : says v ≡ rangeAnswer c s ls lo hi (length out)
+module _ (c s ls : List ℕ) (π : Profile) (lo hi : ℤ) (out : List ℕ) (v : Verdict) (lo′ hi′ : ℤ)
+    (e : says v ≡ rangeAnswer c s ls π lo′ hi′ (length out)) (el : lo′ ≡ lo) (eh : hi′ ≡ hi) where
+  ranged-is : says v ≡ rangeAnswer c s ls π lo hi (length out)
   ranged-is = e ∙ rw (el, eh)
 
-  pub search-refused : (x : Sheet) → v ≡ Verdicts.Refused x → tells (Refused x) ≡ searchOf c s ls lo hi (length out)
+  pub search-refused : (x : Sheet) → v ≡ Verdicts.Refused x → tells (Refused x) ≡ searchOf c s ls π lo hi (length out)
   unfolding tells searchOf
   search-refused x h = rw (failed v _ ranged-is x h) (ap refusal (sym (ap says h) ∙ ranged-is))
 
   module _ (j : ℕ) (h : v ≡ Verdicts.Accepted j) where
-    ready : Passes (rangeAnswer c s ls lo hi (length out))
+    ready : Passes (rangeAnswer c s ls π lo hi (length out))
     ready = passed v _ ranged-is j h
 
-    input : Passes (inputAnswer c s ls (length out))
-    input = input-passed c s ls lo hi (length out) ready
+    input : Passes (inputAnswer c s ls π (length out))
+    input = input-passed c s ls π lo hi (length out) ready
 
     pub search-claim : 8 ≤ length c
-    search-claim = claim-eight c s _ (searchable c s ls lo hi (length out) ready .sheets)
+    search-claim = claim-eight c s _ (searchable c s ls π lo hi (length out) ready .sheets)
 
     pub search-proof : 8 ≤ length s
-    search-proof = proof-eight c s _ (searchable c s ls lo hi (length out) ready .sheets)
+    search-proof = proof-eight c s _ (searchable c s ls π lo hi (length out) ready .sheets)
 
     pub search-limits : LimitsRoom ls (variables c)
-    search-limits = room-formed c s ls (input-formed c s ls (length out) input)
+    search-limits = room-formed c s ls π (input-formed c s ls π (length out) input)
 
     pub search-room : length s ≤ length out
-    search-room = input-enough c s ls (length out) input
+    search-room = input-enough c s ls π (length out) input
 
     -- own is the aim that was read
     module _ (own : Aim) (ew : own ≡ aimOf c s ls) where
-      pub search-ready : Searchable c s own lo′ hi′
-      search-ready = rw (ew, el, eh) (searchable c s ls lo hi (length out) ready)
+      pub search-ready : Searchable (π .weight) c s own lo′ hi′
+      search-ready = rw (ew, el, eh) (searchable c s ls π lo hi (length out) ready)
 
-      before : refusedBefore c s ls lo hi (length out) ≡ first (passesAfter c s own hi′) (floorCount lo′ hi′)
-      before = refused-before c s ls lo hi (length out) ready ∙ rw (ew, el, eh)
+      before : refusedBefore c s ls π lo hi (length out) ≡ first (passesAfter (π .weight) c s own hi′) (floorCount lo′ hi′)
+      before = refused-before c s ls π lo hi (length out) ready ∙ rw (ew, el, eh)
 
       pub search-told : (r : Searched)
-          → tells r ≡ toldAfter s hi′ (first (passesAfter c s own hi′) (floorCount lo′ hi′))
-          → tells r ≡ searchOf c s ls lo hi (length out)
+          → tells r ≡ toldAfter s hi′ (first (passesAfter (π .weight) c s own hi′) (floorCount lo′ hi′))
+          → tells r ≡ searchOf c s ls π lo hi (length out)
       unfolding searchOf
       search-told r er = er ∙ rw (← before, ready, eh)
 
       pub search-written : (o : List ℕ)
-          → o ≡ outputAfter c s own hi′ out (first (passesAfter c s own hi′) (floorCount lo′ hi′))
-          → o ≡ searchOutput c s ls lo hi out
+          → o ≡ outputAfter c s own hi′ out (first (passesAfter (π .weight) c s own hi′) (floorCount lo′ hi′))
+          → o ≡ searchOutput c s ls π lo hi out
       unfolding searchOutput searchOf outputAfter outputBy toldAfter aimAfter passesAfter
-      search-written o eo = eo ∙ rw (← before, ready, eh, ew) (go (refusedBefore c s ls lo hi (length out)) refl)
+      search-written o eo = eo ∙ rw (← before, ready, eh, ew) (go (refusedBefore c s ls π lo hi (length out)) refl)
         where
-          go : (f : Index.Found) → refusedBefore c s ls lo hi (length out) ≡ f
-              → outputAfter c s (aimOf c s ls) hi out f ≡ outputBy c s ls out (toldAfter s hi f)
+          go : (f : Index.Found) → refusedBefore c s ls π lo hi (length out) ≡ f
+              → outputAfter c s (aimOf c s ls) hi out f ≡ outputBy c s ls π out (toldAfter s hi f)
           go (At i) q =
-              let own = searchable c s ls lo hi (length out) ready in
-              let f = first-inside _ _ i (sym (refused-before c s ls lo hi (length out) ready) ∙ q) in
+              let own = searchable c s ls π lo hi (length out) ready in
+              let f = first-inside _ _ i (sym (refused-before c s ls π lo hi (length out) ready) ∙ q) in
               let within = after-within lo hi (right-range lo hi (own .ranged)) i (f .0) in
-              sym (floored-output c s ls (length out) input (floorAfter hi i) within out refl (f .1))
+              sym (floored-output c s ls π (length out) input (floorAfter hi i) within out refl (f .1))
           go Nothing q = refl
 
 -- r is what the search answers, o the output afterwards
 
-module _ (c s ls : List ℕ) (lo hi : ℤ) (out : List ℕ) (bc : Bytes c) (bs : Bytes s) where
+module _ (c s ls : List ℕ) (π : Profile) (lo hi : ℤ) (out : List ℕ) (bs : Bytes s) where
   abbrev Promised : Searched → List ℕ → Type 0
-  Promised r o = (tells r ≡ searchOf c s ls lo hi (length out)) × ((o ≡ searchOutput c s ls lo hi out)
-      × SearchPromises c s ls lo hi out (λ b tried k. tells r ≡ found b tried k) (tells r ≡ refusal (refused 23 0)) o)
+  Promised r o = (tells r ≡ searchOf c s ls π lo hi (length out)) × ((o ≡ searchOutput c s ls π lo hi out)
+      × SearchPromises c s ls π lo hi out (λ b tried k. tells r ≡ found b tried k) (tells r ≡ refusal (refused 23 0)) o)
 
-  pub promised : (r : Searched) (o : List ℕ) → tells r ≡ searchOf c s ls lo hi (length out)
-      → o ≡ searchOutput c s ls lo hi out → Promised r o
+  pub promised : (r : Searched) (o : List ℕ) → tells r ≡ searchOf c s ls π lo hi (length out)
+      → o ≡ searchOutput c s ls π lo hi out → Promised r o
   promised r o e eo =
       let promises =
-      search-promises c s ls lo hi out _ _ (λ b tried k. (λ q. sym e ∙ q, λ q. e ∙ q)) (λ q. sym e ∙ q, λ q. e ∙ q)
-      bc bs o eo in
+      search-promises c s ls π lo hi out _ _ (λ b tried k. (λ q. sym e ∙ q, λ q. e ∙ q)) (λ q. sym e ∙ q, λ q. e ∙ q)
+      bs o eo in
       (e, (eo, promises))
 
-  pub unwritten : (x : Sheet) → tells (Refused x) ≡ searchOf c s ls lo hi (length out) → Promised (Refused x) out
+  pub unwritten : (x : Sheet) → tells (Refused x) ≡ searchOf c s ls π lo hi (length out) → Promised (Refused x) out
   unfolding searchOutput outputBy tells
   unwritten x e = promised (Refused x) out e (rw (← e))

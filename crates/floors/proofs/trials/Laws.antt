@@ -6,7 +6,6 @@ use Prim.Native.Nat.{ℕ, _+_, _-_, _<_, _≤_}
 use native.Mathlib.Decide.{decLt}
 use native.Mathlib.Omega.{arith}
 use borrow.Author.Tests.{lt-ltb, le-ltb, not-false}
-use Rattle.bounds.specs.Bounds.{greatestWeight}
 use Rattle.answers.specs.Answers.{blameless, Passes}
 use Rattle.answers.specs.Searches.{first}
 use Rattle.answers.specs.declared.searches.Found.the-variants.{At, Nothing}
@@ -55,48 +54,48 @@ unfolding testCount
 tests-few c s n e a given =
     omega (arith, e, given .claim .room .few, given .claim .room .terms, given .proof .header .room .rows)
 
-module _ (c s : List ℕ) (a : Aim) where
-  pub fails-point : (i : ℕ) → i < points c → fails c s a i ≡ unheld c s a i
+module _ (limit : ℕ) (c s : List ℕ) (a : Aim) where
+  pub fails-point : (i : ℕ) → i < points c → fails limit c s a i ≡ unheld c s a i
   unfolding fails
   fails-point i l = rw (lt-ltb i (points c) l)
 
   pub fails-row : (i : ℕ) → points c ≤ i
-      → fails c s a i ≡ not (judgedAs 0 greatestWeight (shiftedRow (targetOf c a) s) (i - points c))
+      → fails limit c s a i ≡ not (judgedAs 0 limit (shiftedRow (targetOf c a) s) (i - points c))
   unfolding fails
   fails-row i l = rw (le-ltb i (points c) l)
 
-  none-fails : ((i : ℕ) → i < testCount c s → fails c s a i ≡ false) → Passes (weighedAnswer c s a)
+  none-fails : ((i : ℕ) → i < testCount c s → fails limit c s a i ≡ false) → Passes (weighedAnswer limit c s a)
   unfolding testCount
   none-fails h =
       accepted-passes _ (rowCount s)
-      (tests-pass c s a (λ i l. sym (fails-point i l) ∙ h i (omega arith))
+      (tests-pass limit c s a (λ i l. sym (fails-point i l) ∙ h i (omega arith))
       (λ i l.
       let e : points c + i - points c ≡ i = omega arith in
       not-false _
       (rw e at (sym (fails-row (points c + i) (omega arith)) ∙ h (points c + i) (omega arith)))))
 
-  passes-none : Passes (weighedAnswer c s a) → (i : ℕ) → i < testCount c s → fails c s a i ≡ false
+  passes-none : Passes (weighedAnswer limit c s a) → (i : ℕ) → i < testCount c s → fails limit c s a i ≡ false
   unfolding testCount
   passes-none h i l = go (decLt i (points c))
     where
-      go : Dec (i < points c) → fails c s a i ≡ false
-      go (yes m) = fails-point i m ∙ tests-passed c s a h .0 i m
+      go : Dec (i < points c) → fails limit c s a i ≡ false
+      go (yes m) = fails-point i m ∙ tests-passed limit c s a h .0 i m
       go (no m) =
-          fails-row i (omega arith) ∙ rw (tests-passed c s a h .1 (i - points c) (omega arith))
+          fails-row i (omega arith) ∙ rw (tests-passed limit c s a h .1 (i - points c) (omega arith))
 
   -- from any of them on
   module _ (from : ℕ) (inside : from < testCount c s) where
-    pub cycle-passed : first (failsFrom c s a from) (testCount c s) ≡ Nothing → Passes (weighedAnswer c s a)
+    pub cycle-passed : first (failsFrom limit c s a from) (testCount c s) ≡ Nothing → Passes (weighedAnswer limit c s a)
     unfolding failsFrom
     cycle-passed h =
-        none-fails (rotated-all (testCount c s) from inside (λ j. fails c s a j ≡ false) (none-wrong _ _ h))
+        none-fails (rotated-all (testCount c s) from inside (λ j. fails limit c s a j ≡ false) (none-wrong _ _ h))
 
-    pub cycle-failed : (i : ℕ) → first (failsFrom c s a from) (testCount c s) ≡ At i
-        → blameless (weighedAnswer c s a) ≡ false
+    pub cycle-failed : (i : ℕ) → first (failsFrom limit c s a from) (testCount c s) ≡ At i
+        → blameless (weighedAnswer limit c s a) ≡ false
     unfolding failsFrom
     cycle-failed i h =
         let f = first-inside _ (testCount c s) i h in
-        passes-or-fails (weighedAnswer c s a)
+        passes-or-fails (weighedAnswer limit c s a)
         (λ p.
         absurd
         (true≢false (sym (f .1) ∙ passes-none p _ (rotated-inside (testCount c s) from inside i (f .0)))))

@@ -6,7 +6,6 @@ use Prim.Native.Nat.{ℕ, _+_, _-_, _<_, _≤_}
 use native.Mathlib.Omega.{arith}
 use lib.Dec.{eqb}
 use borrow.Author.Tests.{lt-ltb, le-ltb}
-use Rattle.bounds.specs.Bounds.{greatestWeight}
 use Rattle.sheets.specs.Layout.{rowCount}
 use Rattle.targets.specs.Targets.{targetOf}
 use Rattle.targets.specs.declared.targets.Aim.{Aim}
@@ -29,9 +28,9 @@ module _ (c s : List ℕ) (m : ℕ) (em : m ≡ points c) where
     pub point-here : i < m → i < points c
     point-here l = rw em at l
 
-    module _ (a : Aim) where
-      pub point-fails : (r : Bool) → r ≡ unheld c s a i → i < m → r ≡ fails c s a i
-      point-fails r e l = e ∙ sym (fails-point c s a i (point-here l))
+    module _ (limit : ℕ) (a : Aim) where
+      pub point-fails : (r : Bool) → r ≡ unheld c s a i → i < m → r ≡ fails limit c s a i
+      point-fails r e l = e ∙ sym (fails-point limit c s a i (point-here l))
 
       module _ (l : m ≤ i) where
         pub row-inside : i < testCount c s → i - m < rowCount s
@@ -39,12 +38,12 @@ module _ (c s : List ℕ) (m : ℕ) (em : m ≡ points c) where
         row-inside k = omega (arith, em)
 
         pub row-fails : (j : Judgement) (r : Bool)
-            → j ≡ judgementOf greatestWeight (shiftedRow (targetOf c a) s (i - m) .weights) → r ≡ eqb (numberOf j) 0
-            → not r ≡ fails c s a i
+            → j ≡ judgementOf limit (shiftedRow (targetOf c a) s (i - m) .weights) → r ≡ eqb (numberOf j) 0
+            → not r ≡ fails limit c s a i
         row-fails j r ej er =
             let e : i - m ≡ i - points c = rw em in
-            rw (er, holds-judged-as greatestWeight (shiftedRow (targetOf c a) s) _ j ej, e)
-            (sym (fails-row c s a i (rw em at l)))
+            rw (er, holds-judged-as limit (shiftedRow (targetOf c a) s) _ j ej, e)
+            (sym (fails-row limit c s a i (rw em at l)))
 
 -- ---- rotate
 
@@ -60,8 +59,8 @@ module _ (n from i : ℕ) where
 -- ---- first_failing: n is the number of tests, j the test that is met
 
 module _ (c s : List ℕ) (n : ℕ) (en : n ≡ testCount c s) where
-  module _ (a : Aim) (from i j : ℕ) (ej : j ≡ rotated n from i) where
-    pub test-met : (r : Bool) → r ≡ fails c s a j → r ≡ failsFrom c s a from i
+  module _ (limit : ℕ) (a : Aim) (from i j : ℕ) (ej : j ≡ rotated n from i) where
+    pub test-met : (r : Bool) → r ≡ fails limit c s a j → r ≡ failsFrom limit c s a from i
     unfolding failsFrom
     test-met r e = e ∙ rw (ej, en)
 

@@ -1,10 +1,11 @@
--- Laws of the check: the claim with another floor, beside sheets that pass 1 to 15, 24 and 25.
+-- Laws of the check: the claim with another floor, beside sheets that pass 27, 1 to 15, 24 and 25.
 use mathlib.Core.Path.{_≡_, _∙_}
 use mathlib.Core.List.{List, _++_}
 use Prim.Native.Nat.{ℕ, _≤_}
 use lib.IntN.{ℤ, natAbs}
 use lib.ListN.{length, drop}
 use Rattle.bounds.specs.Bounds.{greatestWeight}
+use Rattle.bounds.specs.declared.profiles.Profile.{Profile}
 use Rattle.answers.specs.Answers.{Passes}
 use Rattle.answers.proofs.answers.Laws.{then-on}
 use Rattle.sheets.specs.ClaimSheet.{withFloor}
@@ -20,21 +21,22 @@ use Rattle.weighing.proofs.weighed.Laws.{weighed-floored}
 use Rattle.judging.specs.Check.{targetsOf, checkAnswer, outputOf}
 use Rattle.judging.proofs.Promises.{written}
 
-module _ (c s l : List ℕ) (room : ℕ) (h : Passes (inputAnswer c s l room)) (b : ℤ) (w : natAbs b ≤ greatestWeight) where
+module _ (c s l : List ℕ) (π : Profile) (room : ℕ) (h : Passes (inputAnswer c s l π room)) (b : ℤ)
+    (w : natAbs b ≤ greatestWeight) where
   -- what the targets for floor b depend on
   abbrev a : Aim
   a = atFloor (aimOf c s l) b
 
   aims : aimOf (withFloor c b) s l ≡ a
-  aims = aim-floored c s l b (claim-eight c s _ (sheets-checked c s l (input-formed c s l room h))) w
+  aims = aim-floored c s l b (claim-eight c s _ (sheets-checked c s l π (input-formed c s l π room h))) w
 
   -- its check is that of 16 to 19
-  pub floored-answer : checkAnswer (withFloor c b) s l room ≡ weighedAnswer c s a
+  pub floored-answer : checkAnswer (withFloor c b) s l π room ≡ weighedAnswer (π .weight) c s a
   unfolding checkAnswer
-  floored-answer = then-on _ _ (input-floored c s l room h b w) ∙ rw aims (weighed-floored c s a b)
+  floored-answer = then-on _ _ (input-floored c s l π room h b w) ∙ rw aims (weighed-floored (π .weight) c s a b)
 
-  pub floored-output : (out : List ℕ) → length out ≡ room → Passes (weighedAnswer c s a)
-      → outputOf (withFloor c b) s l out ≡ exactProof (targetOf c a) s ++ drop (length s) out
+  pub floored-output : (out : List ℕ) → length out ≡ room → Passes (weighedAnswer (π .weight) c s a)
+      → outputOf (withFloor c b) s l π out ≡ exactProof (targetOf c a) s ++ drop (length s) out
   unfolding targetsOf
   floored-output out e p =
-      written (withFloor c b) s l out (rw (e, floored-answer) p) ∙ rw (aims, targets-floored c a b)
+      written (withFloor c b) s l π out (rw (e, floored-answer) p) ∙ rw (aims, targets-floored c a b)

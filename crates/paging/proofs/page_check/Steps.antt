@@ -6,6 +6,7 @@ use Prim.Native.Nat.{ℕ}
 use native.Mathlib.Omega.{arith}
 use lib.ListN.{length}
 use Rattle.integers.proofs.words.Laws.{Bytes}
+use Rattle.bounds.specs.declared.profiles.Profile.{Profile}
 use Rattle.answers.specs.Answers.{accepted, says, blameless, Passes}
 use Rattle.answers.specs.declared.answers.Sheet.the-variants.{Page}
 use Rattle.answers.specs.declared.answers.Verdict.{Verdict}
@@ -23,47 +24,47 @@ use Rattle.paging.specs.Promises.{RightPage, PagePromises}
 use Rattle.paging.proofs.Promises.{page-rows, page-promises}
 use Rattle.paging.proofs.page_check.Laws.{right-answer, right-output, right-page, wrong-answer, wrong-output, wrong-page}
 
-module _ (c s l out page : List ℕ) where
+module _ (c s l : List ℕ) (π : Profile) (out page : List ℕ) where
   -- ---- v is the verdict, o and p are the output and the page afterwards
 
-  pub promises : (v : Verdict) → says v ≡ pageAnswer c s l (length out) (length page) → Bytes c → Bytes s
-      → (o p : List ℕ) → o ≡ pageOutput c s l out (length page) → p ≡ pageAfter c s l (length out) page
-      → (RightPage page → Lined p) → PagePromises c s l out page (Passes (says v)) (says v .value) o p
+  pub promises : (v : Verdict) → says v ≡ pageAnswer c s l π (length out) (length page) → Bytes c → Bytes s
+      → (o p : List ℕ) → o ≡ pageOutput c s l π out (length page) → p ≡ pageAfter c s l π (length out) page
+      → (RightPage page → Lined p) → PagePromises c s l π out page (Passes (says v)) (says v .value) o p
   promises v e bc bs o p eo ep lined =
-      page-promises c s l out page _ _ (λ h. rw e at h, λ h. rw e h)
-      (λ h. accepted-numbers _ _ (e ∙ page-rows c s l out page h) .1) bc bs o p eo ep lined
+      page-promises c s l π out page _ _ (λ h. rw e at h, λ h. rw e h)
+      (λ h. accepted-numbers _ _ (e ∙ page-rows c s l π out page h) .1) bc bs o p eo ep lined
 
   -- ---- a page of another length
 
   module _ (n : RightPage page → ⊥) where
-    pub wrong-says : says (Refused (Page 26 0)) ≡ pageAnswer c s l (length out) (length page)
-    wrong-says = refused-says (Page 26 0) 26 0 refl ∙ sym (wrong-answer c s l out page n)
+    pub wrong-says : says (Refused (Page 26 0)) ≡ pageAnswer c s l π (length out) (length page)
+    wrong-says = refused-says (Page 26 0) 26 0 refl ∙ sym (wrong-answer c s l π out page n)
 
-    pub output-kept : out ≡ pageOutput c s l out (length page)
-    output-kept = sym (wrong-output c s l out page n)
+    pub output-kept : out ≡ pageOutput c s l π out (length page)
+    output-kept = sym (wrong-output c s l π out page n)
 
-    pub page-kept : page ≡ pageAfter c s l (length out) page
-    page-kept = sym (wrong-page c s l out page n)
+    pub page-kept : page ≡ pageAfter c s l π (length out) page
+    page-kept = sym (wrong-page c s l π out page n)
 
     pub wrong-promises : Bytes c → Bytes s
-        → PagePromises c s l out page (Passes (says (Refused (Page 26 0)))) (says (Refused (Page 26 0)) .value) out page
+        → PagePromises c s l π out page (Passes (says (Refused (Page 26 0)))) (says (Refused (Page 26 0)) .value) out page
     wrong-promises bc bs =
         promises (Refused (Page 26 0)) wrong-says bc bs out page output-kept page-kept (λ r. absurd (n r))
 
   -- ---- v is the verdict of the check, o the output afterwards
 
-  module _ (v : Verdict) (e : says v ≡ checkAnswer c s l (length out)) (o : List ℕ) (eo : o ≡ outputOf c s l out) where
-    module _ (h : Passes (checkAnswer c s l (length out))) where
+  module _ (v : Verdict) (e : says v ≡ checkAnswer c s l π (length out)) (o : List ℕ) (eo : o ≡ outputOf c s l π out) where
+    module _ (h : Passes (checkAnswer c s l π (length out))) where
       rows-said : says v ≡ accepted (rowCount s)
-      rows-said = e ∙ accepted-rows c s l (length out) h
+      rows-said = e ∙ accepted-rows c s l π (length out) h
 
     pub output-carries : Carries c o (says v)
     output-carries = record {
-      claim = λ h. claim-left c s l out (rw e at h);
+      claim = λ h. claim-left c s l π out (rw e at h);
       proof = record {
         rows = λ h.
             let p = rw e at h in
-            rw (eo, accepted-numbers (says v) (rowCount s) (rows-said p) .1) (room-left c s l out p);
+            rw (eo, accepted-numbers (says v) (rowCount s) (rows-said p) .1) (room-left c s l π out p);
       };
     }
 
@@ -71,7 +72,7 @@ module _ (c s l out page : List ℕ) where
     output-page : verdictPage c o (says v) ≡ checkedPage c s l (says v)
     unfolding checkedPage shiftedTriple
     output-page =
-        verdict-shown c o (says v) ∙ passes-or-fails (checkAnswer c s l (length out))
+        verdict-shown c o (says v) ∙ passes-or-fails (checkAnswer c s l π (length out))
         (λ h.
         let a = rows-said h in
         rw (
@@ -80,9 +81,9 @@ module _ (c s l out page : List ℕ) where
           all-shown o (says v) (rowCount s) a,
           all-shown s (says v) (rowCount s) a,
           eo,
-          scale-left c s l out h,
+          scale-left c s l π out h,
         )
-        (page-same _ _ _ (rowCount s) (weights-left c s l out h)))
+        (page-same _ _ _ (rowCount s) (weights-left c s l π out h)))
         (λ h.
         let f : blameless (says v) ≡ false = rw e h in
         rw (
@@ -94,11 +95,11 @@ module _ (c s l out page : List ℕ) where
         (page-same _ _ _ 0 (λ i m. absurd (omega arith))))
 
     module _ (r : RightPage page) where
-      pub right-says : says v ≡ pageAnswer c s l (length out) (length page)
-      right-says = e ∙ sym (right-answer c s l out page r)
+      pub right-says : says v ≡ pageAnswer c s l π (length out) (length page)
+      right-says = e ∙ sym (right-answer c s l π out page r)
 
-      pub output-written : o ≡ pageOutput c s l out (length page)
-      output-written = eo ∙ sym (right-output c s l out page r)
+      pub output-written : o ≡ pageOutput c s l π out (length page)
+      output-written = eo ∙ sym (right-output c s l π out page r)
 
-      pub page-written : (p : List ℕ) → p ≡ verdictPage c o (says v) → p ≡ pageAfter c s l (length out) page
-      page-written p ep = ep ∙ output-page ∙ rw e (sym (right-page c s l out page r))
+      pub page-written : (p : List ℕ) → p ≡ verdictPage c o (says v) → p ≡ pageAfter c s l π (length out) page
+      page-written p ep = ep ∙ output-page ∙ rw e (sym (right-page c s l π out page r))

@@ -245,6 +245,15 @@ within-more limit a α h =
     let q = and-eq-true-iff (leb a limit) (every (λ b. leb b limit) α) .0 h in
     (leb-true a limit (q .0), q .1)
 
+-- what is within a limit is within a larger one
+pub within-larger : (limit larger : ℕ) → limit ≤ larger → (α : Exponents) → exponentsWithin limit α ≡ true
+    → exponentsWithin larger α ≡ true
+unfolding exponentsWithin every
+within-larger limit larger l [] h = refl
+within-larger limit larger l (a ∷ α) h =
+    let q = within-more limit a α h in
+    rw (le-leb a larger (omega (arith, q .0, l)), within-larger limit larger l α (q .1))
+
 module _ (a b : ℕ) (v w : Exponents) where
   pub midpoint-more : midpointOf (a ∷ v) (b ∷ w) ≡ (a + b) / 2 ∷ midpointOf v w
   unfolding midpointOf

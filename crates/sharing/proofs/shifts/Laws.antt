@@ -7,6 +7,7 @@ use Prim.Native.Nat.{ℕ, _<_, _≤_}
 use native.Mathlib.Omega.{arith}
 use lib.IntN.{ℤ, pos}
 use lib.ListN.{length}
+use Rattle.bounds.specs.declared.profiles.Profile.{Profile}
 use Rattle.points.specs.Points.{Exponents, samePoint, midpointOf}
 use Rattle.points.specs.Lists.{table, All}
 use Rattle.points.proofs.Lists.{all-table, table-all, table-same}
@@ -37,15 +38,15 @@ use Rattle.sharing.proofs.slots.Laws.{all-slots}
 
 -- ---- well-formed sheets, with their own floor, scale and limits
 
-pub sheets-checked : (c s l : List ℕ) → WellFormed c s l → CheckedSheets c s (aimOf c s l)
-sheets-checked c s l f =
-    let claim = claim-formed c s l f in
-    let proof = proof-formed c s l f in
+pub sheets-checked : (c s l : List ℕ) (π : Profile) → WellFormed c s l π → CheckedSheets c s (aimOf c s l)
+sheets-checked c s l π f =
+    let claim = claim-formed c s l π f in
+    let proof = proof-formed c s l π f in
     record {
       claim = claim;
       proof = proof;
-      same = same-formed c s l f;
-      aim = aim-within c s l (claim .floor-within) (proof .header .scale-within) (limits-formed c s l f);
+      same = same-formed c s l π f;
+      aim = aim-within c s l (claim .floor-within) (proof .header .scale-within) (limits-formed c s l π f);
     }
 
 -- ---- what they give the functions: sh is the shape that was read

@@ -1,7 +1,8 @@
--- Laws of the exact proof: its rows are the shifted rows, and weights that add up leave the proof as it was.
+-- Laws of the exact proof: weights within a limit, its rows are the shifted rows, and weights that add up leave the
+-- proof as it was.
 use mathlib.Core.Path.{_≡_, refl, sym, _∙_, ap}
 use mathlib.Core.List.{List, _++_}
-use Prim.Native.Nat.{ℕ, _<_}
+use Prim.Native.Nat.{ℕ, _<_, _≤_}
 use native.Mathlib.Omega.{arith}
 use lib.Dec.{lit<}
 use lib.IntN.{ℤ}
@@ -20,6 +21,7 @@ use Rattle.rows.proofs.proof_sheet.Laws.{scale-same}
 use Rattle.writing.specs.Writing.{withRows}
 use Rattle.writing.proofs.writing.Laws.{rows-length, rows-before, rows-append, rows-read, sheet-read, row-again, sheet-again}
 use Rattle.checks.specs.ProofChecks.{Within, ProofFacts}
+use Rattle.checks.proofs.proof_checks.Laws.{triple-larger}
 use Rattle.targets.specs.Targets.{targetOf}
 use Rattle.targets.specs.declared.targets.Aim.{Aim}
 use Rattle.sharing.specs.Shifts.{shiftedRows, CheckedSheets}
@@ -32,6 +34,11 @@ within-narrow x w = record {
   q-fits = fits-within (x .q) greatestWeight (w .q-within) (lit< tt);
   r-fits = fits-within (x .r) greatestWeight (w .r-within) (lit< tt);
 }
+
+-- within a limit, and so within a larger one
+pub all-larger : (limit larger : ℕ) → limit ≤ larger → (τ : Exponents → ℤ) (s : List ℕ) → AllWithin limit τ s
+    → AllWithin larger τ s
+all-larger limit larger l τ s w = record { within = λ i m. triple-larger limit larger l _ (w .within i m) }
 
 -- ---- the exact proof's rows are the shifted rows
 
@@ -87,9 +94,10 @@ module _ (τ : Exponents → ℤ) (s : List ℕ) (f : ProofFacts s (shapeOf s))
   unfolding weightsFor
   same-weights i = ap (λ (a : Formal.Row). a .weights) (row-stays τ s adds i)
 
-  pub same-within : AllWithin greatestWeight τ s
-  same-within = record {
-    within = λ i l. rw (same-weights i, row-again s (shapeOf s) (f .unused) i l) (f .weights-within i l);
+  pub same-within : (limit : ℕ) → ((i : ℕ) → i < rowCount s → Within limit (tripleOf s (shapeOf s) i))
+      → AllWithin limit τ s
+  same-within limit w = record {
+    within = λ i l. rw (same-weights i, row-again s (shapeOf s) (f .unused) i l) (w i l);
   }
 
   pub same-proof : Bytes s → exactProof τ s ≡ s

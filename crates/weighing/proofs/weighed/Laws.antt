@@ -6,7 +6,6 @@ use Prim.Native.Nat.{ℕ, _<_}
 use native.Mathlib.Omega.{arith}
 use lib.IntN.{ℤ}
 use Rattle.integers.proofs.words.Laws.{Bytes}
-use Rattle.bounds.specs.Bounds.{greatestWeight}
 use Rattle.answers.specs.Answers.{accepted, Passes, Short}
 use Rattle.answers.proofs.answers.Laws.{passes-then, then-on, short-then}
 use Rattle.points.specs.Lists.{All}
@@ -32,26 +31,26 @@ use Rattle.weighing.proofs.unheld.Laws.{none-passes, passes-none, unhel
 
 -- ---- 16 to 19 are passed exactly where no point is unheld that is looked at, and every row is judged to hold
 
-module _ (c s : List ℕ) (a : Aim) where
+module _ (limit : ℕ) (c s : List ℕ) (a : Aim) where
   abbrev pub τ : Exponents → ℤ
   τ = targetOf c a
 
   abbrev points : ℕ
   points = pointCount (variables c) (termCount c)
 
-  pub tests-passed : Passes (weighedAnswer c s a)
+  pub tests-passed : Passes (weighedAnswer limit c s a)
       → ((i : ℕ) → i < points → unheld c s a i ≡ false)
-      × ((i : ℕ) → i < rowCount s → judgedAs 0 greatestWeight (shiftedRow τ s) i ≡ true)
+      × ((i : ℕ) → i < rowCount s → judgedAs 0 limit (shiftedRow τ s) i ≡ true)
   unfolding weighedAnswer rowsJudged
   tests-passed h = let p = passes-then _ _ h in (passes-none c s a (p .0), each-holds _ _ (rowCount s) (p .1))
 
   pub tests-pass : ((i : ℕ) → i < points → unheld c s a i ≡ false)
-      → ((i : ℕ) → i < rowCount s → judgedAs 0 greatestWeight (shiftedRow τ s) i ≡ true)
-      → weighedAnswer c s a ≡ accepted (rowCount s)
+      → ((i : ℕ) → i < rowCount s → judgedAs 0 limit (shiftedRow τ s) i ≡ true)
+      → weighedAnswer limit c s a ≡ accepted (rowCount s)
   unfolding weighedAnswer rowsJudged
   tests-pass held rows = then-on _ _ (none-passes c s a held) ∙ holds-accepted _ _ (rowCount s) rows
 
-  pub weighed-floored : (b : ℤ) → weighedAnswer (withFloor c b) s a ≡ weighedAnswer c s a
+  pub weighed-floored : (b : ℤ) → weighedAnswer limit (withFloor c b) s a ≡ weighedAnswer limit c s a
   unfolding weighedAnswer
   weighed-floored b = rw (unheld-floored c s a b, targets-floored c a b)
 
@@ -63,13 +62,13 @@ module _ (c s : List ℕ) (a : Aim) where
   abbrev Adds : Type 0
   Adds = AddsUp (variables c) τ (slots (shiftedRows τ s))
 
-  module _ (h : Passes (weighedAnswer c s a)) where
+  module _ (h : Passes (weighedAnswer limit c s a)) where
     judged : (i : ℕ) → i < rowCount s
-        → Within greatestWeight (tripleFor (shiftedRow τ s i .weights)) × Holds (shiftedRow τ s i .weights)
+        → Within limit (tripleFor (shiftedRow τ s i .weights)) × Holds (shiftedRow τ s i .weights)
     unfolding weighedAnswer rowsJudged
-    judged = judged-passed greatestWeight (shiftedRow τ s) (rowCount s) (passes-then _ _ h .1)
+    judged = judged-passed limit (shiftedRow τ s) (rowCount s) (passes-then _ _ h .1)
 
-    pub weighed-within : AllWithin greatestWeight τ s
+    pub weighed-within : AllWithin limit τ s
     unfolding weightsFor
     weighed-within = record { within = λ i l. judged i l .0 }
 
@@ -80,15 +79,15 @@ module _ (c s : List ℕ) (a : Aim) where
     unfolding weighedAnswer
     weighed-adds α l = met-adds τ s α (unheld-passed c s a (passes-then _ _ h .0) α)
 
-  pub weighed-accepted : AllWithin greatestWeight τ s → AllHold → Adds → weighedAnswer c s a ≡ accepted (rowCount s)
+  pub weighed-accepted : AllWithin limit τ s → AllHold → Adds → weighedAnswer limit c s a ≡ accepted (rowCount s)
   unfolding weighedAnswer rowsJudged weightsFor
   weighed-accepted w h d =
       then-on _ _ (unheld-passes c s a (λ α l. adds-met τ s α (d α l)))
-      ∙ judged-accepted greatestWeight (shiftedRow τ s) (rowCount s)
+      ∙ judged-accepted limit (shiftedRow τ s) (rowCount s)
       (λ i l. (w .within i l, rows-each τ s (λ r. Holds (r .weights)) h i l))
 
-  pub weighed-short : {limit : ℕ} → 19 < limit → Bytes c → Bytes s → Short limit (weighedAnswer c s a)
+  pub weighed-short : {most : ℕ} → 19 < most → Bytes c → Bytes s → Short most (weighedAnswer limit c s a)
   unfolding weighedAnswer rowsJudged
   weighed-short h bc bs =
       short-then _ _ (unheld-short c s a (omega arith) bc)
-      (judged-short greatestWeight (shiftedRow τ s) (rowCount s) h (rows-counted s bs))
+      (judged-short limit (shiftedRow τ s) (rowCount s) h (rows-counted s bs))

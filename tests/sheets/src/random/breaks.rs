@@ -1,12 +1,13 @@
 //! Faults put into well-formed sheets, one for each number that the bytes of a single sheet, the
-//! length of output or page, the ends of a range or the count of offsets can break.
+//! length of output or page, the profile, the ends of a range or the count of offsets can break.
 
-use super::{limits, ranges, Rng};
-use crate::{Case, PAGE_LENGTH};
+use super::{limits, profiles, ranges, Rng};
+use crate::{Case, Profile, MOST, PAGE_LENGTH};
 use std::ops::{Range, RangeInclusive};
 
-/// Breaks a rule in sheets that have at least two terms and a row. What later checks look at need
-/// not be in order; what earlier ones look at stays as it is.
+/// Breaks a rule in sheets that have at least two terms and a row, under a profile in range, which
+/// is what some rules go by. What later checks look at need not be in order; what earlier ones look
+/// at stays as it is.
 pub type Break = fn(&mut Rng, &mut Case);
 
 /// The faults by number.
@@ -14,23 +15,28 @@ const BREAKS: &[(u32, Break)] = &[
     (1, cut_claim),
     (2, |rng, case| spoil_claim_header(rng, &mut case.claim)),
     (3, spoil_claim_length),
-    (4, |rng, case| put_word(&mut case.claim, 4, beyond(rng))),
+    (4, |rng, case| put_word(&mut case.claim, 4, beyond(rng, MOST))),
     (5, |rng, case| spoil_coefficient(rng, &mut case.claim)),
-    (6, |rng, case| spoil_exponent(rng, ClaimPlaces::of(&case.claim).points, &mut case.claim)),
+    (6, |rng, Case { claim, profile, .. }| {
+        spoil_exponent(rng, ClaimPlaces::of(claim).points, claim, profile)
+    }),
     (7, |rng, case| spoil_order(rng, &mut case.claim)),
     (8, |rng, case| case.proof.truncate(rng.below(8))),
-    (9, |rng, case| spoil_proof_header(rng, &mut case.proof)),
-    (10, |rng, case| spoil_proof_length(rng, &mut case.proof)),
+    (9, |rng, case| spoil_proof_header(rng, &mut case.proof, &case.profile)),
+    (10, |rng, case| spoil_proof_length(rng, &mut case.proof, &case.profile)),
     (11, |rng, case| case.room = rng.below(case.proof.len())),
-    (12, |rng, case| spoil_exponent(rng, ProofPlaces::of(&case.proof).ends, &mut case.proof)),
+    (12, |rng, Case { proof, profile, .. }| {
+        spoil_exponent(rng, ProofPlaces::of(proof).ends, proof, profile)
+    }),
     (13, |rng, case| spoil_midpoint(rng, &mut case.proof)),
     (14, |rng, case| spoil_lone_row(rng, &mut case.proof)),
-    (15, |rng, case| spoil_weight(rng, &mut case.proof)),
+    (15, |rng, case| spoil_weight(rng, &mut case.proof, &case.profile)),
     (24, |rng, case| spoil_limits_length(rng, &mut case.limits)),
     (25, |rng, case| spoil_limits(rng, &mut case.limits)),
     (20, |rng, case| spoil_count(rng, &mut case.offsets)),
     (22, |rng, case| (case.lo, case.hi) = ranges::wrong(rng)),
     (26, |rng, case| case.page = wrong_page_length(rng)),
+    (27, |rng, case| case.profile = profiles::wrong(rng, case.profile)),
 ];
 
 /// The fault of a number, where it has one of this sort.
@@ -79,9 +85,9 @@ fn put_word(bytes: &mut [u8], place: usize, word: i32) {
     bytes[place..place + 4].copy_from_slice(&word.to_le_bytes());
 }
 
-/// A number beyond ±2^30, just as often as far.
-fn beyond(rng: &mut Rng) -> i32 {
-    let least = (1 << 30) + 1;
+/// A number beyond ± the greatest, just as often as far.
+fn beyond(rng: &mut Rng, most: i32) -> i32 {
+    let least = most + 1;
     let any = rng.within(i64::from(least)..=i32::MAX.into()) as i32;
     rng.pick(&[least, -least, any, -any, i32::MAX, i32::MIN])
 }
@@ -135,12 +141,13 @@ fn change_length(rng: &mut Rng, sheet: &mut Vec<u8>) {
 
 fn spoil_coefficient(rng: &mut Rng, claim: &mut [u8]) {
     let ClaimPlaces { t, coefficients, .. } = ClaimPlaces::of(claim);
-    let wrong = if rng.once_in(2) { 0 } else { beyond(rng) };
+    let wrong = if rng.once_in(2) { 0 } else { beyond(rng, MOST) };
     put_word(claim, coefficients + 4 * rng.below(t), wrong);
 }
 
-fn spoil_exponent(rng: &mut Rng, points: Range<usize>, sheet: &mut [u8]) {
-    sheet[points.start + rng.below(points.len())] = past_byte(rng, 121);
+fn spoil_exponent(rng: &mut Rng, points: Range<usize>, sheet: &mut [u8], profile: &Profile) {
+    let past = past_byte(rng, profile.exponent as u8 + 1);
+    sheet[points.start + rng.below(points.len())] = past;
 }
 
 /// Makes a point equal to the one before it, or lower in one exponent.
@@ -152,8 +159,8 @@ fn spoil_order(rng: &mut Rng, claim: &mut [u8]) {
     *exponent -= rng.below(usize::from(*exponent) + 1) as u8;
 }
 
-fn spoil_proof_header(rng: &mut Rng, proof: &mut [u8]) {
-    let rows = past(rng, 257..=65_535);
+fn spoil_proof_header(rng: &mut Rng, proof: &mut [u8], profile: &Profile) {
+    let rows = past(rng, profile.rows as u16 + 1..=65_535);
     let scale = (1 << 20) + 1 + rng.below(1 << 20) as i32;
     match rng.below(6) {
         0 => proof[0] = proof[0] % 8 + 1,
@@ -166,12 +173,12 @@ fn spoil_proof_header(rng: &mut Rng, proof: &mut [u8]) {
 }
 
 /// Changes the length or the number of rows it is measured by.
-fn spoil_proof_length(rng: &mut Rng, proof: &mut Vec<u8>) {
+fn spoil_proof_length(rng: &mut Rng, proof: &mut Vec<u8>, profile: &Profile) {
     if rng.once_in(2) {
         change_length(rng, proof);
     } else {
-        let k = ProofPlaces::of(proof).k;
-        let other = (k + 1 + rng.below(256)) % 257;
+        let (k, most) = (ProofPlaces::of(proof).k, profile.rows as usize);
+        let other = (k + 1 + rng.below(most)) % (most + 1);
         proof[2..4].copy_from_slice(&(other as u16).to_le_bytes());
     }
 }
@@ -194,13 +201,14 @@ fn spoil_lone_row(rng: &mut Rng, proof: &mut [u8]) {
     put_word(proof, place, rng.pick(&[1, -1, 1 << 30, i32::MIN]));
 }
 
-/// Puts a weight beyond ±2^30; of a lone row that can only be p.
-fn spoil_weight(rng: &mut Rng, proof: &mut [u8]) {
+/// Puts a weight beyond ± the greatest; of a lone row that can only be p.
+fn spoil_weight(rng: &mut Rng, proof: &mut [u8], profile: &Profile) {
     let places = ProofPlaces::of(proof);
     let row = rng.below(places.k);
     let (v, w) = places.row(proof, row);
     let weight = if v == w { 0 } else { rng.below(3) };
-    put_word(proof, places.weights + 12 * row + 4 * weight, beyond(rng));
+    let beyond = beyond(rng, profile.weight as i32);
+    put_word(proof, places.weights + 12 * row + 4 * weight, beyond);
 }
 
 /// Makes the sheet shorter or longer, changes n, or puts a right sheet of another n.

@@ -3,11 +3,12 @@
 use super::breaks::{self, Break};
 use super::limits::right;
 use super::offsets::{largest_terms, offsets, over_largest_term};
+use super::profiles::{self, larger, needed};
 use super::ranges::{around, down_to, outside, wrong, Floors};
 use super::rows::JUDGED;
 use super::shape::mask;
 use super::{Plan, Rng, Shape};
-use crate::{Case, Claim, Limit, Limits, Point, Proof, MOST_TERMS, PAGE_LENGTH};
+use crate::{Case, Claim, Limit, Limits, Point, Profile, Proof, MOST_TERMS, PAGE_LENGTH};
 use refusals::EntryPoint::{self, Check, Evaluation, PageCheck, Program, Search};
 use std::fmt;
 
@@ -24,6 +25,8 @@ pub enum Kind {
     Largest,
     /// Refused by the number, in each of the library's entry points that say it.
     Refused(u32),
+    /// Refused by the number for a profile that is too small, and accepted under the full one.
+    Tight(u32),
     /// Cut, lengthened, with bits or bytes changed.
     Damaged,
     /// Bytes of any value, behind headers that are often right.
@@ -35,7 +38,9 @@ impl Kind {
     pub fn all() -> Vec<Kind> {
         use Kind::*;
         let refused = refusals::RULES.iter().map(|rule| Refused(rule.number));
-        [Accepted, Extreme, Found, Largest, Damaged, Noise].into_iter().chain(refused).collect()
+        let tight = refusals::BY_PROFILE.map(Tight);
+        let others = [Accepted, Extreme, Found, Largest, Damaged, Noise];
+        others.into_iter().chain(refused).chain(tight).collect()
     }
 
     /// What a case must come to by the way it was made, where that is known: the number that the
@@ -47,7 +52,7 @@ impl Kind {
             (Kind::Accepted | Kind::Extreme | Kind::Found, Check | PageCheck) => Some(0),
             (Kind::Found, Search) => Some(0),
             (Kind::Largest, Evaluation) => Some(0),
-            (Kind::Refused(number), _) => {
+            (Kind::Refused(number) | Kind::Tight(number), _) => {
                 refusals::rule(number).is_said_by(entry_point).then_some(number)
             }
             _ => None,
@@ -66,6 +71,7 @@ impl Kind {
             Kind::Refused(23) => without_floor(rng),
             Kind::Refused(number) if JUDGED.contains(&number) => misjudged(rng, number),
             Kind::Refused(number) => broken(rng, number),
+            Kind::Tight(number) => tight(rng, number),
             Kind::Damaged => damaged(rng),
             Kind::Noise => noise(rng),
         }
@@ -80,6 +86,7 @@ impl fmt::Display for Kind {
             Kind::Found => write!(f, "found floors"),
             Kind::Largest => write!(f, "terms of 2^56"),
             Kind::Refused(number) => write!(f, "refused {number}"),
+            Kind::Tight(number) => write!(f, "refused {number} by the profile"),
             Kind::Damaged => write!(f, "damaged"),
             Kind::Noise => write!(f, "noise"),
         }
@@ -89,16 +96,32 @@ impl fmt::Display for Kind {
 /// A planned case, with a search around the carried floors.
 fn planned(rng: &mut Rng, shape: fn(&mut Rng) -> Shape, faults: &[u32]) -> Case {
     let plan = Plan::random(rng, shape, faults);
-    let floors = around(rng, &plan.carried(), plan.proof.rows.len());
-    case_of(rng, &plan, floors)
+    let profile = larger(rng, plan.needed());
+    planned_under(rng, &plan, profile)
+}
+
+/// The plan's case under a profile, with a search around the floors that it leaves carried.
+fn planned_under(rng: &mut Rng, plan: &Plan, profile: Profile) -> Case {
+    let floors = around(rng, &plan.carried(profile.weight), plan.proof.rows.len());
+    case_of(rng, plan, profile, floors)
 }
 
 /// The plan's case.
-fn case_of(rng: &mut Rng, plan: &Plan, floors: Floors) -> Case {
-    sheets_case(rng, &plan.claim, &plan.proof, &plan.limits, floors)
+fn case_of(rng: &mut Rng, plan: &Plan, profile: Profile, floors: Floors) -> Case {
+    sheets_case(rng, &plan.claim, &plan.proof, &plan.limits, floors).under(profile)
 }
 
-/// A case with an output as long as the proof or longer.
+/// A case of a plan that holds and of a profile that is too small for it by the number alone.
+fn tight(rng: &mut Rng, number: u32) -> Case {
+    loop {
+        let plan = Plan::random(rng, any_shape, &[]);
+        if let Some(profile) = plan.tight(rng, number) {
+            return planned_under(rng, &plan, profile);
+        }
+    }
+}
+
+/// A case under the full profile with an output as long as the proof or longer.
 fn sheets_case(
     rng: &mut Rng,
     claim: &Claim,
@@ -118,8 +141,9 @@ fn evaluated(rng: &mut Rng, terms: fn(&mut Rng) -> (Claim, Vec<i32>)) -> Case {
     let (claim, offsets) = terms(rng);
     let proof = Proof { n: claim.n, scale: 1, rows: vec![] };
     let limits = right(rng, claim.n.into());
+    let profile = larger(rng, needed(&claim, &proof));
     let floors = around(rng, &(0..=0), 0);
-    Case { offsets, ..sheets_case(rng, &claim, &proof, &limits, floors) }
+    Case { offsets, ..sheets_case(rng, &claim, &proof, &limits, floors).under(profile) }
 }
 
 /// Shapes at the limits once in eight.
@@ -149,11 +173,13 @@ fn without_slot(rng: &mut Rng) -> Case {
     loop {
         let faults = some_faults(rng, 16);
         let mut plan = Plan::random(rng, Shape::random, &faults);
-        let floors = around(rng, &plan.carried(), plan.proof.rows.len());
+        let carried = plan.carried(Profile::FULL.weight);
+        let floors = around(rng, &carried, plan.proof.rows.len());
         let part: fn(&mut Rng, &mut Plan) -> bool =
             rng.pick(&[move_floor as _, add_term as _, move_multiplier as _]);
         if part(rng, &mut plan) {
-            return case_of(rng, &plan, floors);
+            let profile = larger(rng, plan.needed());
+            return case_of(rng, &plan, profile, floors);
         }
     }
 }
@@ -194,8 +220,9 @@ fn move_multiplier(rng: &mut Rng, plan: &mut Plan) -> bool {
 /// A case with a search that finds the highest of the carried floors.
 fn found(rng: &mut Rng) -> Case {
     let plan = Plan::random(rng, Shape::low, &[]);
-    let floors = down_to(rng, &plan.carried());
-    case_of(rng, &plan, floors)
+    let profile = larger(rng, plan.needed());
+    let floors = down_to(rng, &plan.carried(profile.weight));
+    case_of(rng, &plan, profile, floors)
 }
 
 /// A case with a search among floors none of which is accepted, often with faulty rows as well.
@@ -203,8 +230,10 @@ fn without_floor(rng: &mut Rng) -> Case {
     loop {
         let faults = some_faults(rng, 16);
         let plan = Plan::random(rng, any_shape, &faults);
-        if let Some(floors) = outside(rng, &plan.carried(), plan.proof.rows.len()) {
-            return case_of(rng, &plan, floors);
+        let profile = larger(rng, plan.needed());
+        let carried = plan.carried(profile.weight);
+        if let Some(floors) = outside(rng, &carried, plan.proof.rows.len()) {
+            return case_of(rng, &plan, profile, floors);
         }
     }
 }
@@ -234,12 +263,15 @@ fn with_terms_and_rows(rng: &mut Rng, number: u32) -> Case {
 }
 
 /// A case of another kind, with one to three damages, an output of any length, and sometimes other
-/// limits, a wrong range or a page of wrong length.
+/// limits, another profile, one out of range, a wrong range or a page of wrong length.
 fn damaged(rng: &mut Rng) -> Case {
     let kind = rng.pick(&[Kind::Accepted, Kind::Accepted, Kind::Extreme, Kind::Largest]);
     let mut case = kind.case(rng);
     if rng.once_in(8) {
         case.limits = right(rng, case.claim[0].into()).bytes();
+    }
+    if rng.once_in(4) {
+        case.profile = profiles::right(rng);
     }
     for _ in 0..1 + rng.below(3) {
         let sheet = match rng.below(8) {
@@ -258,6 +290,9 @@ fn damaged(rng: &mut Rng) -> Case {
     }
     if rng.once_in(8) {
         case.page = breaks::wrong_page_length(rng);
+    }
+    if rng.once_in(8) {
+        case.profile = profiles::wrong(rng, case.profile);
     }
     case.room = if rng.once_in(8) { rng.below(9000) } else { case.proof.len() };
     case
@@ -300,6 +335,7 @@ fn noise(rng: &mut Rng) -> Case {
     }
     let offsets = offsets(rng, n);
     let (lo, hi) = around(rng, &(0..=0), k).into_inner();
+    let profile = profiles::right(rng);
     let (room, page) = (proof.len(), PAGE_LENGTH);
-    Case { claim, proof, limits, room, page, offsets, lo, hi }
+    Case { claim, proof, limits, profile, room, page, offsets, lo, hi }
 }

@@ -39,9 +39,9 @@ impl Slot {
 }
 
 impl Plan {
-    /// The floors that the rows at the constant carry; no other floor is accepted. Without such
-    /// rows it is the one whose target is zero.
-    pub fn carried(&self) -> Floors {
+    /// The floors that the rows at the constant carry with weights up to the profile's; no other
+    /// floor is accepted. Without such rows it is the one whose target is zero.
+    pub fn carried(&self, weight: u32) -> Floors {
         let (floor, scale) = (i64::from(self.claim.floor), i64::from(self.proof.scale));
         let rows = self.proof.rows.iter().zip(&self.shifted);
         let slots: Vec<Slot> = rows.filter_map(Slot::of).collect();
@@ -53,7 +53,8 @@ impl Plan {
             floor + room.div_euclid(scale)
         };
         let slots = || (0..).zip(&slots);
-        let past = slots().map(|(rank, slot)| reaches(rank, slot.proposed, TOP + 1) + 1);
+        let past = i64::from(weight) + 1;
+        let past = slots().map(|(rank, slot)| reaches(rank, slot.proposed, past) + 1);
         let held = slots().map(|(rank, slot)| reaches(rank, slot.proposed, slot.least));
         past.max().unwrap_or(floor)..=held.min().unwrap_or(floor)
     }

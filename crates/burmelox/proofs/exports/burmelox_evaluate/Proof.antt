@@ -8,10 +8,10 @@ code-requires : tie.Need-code-requires
 code-requires c κs = search refused-short
 
 returns : tie.Need-returns
-returns c = evaluated _ _ (search needs) _ _ _ (search refused-code) (search refused-value)
+returns c = evaluated _ _ _ (search needs) _ _ _ (search refused-code) (search refused-value)
 
 returns-2 : tie.Need-returns-2
-returns-2 c = evaluated _ _ (search needs) _ _ _ (search given-code) (search (given-value, toZ-ofZ))
+returns-2 c = evaluated _ _ _ (search needs) _ _ _ (search given-code) (search (given-value, toZ-ofZ))
 
 pub burmelox-evaluate-spec : {M : Type 1} → statement M
 burmelox-evaluate-spec =

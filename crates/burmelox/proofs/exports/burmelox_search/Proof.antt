@@ -9,12 +9,12 @@ code-requires c κs = search (search-short, toZ-ofZ)
 
 returns : tie.Need-returns
 returns c =
-    searched _ _ _ _ _ _ (search needs) (search needs) _ _ _ _ _ _ (search (unfound-code, toZ-ofZ))
+    searched _ _ _ _ _ _ _ (search needs) (search needs) _ _ _ _ _ _ (search (unfound-code, toZ-ofZ))
     (search (unfound-floor, toZ-ofZ)) (search (unfound-tried, toZ-ofZ)) (search (search-output, toZ-ofZ))
 
 returns-2 : tie.Need-returns-2
 returns-2 c =
-    searched _ _ _ _ _ _ (search needs) (search needs) _ _ _ _ _ _ (search (found-code, toZ-ofZ))
+    searched _ _ _ _ _ _ _ (search needs) (search needs) _ _ _ _ _ _ (search (found-code, toZ-ofZ))
     (search (found-floor, toZ-ofZ)) (search (found-tried, toZ-ofZ)) (search (search-output, toZ-ofZ))
 
 pub burmelox-search-spec : {M : Type 1} → statement M

@@ -17,4 +17,4 @@ pub check-head-spec : {M : Type 1} → statement M
 check-head-spec =
     tie.close
     (tie.spec (λ c κs. search needs) (λ c. search needs) (λ c. search needs) returns variables-requires
-    (λ c κs. search needs) returns-2)
+    (λ c. search needs) (λ c κs. search needs) returns-2)

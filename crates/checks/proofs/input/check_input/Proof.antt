@@ -1,5 +1,5 @@
 use borrow.Author.Needs.{needs}
-use Rattle.checks.proofs.input.Steps.{input-head, input-long, input-room, input-few, input-rest}
+use Rattle.checks.proofs.input.Steps.{input-head, input-long, input-room, input-range, input-few, input-rest}
 use Rattle.checks.proofs.input.check_input.Statement.{statement}
 use Rattle.checks.proofs.input.check_input.Tie as tie
 
@@ -10,7 +10,7 @@ variables-requires : tie.Need-variables-requires
 variables-requires c κs = search input-long
 
 check-rest-requires : tie.Need-check-rest-requires
-check-rest-requires c κs = search (input-room, input-few)
+check-rest-requires c κs = search (input-room, input-range, input-few)
 
 returns-2 : tie.Need-returns-2
 returns-2 c = search input-rest

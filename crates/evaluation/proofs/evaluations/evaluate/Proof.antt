@@ -5,13 +5,13 @@ use Rattle.evaluation.proofs.evaluations.evaluate.Statement.{statement}
 use Rattle.evaluation.proofs.evaluations.evaluate.Tie as tie
 
 returns : tie.Need-returns
-returns c = promised _ _ _ (search claim-refused)
+returns c = promised _ _ _ _ (search claim-refused)
 
 variables-requires : tie.Need-variables-requires
 variables-requires c κs = search claim-long
 
 returns-2 : tie.Need-returns-2
-returns-2 c = promised _ _ _ (search offsets-refused)
+returns-2 c = promised _ _ _ _ (search offsets-refused)
 
 term-count-requires : tie.Need-term-count-requires
 term-count-requires c κs = search claim-long
@@ -20,7 +20,7 @@ summed-requires : tie.Need-summed-requires
 summed-requires c κs = search terms-room
 
 returns-3 : tie.Need-returns-3
-returns-3 c = promised _ _ _ (search all-summed)
+returns-3 c = promised _ _ _ _ (search all-summed)
 
 pub evaluate-spec : {M : Type 1} → statement M
 evaluate-spec =

@@ -5,7 +5,7 @@ use Rattle.floors.proofs.search.search.Statement.{statement}
 use Rattle.floors.proofs.search.search.Tie as tie
 
 returns : tie.Need-returns
-returns c = unwritten _ _ _ _ _ _ (search needs) (search needs) _ (search (search-refused, toZ-ofZ))
+returns c = unwritten _ _ _ _ _ _ _ (search needs) _ (search (search-refused, toZ-ofZ))
 
 aim-of-requires : tie.Need-aim-of-requires
 aim-of-requires c κs = (search (search-claim, toZ-ofZ), search (search-proof, toZ-ofZ), search (search-limits, toZ-ofZ))
@@ -15,11 +15,11 @@ search-checked-requires c κs = (search (search-ready, toZ-ofZ), search (search-
 
 returns-2 : tie.Need-returns-2
 returns-2 c =
-    promised _ _ _ _ _ _ (search needs) (search needs) _ _ (search (search-told, toZ-ofZ))
+    promised _ _ _ _ _ _ _ (search needs) _ _ (search (search-told, toZ-ofZ))
     (search (search-written, toZ-ofZ))
 
 pub search-spec : {M : Type 1} → statement M
 search-spec =
     tie.close
     (tie.spec (λ c κs. search needs) (λ c. search needs) returns (λ c. search needs) aim-of-requires
-    search-checked-requires (λ c. search needs) returns-2)
+    (λ c. search needs) search-checked-requires (λ c. search needs) returns-2)

@@ -14,11 +14,11 @@ aim-after-requires c κs = (search (found-high, toZ-ofZ), search (found-few, toZ
 write-exact-requires : tie.Need-write-exact-requires
 write-exact-requires c κs = search (found-writable, toZ-ofZ)
 
-cast-t14 : tie.Need-cast-t14
-cast-t14 c = search (index-fits, toZ-ofZ)
+cast-t15 : tie.Need-cast-t15
+cast-t15 c = search (index-fits, toZ-ofZ)
 
-add-t15 : tie.Need-add-t15
-add-t15 c = search (tried-fits, toZ-ofZ)
+add-t16 : tie.Need-add-t16
+add-t16 c = search (tried-fits, toZ-ofZ)
 
 row-count-requires : tie.Need-row-count-requires
 row-count-requires c κs = search proof-eight
@@ -30,4 +30,4 @@ pub search-checked-spec : {M : Type 1} → statement M
 search-checked-spec =
     tie.close
     (tie.spec (λ c κs. search needs) (λ c. search needs) (λ c. search needs) returns aim-after-requires
-    write-exact-requires cast-t14 add-t15 row-count-requires (λ c. search needs) returns-2)
+    write-exact-requires cast-t15 add-t16 row-count-requires (λ c. search needs) returns-2)

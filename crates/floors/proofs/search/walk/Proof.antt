@@ -14,11 +14,11 @@ use Rattle.floors.proofs.search.walk.Statement.{statement}
 use Rattle.floors.proofs.search.walk.Tie as tie
 
 abbrev Inv-loop : tie.InvT-loop
-Inv-loop claim proof aim lo hi tests floors last₀ i₀ last i =
-    (i ≤ floors) × (last < tests) × (first (passesAfter claim proof aim (toZ w64 hi)) i ≡ Nothing)
+Inv-loop claim proof aim limit lo hi tests floors last₀ i₀ last i =
+    (i ≤ floors) × (last < tests) × (first (passesAfter limit claim proof aim (toZ w64 hi)) i ≡ Nothing)
 
 abbrev μ-loop : tie.MeasureT-loop
-μ-loop claim proof aim lo hi tests floors last₀ i₀ last i = floors - i
+μ-loop claim proof aim limit lo hi tests floors last₀ i₀ last i = floors - i
 
 test-count-requires : tie.Need-test-count-requires Inv-loop μ-loop
 test-count-requires c κs = (search claim-eight, search proof-eight)
@@ -33,7 +33,7 @@ aim-after-requires : tie.Need-aim-after-requires Inv-loop μ-loop
 aim-after-requires c κs = (search (walk-high, toZ-ofZ), search (needs, walk-few, toZ-ofZ))
 
 first-failing-requires : tie.Need-first-failing-requires Inv-loop μ-loop
-first-failing-requires c κs = (search (walk-checked, toZ-ofZ), search needs, search needs)
+first-failing-requires c κs = (search (walk-checked, toZ-ofZ), search needs, search needs, search needs)
 
 returns : tie.Need-returns Inv-loop μ-loop
 returns c = search (walk-stop, trial-passed, toZ-ofZ)

@@ -10,7 +10,7 @@ returns : tie.Need-returns
 returns c = search point-fails
 
 judge-row-requires : tie.Need-judge-row-requires
-judge-row-requires c κs = (search needs, search row-inside)
+judge-row-requires c κs = (search needs, search row-inside, search needs)
 
 returns-2 : tie.Need-returns-2
 returns-2 c = search row-fails

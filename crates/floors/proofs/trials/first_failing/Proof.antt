@@ -11,11 +11,11 @@ use Rattle.floors.proofs.trials.first_failing.Statement.{statement}
 use Rattle.floors.proofs.trials.first_failing.Tie as tie
 
 abbrev Inv-loop : tie.InvT-loop
-Inv-loop claim proof aim tests from i₀ i =
-    (i ≤ tests) × (first (failsFrom claim proof aim from) i ≡ Nothing)
+Inv-loop claim proof aim limit tests from i₀ i =
+    (i ≤ tests) × (first (failsFrom limit claim proof aim from) i ≡ Nothing)
 
 abbrev μ-loop : tie.MeasureT-loop
-μ-loop claim proof aim tests from i₀ i = tests - i
+μ-loop claim proof aim limit tests from i₀ i = tests - i
 
 loop-holds : tie.Need-loop-holds Inv-loop μ-loop
 loop-holds c = search (needs, first-start)
@@ -24,7 +24,7 @@ rotate-requires : tie.Need-rotate-requires Inv-loop μ-loop
 rotate-requires c κs = (search tests-few, search needs, search needs)
 
 fails-requires : tie.Need-fails-requires Inv-loop μ-loop
-fails-requires c κs = (search needs, search test-inside)
+fails-requires c κs = (search needs, search needs, search test-inside)
 
 returns : tie.Need-returns Inv-loop μ-loop
 returns c = search (first-stop, test-met)

@@ -1,7 +1,6 @@
 use mathlib.Core.Path.{_≡_}
 use Prim.Native.Nat.{_≤_, _-_}
 use borrow.Author.Needs.{needs}
-use Rattle.bounds.specs.Bounds.{greatestWeight}
 use Rattle.targets.specs.Targets.{targetOf}
 use Rattle.sharing.specs.Shifts.{shiftedRow}
 use Rattle.judgements.specs.Judgements.{firstsTo}
@@ -10,11 +9,11 @@ use Rattle.weighing.proofs.weighed.judge_all.Statement.{statement}
 use Rattle.weighing.proofs.weighed.judge_all.Tie as tie
 
 abbrev Inv-loop : tie.InvT-loop
-Inv-loop claim proof aim k f₀ i₀ f i =
-    (i ≤ k) × (f ≡ firstsTo greatestWeight (shiftedRow (targetOf claim aim) proof) i)
+Inv-loop claim proof aim limit k f₀ i₀ f i =
+    (i ≤ k) × (f ≡ firstsTo limit (shiftedRow (targetOf claim aim) proof) i)
 
 abbrev μ-loop : tie.MeasureT-loop
-μ-loop claim proof aim k f₀ i₀ f i = k - i
+μ-loop claim proof aim limit k f₀ i₀ f i = k - i
 
 loop-holds : tie.Need-loop-holds Inv-loop μ-loop
 loop-holds c = search (needs, firsts-start)
