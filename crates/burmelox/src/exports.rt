@@ -45,10 +45,10 @@ pub extern "C" fn burmelox_check(
     profile: Profile,
     output: &mut [u8],
 ) -> u64
-    ensures code { λ r. ⌜ r ≡ codeOf (checkAnswer (now (claim .entry)) (now (proof .entry)) (now (limits .entry)) profile
-        (length (now (output .entry)))) ⌝ }
-    ensures answer { λ r. ⌜ Coded (checkAnswer (now (claim .entry)) (now (proof .entry)) (now (limits .entry)) profile
-        (length (now (output .entry)))) r ⌝ }
+    ensures code { λ r. ⌜ r ≡ codeOf (checkAnswer (now (claim .entry)) (now (proof .entry)) (now (limits .entry))
+        profile (length (now (output .entry)))) ⌝ }
+    ensures answer { λ r. ⌜ Coded (checkAnswer (now (claim .entry)) (now (proof .entry)) (now (limits .entry))
+        profile (length (now (output .entry)))) r ⌝ }
     ensures written { λ r. ⌜ now (output .exit)
         ≡ outputOf (now (claim .entry)) (now (proof .entry)) (now (limits .entry)) profile (now (output .entry)) ⌝ }
     ensures promises { λ r. ⌜ CheckPromises (now (claim .entry)) (now (proof .entry)) (now (limits .entry)) profile
@@ -133,8 +133,8 @@ pub extern "C" fn burmelox_search(
         (now (limits .entry)) profile lo hi (length (now (output .entry)))) (now (tried .entry)) ⌝ }
     ensures kept { λ r. ⌜ Leaves (Accepted r) (now (floor .entry)) (now (floor .exit))
         × Leaves (Accepted r) (now (tried .entry)) (now (tried .exit)) ⌝ }
-    ensures promises { λ r. ⌜ SearchPromises (now (claim .entry)) (now (proof .entry)) (now (limits .entry)) profile lo hi
-        (now (output .entry)) (Finds r (now (floor .exit)) (now (tried .exit))) (numberIn r ≡ 23)
+    ensures promises { λ r. ⌜ SearchPromises (now (claim .entry)) (now (proof .entry)) (now (limits .entry)) profile
+        lo hi (now (output .entry)) (Finds r (now (floor .exit)) (now (tried .exit))) (numberIn r ≡ 23)
         (now (output .exit)) ⌝ }
 {
     match search(claim, proof, limits, profile, lo, hi, output) {

@@ -51,7 +51,9 @@ Accepts text = take 8 text ≡ ascii "accepted"
 pub record IsPrinted (c s text : List ℕ) : Type 0 where
   pub acceptance : Passes (plainAnswer c s fullProfile (length s)) → text ≡ acceptedLines c s
   pub refusal : blameless (plainAnswer c s fullProfile (length s)) ≡ false
-      → text ≡ ended (refusedLine (plainAnswer c s fullProfile (length s) .number) (plainAnswer c s fullProfile (length s) .value))
+      → text
+      ≡ ended
+      (refusedLine (plainAnswer c s fullProfile (length s) .number) (plainAnswer c s fullProfile (length s) .value))
   -- what the check promises, by the text's first word, with k and the shifted rows as its lines have them
   pub promises : CheckPromises c s (noLimits (variables c)) fullProfile (zeros (length s))
       (LongEnough s (zeros (length s))) (Accepts text) (rowCount s) (plainOutput c s fullProfile (zeros (length s)))

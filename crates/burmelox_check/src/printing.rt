@@ -30,8 +30,8 @@ fn said_variables(claim: &[u8]) -> u8
     claim[0]
 }
 
-// The text for a claim and its proof, none of whose variables is limited, under the full profile, with an output for the
-// exact proof; the answer is where the text ends.
+// The text for a claim and its proof, none of whose variables is limited, under the full profile, with an output for
+// the exact proof; the answer is where the text ends.
 fn print_sheets(claim: &[u8], proof: &[u8], output: &mut [u8], text: &mut [u8; LONGEST]) -> usize
     ensures written { λ r. ⌜ now (output .exit)
         ≡ plainOutput (now (claim .entry)) (now (proof .entry)) fullProfile (now (output .entry)) ⌝ }

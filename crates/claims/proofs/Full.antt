@@ -1,8 +1,6 @@
 -- The checks 1 to 7 under the full profile.
-use mathlib.Core.Path.{refl}
 use mathlib.Core.List.{List}
 use Prim.Native.Nat.{ℕ}
-use Rattle.bounds.specs.Profiles.{fullProfile}
 use Rattle.bounds.proofs.profiles.Laws.{full-range}
 use Rattle.answers.proofs.answers.Laws.{if-on}
 use Rattle.claims.specs.ClaimChecks.{termsAnswer, claimAnswer}

@@ -28,11 +28,14 @@ use Rattle.limits.specs.LimitsSheet.{domainOf}
 use Rattle.checks.specs.Input.{WellFormed}
 use Rattle.checks.proofs.proof_checks.Laws.{rows-counted}
 use Rattle.checks.proofs.input.Laws.{input-formed, input-enough, input-larger}
-use Rattle.sharing.proofs.shifts.Laws.{claim-eight}
+use Rattle.targets.specs.Targets.{aimOf}
+use Rattle.sharing.proofs.shifts.Laws.{sheets-checked, claim-eight}
+use Rattle.weighing.proofs.Higher.{weighed-higher}
 use Rattle.judging.specs.Check.{checkAnswer, outputOf}
+use Rattle.judging.proofs.check.Laws.{floored-answer}
 use Rattle.judging.proofs.Promises.{accepted-rows, accepted-larger, floor-kept, check-promises}
 use Rattle.floors.specs.Search.{Told, found, refusal, answerOf, rangeAnswer, floorCount, floorAfter, accepts, refusedBefore, toldAfter, searchOf, outputBy, searchOutput}
-use Rattle.floors.specs.Promises.{RightRange, FloorPromises, Some, FindsHigher, SearchPromises}
+use Rattle.floors.specs.Promises.{RightRange, FloorPromises, Some, SearchPromises}
 use Rattle.floors.proofs.Full.{search-full}
 use Rattle.floors.proofs.search.Laws.{answer-found, answer-refusal, right-range, range-right, searchable, input-passed, range-passed, range-passes, range-short, range-other, after-low, after-high, after-within}
 
@@ -155,7 +158,8 @@ module _ (c s ls : List ℕ) (π : Profile) (lo hi : ℤ) (room : ℕ) where
   -- a refusal is one before 16, or 23
   told-refused : {A : Type 0} (a : Answer) → told ≡ refusal a
       → (blameless (rangeAnswer c s ls π lo hi room) ≡ false → a ≡ rangeAnswer c s ls π lo hi room → A)
-      → (Passes (rangeAnswer c s ls π lo hi room) → refusedBefore c s ls π lo hi room ≡ Nothing → a ≡ refused 23 0 → A) → A
+      → (Passes (rangeAnswer c s ls π lo hi room) → refusedBefore c s ls π lo hi room ≡ Nothing → a ≡ refused 23 0 → A)
+      → A
   told-refused a e one other =
       told-cases (λ h q. one h (cc)) (λ h i f q. never (cc)) (λ h f q. other h f (cc))
 
@@ -179,7 +183,8 @@ module _ (c s ls : List ℕ) (π : Profile) (lo hi : ℤ) (room : ℕ) where
         → (refusedBefore c s ls π lo hi room ≡ Nothing → told ≡ refusal (refused 23 0) → A) → A
     ready-cases some none = told-cases (λ n q. absurd (true≢false (sym h ∙ n))) (λ _. some) (λ _. none)
 
-    told-some : (b : ℤ) → lo ≤ℤ b → b ≤ℤ hi → accepts c s ls π room b ≡ true → Some (λ b tried k. told ≡ found b tried k)
+    told-some : (b : ℤ) → lo ≤ℤ b → b ≤ℤ hi → accepts c s ls π room b ≡ true
+        → Some (λ b tried k. told ≡ found b tried k)
     told-some b low high a =
         ready-cases (λ i f q. record { floor = _; tried = _; rows = _; finds = q })
         (λ f q.
@@ -209,6 +214,12 @@ module _ (c s ls : List ℕ) (π : Profile) (lo hi : ℤ) (room : ℕ) where
 
 -- ---- the promises of a floor that is told
 
+found-writes : (c s ls : List ℕ) (π : Profile) (lo hi : ℤ) (out : List ℕ) (b : ℤ) (tried k : ℕ)
+    → searchOf c s ls π lo hi (length out) ≡ found b tried k
+    → searchOutput c s ls π lo hi out ≡ outputOf (withFloor c b) s ls π out
+unfolding searchOutput outputBy
+found-writes c s ls π lo hi out b tried k e = rw e
+
 found-promises : (c s ls : List ℕ) (π : Profile) (lo hi : ℤ) (out : List ℕ) → Bytes s → (b : ℤ) (tried k : ℕ)
     → searchOf c s ls π lo hi (length out) ≡ found b tried k → (o : List ℕ) → o ≡ outputOf (withFloor c b) s ls π out
     → FloorPromises c s ls π lo hi out b tried k o
@@ -227,51 +238,76 @@ found-promises c s ls π lo hi out bs b tried k e o eo = record {
       (λ _. walked c s ls π lo hi (length out) b tried k e .rows-are) bs o eo;
 }
 
--- note 7: a larger profile finds a floor too, at least as high
-module _ (c s ls : List ℕ) (π ρ : Profile) (l : Larger π ρ) (lo hi : ℤ) (out : List ℕ) (b : ℤ) (tried k : ℕ)
-    (e : searchOf c s ls π lo hi (length out) ≡ found b tried k) where
-  larger-ready : Passes (rangeAnswer c s ls ρ lo hi (length out))
+-- ---- note 7: a larger profile finds the same floor
+
+module _ (c s ls : List ℕ) (π ρ : Profile) (l : Larger π ρ) (lo hi : ℤ) (room : ℕ) (b : ℤ) (tried k : ℕ)
+    (e : searchOf c s ls π lo hi room ≡ found b tried k) where
+  ready : Passes (rangeAnswer c s ls π lo hi room)
+  ready = walked c s ls π lo hi room b tried k e .ready
+
+  larger-ready : Passes (rangeAnswer c s ls ρ lo hi room)
   unfolding rangeAnswer
   larger-ready =
-      let p = passes-then _ _ (walked c s ls π lo hi (length out) b tried k e .ready) in
-      then-passes _ _ (input-larger c s ls π ρ l (length out) (p .0)) (p .1)
+      let p = passes-then _ _ ready in then-passes _ _ (input-larger c s ls π ρ l room (p .0)) (p .1)
 
-  larger-accepts : accepts c s ls ρ (length out) b ≡ true
+  abbrev Accepts : Profile → ℤ → Type 0
+  Accepts σ x = accepts c s ls σ room x ≡ true
+
+  larger-accepts : Accepts ρ b
   unfolding accepts
   larger-accepts =
       accepted-passes _ _
-      (accepted-larger (withFloor c b) s ls π ρ l (length out) (found-passes c s ls π lo hi (length out) b tried k e))
+      (accepted-larger (withFloor c b) s ls π ρ l room (found-passes c s ls π lo hi room b tried k e))
 
-  larger-some : Some (λ b tried k. searchOf c s ls ρ lo hi (length out) ≡ found b tried k)
+  larger-some : Some (λ b tried k. searchOf c s ls ρ lo hi room ≡ found b tried k)
   larger-some =
-      let m = found-within c s ls π lo hi (length out) b tried k e in
-      told-some c s ls ρ lo hi (length out) larger-ready b (m .0) (m .1) larger-accepts
+      let m = found-within c s ls π lo hi room b tried k e in
+      told-some c s ls ρ lo hi room larger-ready b (m .0) (m .1) larger-accepts
 
-  larger-higher : b ≤ℤ larger-some .floor
-  larger-higher = go (ltZ (larger-some .floor) b) refl
+  abbrev b′ : ℤ
+  b′ = larger-some .floor
+
+  -- what is accepted is not above what is found
+  none-above : (σ : Profile) (x : ℤ) (t m : ℕ) → searchOf c s ls σ lo hi room ≡ found x t m → (y : ℤ) → y ≤ℤ hi
+      → Accepts σ y → y ≤ℤ x
+  none-above σ x t m q y high a = go (ltZ x y) refl
     where
-      go : (t : Bool) → ltZ (larger-some .floor) b ≡ t → b ≤ℤ larger-some .floor
-      go false h = ltZ-false _ _ h
+      go : (d : Bool) → ltZ x y ≡ d → y ≤ℤ x
+      go false h = ltZ-false x y h
       go true h =
-          let m = found-within c s ls π lo hi (length out) b tried k e in
-          let f = found-higher c s ls ρ lo hi (length out) _ _ _ (larger-some .finds) b (ltZ-true _ _ h) (m .1) in
-          absurd (true≢false (sym larger-accepts ∙ f))
+          absurd (true≢false (sym a ∙ found-higher c s ls σ lo hi room x t m q y (ltZ-true x y h) high))
 
-  finds-higher : (o : List ℕ) → outputOf (withFloor c b) s ls ρ out ≡ o → FindsHigher c s ls ρ lo hi out b k o
-  unfolding searchOutput outputBy
-  finds-higher o eo =
-      let rows = walked c s ls ρ lo hi (length out) _ _ _ (larger-some .finds) .rows-are in
-      let told =
-      larger-some .finds
-      ∙ ap (found (larger-some .floor) (larger-some .tried))
-      (rows ∙ sym (walked c s ls π lo hi (length out) b tried k e .rows-are)) in
-      record {
-        floor = larger-some .floor;
-        tried = larger-some .tried;
-        told = told;
-        higher = larger-higher;
-        written = λ q. rw (told, q) eo;
-      }
+  -- so what the larger profile finds is no lower, and the smaller one accepts it too
+  no-lower : b ≤ℤ b′
+  no-lower =
+      none-above ρ b′ _ _ (larger-some .finds) b (found-within c s ls π lo hi room b tried k e .1) larger-accepts
+
+  smaller-accepts : Accepts π b′
+  unfolding accepts
+  smaller-accepts =
+      let input = input-passed c s ls π lo hi room ready in
+      let input′ = input-passed c s ls ρ lo hi room larger-ready in
+      let small = found-small c s ls π lo hi room b tried k e in
+      let small′ = found-small c s ls ρ lo hi room _ _ _ (larger-some .finds) in
+      rw (floored-answer c s ls π room input b′ small′)
+      (weighed-higher (π .weight) (ρ .weight) c s (aimOf c s ls)
+      (sheets-checked c s ls π (input-formed c s ls π room input)) b b′ no-lower
+      (rw (floored-answer c s ls π room input b small) at (found-passes c s ls π lo hi room b tried k e))
+      (rw (floored-answer c s ls ρ room input′ b′ small′)
+      at (found-passes c s ls ρ lo hi room _ _ _ (larger-some .finds))))
+
+  larger-told : searchOf c s ls ρ lo hi room ≡ found b tried k
+  larger-told =
+      let high = found-within c s ls ρ lo hi room _ _ _ (larger-some .finds) .1 in
+      let no-higher = none-above π b tried k e b′ high smaller-accepts in
+      let same : b′ ≡ b = by-eq (simp ring (omega (ints, no-lower, no-higher))) in
+      let counts = simp ring at (read-eq (found-counts c s ls π lo hi room b tried k e)) in
+      let counts′ = simp ring at (read-eq (found-counts c s ls ρ lo hi room _ _ _ (larger-some .finds))) in
+      let tried-same : larger-some .tried ≡ tried = omega (ints, counts, counts′, same) in
+      let rows = walked c s ls π lo hi room b tried k e .rows-are in
+      let rows′ = walked c s ls ρ lo hi room _ _ _ (larger-some .finds) .rows-are in
+      let rows-same : larger-some .rows ≡ k = rows′ ∙ sym rows in
+      larger-some .finds ∙ (cc)
 
 -- ---- the promises, for whatever is to say that a floor is found, or none
 
@@ -280,8 +316,7 @@ module _ (c s ls : List ℕ) (π : Profile) (lo hi : ℤ) (out : List ℕ) (Find
     (none-meant : FindsNone ↔ (searchOf c s ls π lo hi (length out) ≡ refusal (refused 23 0))) (bs : Bytes s)
     (o : List ℕ) (eo : o ≡ searchOutput c s ls π lo hi out) where
   found-output : (b : ℤ) (tried k : ℕ) → Finds b tried k → o ≡ outputOf (withFloor c b) s ls π out
-  unfolding searchOutput outputBy
-  found-output b tried k f = eo ∙ rw (meant b tried k .0 f)
+  found-output b tried k f = eo ∙ found-writes c s ls π lo hi out b tried k (meant b tried k .0 f)
 
   unfound-output : (Some Finds → ⊥) → o ≡ out
   unfolding searchOutput outputBy
@@ -320,7 +355,8 @@ module _ (c s ls : List ℕ) (π : Profile) (lo hi : ℤ) (out : List ℕ) (Find
     larger = λ b tried k f ρ l.
         let e = meant b tried k .0 f in
         let checked = found-promises c s ls π lo hi out bs b tried k e o (found-output b tried k f) .checked in
-        finds-higher c s ls π ρ l lo hi out b tried k e o
-        (checked .larger (found-passes c s ls π lo hi (length out) b tried k e) ρ l .1);
+        let told = larger-told c s ls π ρ l lo hi (length out) b tried k e in
+        let same = checked .larger (found-passes c s ls π lo hi (length out) b tried k e) ρ l .1 in
+        (told, found-writes c s ls ρ lo hi out b tried k told ∙ same);
     full = search-full c s ls;
   }

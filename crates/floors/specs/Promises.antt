@@ -19,7 +19,8 @@ use Rattle.limits.specs.LimitsSheet.{domainOf}
 use Rattle.checks.specs.Input.{WellFormed}
 use Rattle.judging.specs.Check.{checkAnswer, outputOf}
 use Rattle.judging.specs.Promises.{LongEnough, CheckPromises}
-use Rattle.floors.specs.Search.{found, searchOf, searchOutput}
+use Rattle.floors.specs.Search as Search
+use Rattle.floors.specs.Search.{searchOf, searchOutput}
 use Rattle.floors.specs.Full.{SearchFull}
 
 -- a range that 22 lets pass, in plain numbers
@@ -57,16 +58,6 @@ pub record Some (Finds : ℤ → ℕ → ℕ → Type 0) : Type 0 where
   pub rows : ℕ
   pub finds : Finds floor tried rows
 
--- a search under the profile ρ finds a floor with k rows too, at least as high as b; where it is b itself the output is
--- the same
-pub record FindsHigher (c s l : List ℕ) (ρ : Profile) (lo hi : ℤ) (out : List ℕ) (b : ℤ) (k : ℕ) (o : List ℕ) : Type 0
-  where
-    pub floor : ℤ
-    pub tried : ℕ
-    pub told : searchOf c s l ρ lo hi (length out) ≡ found floor tried k
-    pub higher : b ≤ℤ floor
-    pub written : floor ≡ b → searchOutput c s l ρ lo hi out ≡ o
-
 -- `Finds b tried k` says that the entry point found the floor b, and `FindsNone` that it answered 23, both as its
 -- caller sees them
 pub record SearchPromises (c s l : List ℕ) (π : Profile) (lo hi : ℤ) (out : List ℕ) (Finds : ℤ → ℕ → ℕ → Type 0)
@@ -80,8 +71,9 @@ pub record SearchPromises (c s l : List ℕ) (π : Profile) (lo hi : ℤ) (out :
       × ((b : ℤ) → lo ≤ℤ b → b ≤ℤ hi → blameless (checkAnswer (withFloor c b) s l π (length out)) ≡ false))
   -- "both write nothing", and so does every other refusal
   pub leaves : (Some Finds → ⊥) → o ≡ out
-  -- note 7: a larger profile accepts what this one accepts, so that its search finds a floor at least as high
+  -- note 7: under a larger profile the same floor is found, "with equal bytes". More may be accepted there, but no
+  -- floor above this one: a higher floor asks for no larger weight
   pub larger : (b : ℤ) (tried k : ℕ) → Finds b tried k → (ρ : Profile) → Larger π ρ
-      → FindsHigher c s l ρ lo hi out b k o
+      → (searchOf c s l ρ lo hi (length out) ≡ Search.found b tried k) × (searchOutput c s l ρ lo hi out ≡ o)
   -- "the full profile gives the old verdicts"
   pub full : SearchFull c s l

@@ -339,7 +339,7 @@ pub ≤ℤ-trans : {x y z : ℤ} → x ≤ℤ y → y ≤ℤ z → x ≤ℤ z
 pub +ℤ-mono : {x y u v : ℤ} → x ≤ℤ y → u ≤ℤ v → (x +ℤ u) ≤ℤ (y +ℤ v)
 +ℤ-mono h k = by-le (simp ring (omega ints))
 
-*ℤ-mono : {x y z : ℤ} → pos 0 ≤ℤ z → x ≤ℤ y → (x *ℤ z) ≤ℤ (y *ℤ z)
+pub *ℤ-mono : {x y z : ℤ} → pos 0 ≤ℤ z → x ≤ℤ y → (x *ℤ z) ≤ℤ (y *ℤ z)
 *ℤ-mono {z = pos k} h l = by-le (simp ring (omega (ints, mul-le-mul-right k (le-parts l))))
 *ℤ-mono {z = negsuc k} h l = absurd (h .le)
 

@@ -1,4 +1,4 @@
--- The check with no variable limited is that of a claim and a proof alone, as document 01 and notes 3 and 7 describe it.
+-- The check with no variable limited is that of a claim and a proof alone, as document 01 and notes 3 and 7 have it.
 use mathlib.Core.Path.{_≡_}
 use mathlib.Core.Bool.{cond}
 use mathlib.Core.List.{List, _++_}

@@ -11,9 +11,9 @@ ghost use Rattle.answers.specs.Answers.{says, Passes};
 ghost use Rattle.paging.specs.PageCheck.{pageAnswer, pageOutput, pageAfter};
 ghost use Rattle.paging.specs.Promises.{PagePromises};
 
-// Checks a claim and its proof within limits, under a site's profile, and lays the verdict out on a page of 2,920 bytes:
-// a refusal writes the page and nothing else, an acceptance the exact proof too. A page of another length is refused and
-// nothing is written.
+// Checks a claim and its proof within limits, under a site's profile, and lays the verdict out on a page of 2,920
+// bytes: a refusal writes the page and nothing else, an acceptance the exact proof too. A page of another length is
+// refused and nothing is written.
 pub fn page_check(
     claim: &[u8],
     proof: &[u8],

@@ -1,1 +1,2 @@
 pub mod Unlimited
+pub mod Higher

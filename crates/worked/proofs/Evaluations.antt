@@ -2,7 +2,7 @@
 use mathlib.Core.Path.{refl}
 use Rattle.integers.specs.Words.{u32At, i32At}
 use Rattle.bounds.specs.Bounds.{beyond}
-use Rattle.bounds.specs.Profiles.{inRange, fullProfile}
+use Rattle.bounds.specs.Profiles.{inRange}
 use Rattle.answers.specs.Answers.{accepted, refused, refuseIf, refuseAt, blameless, andThen}
 use Rattle.answers.specs.Searches.{kept, first}
 use Rattle.points.specs.Lists.{table}

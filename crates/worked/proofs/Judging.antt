@@ -5,7 +5,7 @@ use lib.IntN.{negsuc}
 use Rattle.integers.specs.Words.{u32At, i32At, withBits, withI32}
 use Rattle.integers.specs.Division.{floorDiv, floorMod, share}
 use Rattle.bounds.specs.Bounds.{beyond}
-use Rattle.bounds.specs.Profiles.{inRange, fullProfile}
+use Rattle.bounds.specs.Profiles.{inRange}
 use Rattle.answers.specs.Answers.{accepted, refused, refuseIf, refuseAt, blameless, andThen}
 use Rattle.answers.specs.Searches.{kept, first}
 use Rattle.points.specs.Lists.{table}

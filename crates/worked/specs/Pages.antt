@@ -100,7 +100,8 @@ worked a = record {
   answer =
       pageAnswer (a .claim) (a .proof) (noLimits (variables (a .claim))) fullProfile (length (a .output))
       (length (a .page));
-  written = pageOutput (a .claim) (a .proof) (noLimits (variables (a .claim))) fullProfile (a .output) (length (a .page));
+  written =
+      pageOutput (a .claim) (a .proof) (noLimits (variables (a .claim))) fullProfile (a .output) (length (a .page));
   after = pageAfter (a .claim) (a .proof) (noLimits (variables (a .claim))) fullProfile (length (a .output)) (a .page);
 }
 

@@ -2,7 +2,7 @@
 use mathlib.Core.Path.{_≡_}
 use mathlib.Core.List.{List, [], _∷_, _++_, map}
 use Prim.Native.Nat.{ℕ, _+_, _^_}
-use lib.IntN.{ℤ, pos, negsuc}
+use lib.IntN.{pos, negsuc}
 use lib.ListN.{length, replicate}
 use Rattle.bounds.specs.Profiles.{fullProfile}
 use Rattle.bounds.specs.declared.profiles.Profile.{Profile}
@@ -14,6 +14,7 @@ use Rattle.floors.specs.Search as Floors
 use Rattle.paging.specs.PageCheck.{pageAnswer}
 use Rattle.worked.specs.Sheets.{claimOf, squareWith, square, squareProof, oneRow, bare, noRows, oneTerm, oneLimit}
 use Rattle.worked.specs.Judging.{spare}
+use Rattle.worked.specs.Searches.{loneZero}
 
 unfoldable pub within : ℕ → ℕ → ℕ → Profile
 within exponent weight rows = record { exponent = exponent; weight = weight; rows = rows }
@@ -120,9 +121,8 @@ worked a = record {
 -- 5 with a lone row of its own: the floor 0 needs the weight 5; 22 keeps 2^30
 unfoldable pub searches : List Floors.Told
 searches =
-    Floors.searchOf (oneTerm 0 (pos 5)) (oneRow 0 0 (pos 0) (pos 0) (pos 0)) (noLimits 1) (within 0 4 1) (pos 0) (pos 0) 22
-    ∷ Floors.searchOf (oneTerm 0 (pos 5)) (oneRow 0 0 (pos 0) (pos 0) (pos 0)) (noLimits 1) (within 0 5 1) (pos 0) (pos 0)
-    22
+    Floors.searchOf (oneTerm 0 (pos 5)) loneZero (noLimits 1) (within 0 4 1) (pos 0) (pos 0) 22
+    ∷ Floors.searchOf (oneTerm 0 (pos 5)) loneZero (noLimits 1) (within 0 5 1) (pos 0) (pos 0) 22
     ∷ Floors.searchOf heavy noRows (noLimits 1) (within 0 1 0) (pos (2 ^ 30)) (pos (2 ^ 30)) 8
     ∷ []
 

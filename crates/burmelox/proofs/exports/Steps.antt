@@ -80,8 +80,8 @@ module _ (a : Answer) (r : ℕ) (e : r ≡ codeOf a) where
 
 -- ---- burmelox_check: v is the verdict, r its code, o the output afterwards
 
-module _ (c s ls : List ℕ) (π : Profile) (out : List ℕ) (v : Verdict) (e : says v ≡ checkAnswer c s ls π (length out)) (bc : Bytes c)
-    (bs : Bytes s) where
+module _ (c s ls : List ℕ) (π : Profile) (out : List ℕ) (v : Verdict)
+    (e : says v ≡ checkAnswer c s ls π (length out)) (bc : Bytes c) (bs : Bytes s) where
   pub checked-short : Short 65536 (says v)
   checked-short = rw e (check-short c s ls π (length out) (omega arith) bc bs)
 
@@ -105,8 +105,8 @@ module _ (c s ls : List ℕ) (π : Profile) (out : List ℕ) (v : Verdict) (e : 
 
 -- ---- burmelox_check_page: v is the verdict, r its code, o and p are the output and the page afterwards
 
-module _ (c s ls : List ℕ) (π : Profile) (out page : List ℕ) (v : Verdict) (e : says v ≡ pageAnswer c s ls π (length out) (length page))
-    (bc : Bytes c) (bs : Bytes s) where
+module _ (c s ls : List ℕ) (π : Profile) (out page : List ℕ) (v : Verdict)
+    (e : says v ≡ pageAnswer c s ls π (length out) (length page)) (bc : Bytes c) (bs : Bytes s) where
   pub paged-short : Short 65536 (says v)
   paged-short = rw e (page-short c s ls π (length out) (length page) (omega arith) bc bs)
 
@@ -151,10 +151,11 @@ module _ (c : List ℕ) (π : Profile) (x : List ℤ) (t : Evaluation) (e : tell
     unfolding toldValue
     given-value z′ before ez = rw (tells-value c π x t e z h) ez
 
-module _ (c : List ℕ) (π : Profile) (x : List ℤ) (bc : Bytes c) (r : ℕ) (before after : ℤ) (er : r ≡ codeOf (evaluationAnswer c π x))
-    (ev : after ≡ toldValue (evaluationOf c π x) before) where
+module _ (c : List ℕ) (π : Profile) (x : List ℤ) (bc : Bytes c) (r : ℕ) (before after : ℤ)
+    (er : r ≡ codeOf (evaluationAnswer c π x)) (ev : after ≡ toldValue (evaluationOf c π x) before) where
   evaluation-coded : Coded (evaluationAnswer c π x) r
-  evaluation-coded = coded (evaluationAnswer c π x) r er (evaluation-short c π x (omega arith) bc) 0 (evaluation-passed c π x)
+  evaluation-coded =
+      coded (evaluationAnswer c π x) r er (evaluation-short c π x (omega arith) bc) 0 (evaluation-passed c π x)
 
   zero-coded : (r ≡ 0) ↔ Passes (evaluationAnswer c π x)
   zero-coded = (λ q. below-passed _ r er (omega (arith, q)), λ h. accepted-code _ r er 0 (evaluation-passed c π x h))
@@ -196,7 +197,8 @@ module _ (c s ls : List ℕ) (π : Profile) (lo hi : ℤ) (out : List ℕ) where
 
       pub search-short : Bytes c → Bytes s → Short 65536 (says (Verdicts.Refused sheet))
       search-short bc bs =
-          rw (answer-refusal _ _ unfound) at (told-short c s ls π lo hi (length out) {limit = 65536} (omega arith) bc bs)
+          rw (answer-refusal _ _ unfound)
+          at (told-short c s ls π lo hi (length out) {limit = 65536} (omega arith) bc bs)
 
       pub unfound-code : (r : ℕ) → r ≡ codeOf (says (Verdicts.Refused sheet)) → r ≡ codeOf (answerOf told)
       unfound-code r er = er ∙ ap codeOf (sym (answer-refusal _ _ unfound))

@@ -103,7 +103,8 @@ module _ (c s : List ℕ) where
   answers : (room : ℕ) → checkAnswer c s ls fullProfile room ≡ plainAnswer c s fullProfile room
   answers = unlimited c s .answer
 
-  accepted-text : Passes (plainAnswer c s fullProfile (length s)) → sheetsText c s (zeros (length s)) ≡ acceptedLines c s
+  accepted-text : Passes (plainAnswer c s fullProfile (length s))
+      → sheetsText c s (zeros (length s)) ≡ acceptedLines c s
   unfolding sheetsText acceptedLines
   accepted-text h =
       let out = zeros (length s) in
@@ -114,15 +115,19 @@ module _ (c s : List ℕ) where
         ← (plain-targets c s ls fullProfile (none-limited (variables c))),
         accepted-rows c s ls fullProfile (length out) p,
       )
-      (accepted-lines c (outputOf c s ls fullProfile out) (rowCount s) (claim-left c s ls fullProfile out p) (room-left c s ls fullProfile out p)
-      (scaleOf s) (λ i. tripleFor (weightsFor (targetsOf c s ls) s i)) (scale-left c s ls fullProfile out p)
+      (accepted-lines c (outputOf c s ls fullProfile out) (rowCount s) (claim-left c s ls fullProfile out p)
+      (room-left c s ls fullProfile out p) (scaleOf s) (λ i. tripleFor (weightsFor (targetsOf c s ls) s i))
+      (scale-left c s ls fullProfile out p)
       (weights-left c s ls fullProfile out p))
 
   refused-text : blameless (plainAnswer c s fullProfile (length s)) ≡ false
       → sheetsText c s (zeros (length s))
-      ≡ ended (refusedLine (plainAnswer c s fullProfile (length s) .number) (plainAnswer c s fullProfile (length s) .value))
+      ≡ ended
+      (refusedLine (plainAnswer c s fullProfile (length s) .number) (plainAnswer c s fullProfile (length s) .value))
   unfolding sheetsText
-  refused-text h = rw as-long (refused-lines c (plainOutput c s fullProfile (zeros (length s))) (plainAnswer c s fullProfile (length s)) h)
+  refused-text h =
+      rw as-long
+      (refused-lines c (plainOutput c s fullProfile (zeros (length s))) (plainAnswer c s fullProfile (length s)) h)
 
   passed-begins : Passes (plainAnswer c s fullProfile (length s)) → Accepts (sheetsText c s (zeros (length s)))
   unfolding acceptedLines

@@ -63,7 +63,8 @@ module _ (n : ℕ) (s l : List ℕ) (π : Profile) (room : ℕ) (v : Verdict) (e
   unfolding restAnswer
   rest-limits x h = then-refused v _ e x h _
 
-  pub rest-body : (j : ℕ) (r : Verdict) → v ≡ Accepted j → says r ≡ bodyAnswer s π room → says r ≡ restAnswer n s l π room
+  pub rest-body : (j : ℕ) (r : Verdict) → v ≡ Accepted j → says r ≡ bodyAnswer s π room
+      → says r ≡ restAnswer n s l π room
   unfolding restAnswer
   rest-body j r h er = then-passed v _ e j h r _ er
 

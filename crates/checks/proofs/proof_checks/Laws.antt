@@ -110,7 +110,11 @@ header-facts limit n s most some few h =
       same,
       record {
         some = rw same some;
-        room = record { few = rw same few; rows = omega (arith, leb-true (rowCount s) limit (f .1)); long = omega arith };
+        room = record {
+          few = rw same few;
+          rows = omega (arith, leb-true (rowCount s) limit (f .1));
+          long = omega arith;
+        };
         sized = sized;
         scale-positive = leb-true _ _ (e .1);
         scale-within = leb-true _ _ (d .1);

@@ -78,7 +78,8 @@ module _ (c : List ℕ) (π : Profile) (x : List ℤ) where
     unfolding evaluationOf
     passed-value = told-passed _ _ h
 
-  pub failed-refusal : blameless (evaluationAnswer c π x) ≡ false → evaluationOf c π x ≡ refusal (evaluationAnswer c π x)
+  pub failed-refusal : blameless (evaluationAnswer c π x) ≡ false
+      → evaluationOf c π x ≡ refusal (evaluationAnswer c π x)
   unfolding evaluationOf
   failed-refusal h = told-failed _ _ h
 

@@ -123,7 +123,8 @@ module _ (c s ls : List ℕ) (π : Profile) (lo hi : ℤ) (room : ℕ) (h : Pass
   }
 
   -- the check of each floor
-  accepts-after : (i : ℕ) → i < floorCount lo hi → accepts c s ls π room (floorAfter hi i) ≡ passesAfter (π .weight) c s own hi i
+  accepts-after : (i : ℕ) → i < floorCount lo hi
+      → accepts c s ls π room (floorAfter hi i) ≡ passesAfter (π .weight) c s own hi i
   unfolding accepts passesAfter aimAfter
   accepts-after i l =
       ap blameless

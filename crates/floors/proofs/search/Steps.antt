@@ -130,7 +130,8 @@ module _ (lo hi lo′ hi′ : ℤ) (el : lo′ ≡ lo) (eh : hi′ ≡ hi) where
 
 -- ---- check_range: v is the verdict on 27, 1 to 15, 24 and 25, r whether the range is wrong
 
-module _ (c s ls : List ℕ) (π : Profile) (lo hi : ℤ) (room : ℕ) (v : Verdict) (e : says v ≡ inputAnswer c s ls π room) where
+module _ (c s ls : List ℕ) (π : Profile) (lo hi : ℤ) (room : ℕ) (v : Verdict)
+    (e : says v ≡ inputAnswer c s ls π room) where
   pub input-refused : (x : Sheet) → v ≡ Verdicts.Refused x → says v ≡ rangeAnswer c s ls π lo hi room
   unfolding rangeAnswer
   input-refused x h = then-refused v _ e x h _
@@ -179,7 +180,8 @@ module _ (limit : ℕ) (c s : List ℕ) (own : Aim) (lo hi : ℤ) (given : Searc
     walk-tests = tests-few c s n en _ (given .sheets)
 
   module _ (lo′ hi′ : ℤ) (el : lo′ ≡ lo) (eh : hi′ ≡ hi) where
-    pub walk-end : (i m : ℕ) → m ≡ floorCount lo′ hi′ → m ≤ i → i ≤ m → first (passesAfter limit c s own hi′) i ≡ Nothing
+    pub walk-end : (i m : ℕ) → m ≡ floorCount lo′ hi′ → m ≤ i → i ≤ m
+        → first (passesAfter limit c s own hi′) i ≡ Nothing
         → Nothing ≡ first (passesAfter limit c s own hi) (floorCount lo hi)
     walk-end i m em l h before = rw (← eh, ← el) (first-end _ _ i (rw em at l) (rw em at h) before)
 
@@ -238,13 +240,15 @@ module _ (limit : ℕ) (c s : List ℕ) (own : Aim) (lo hi : ℤ) (given : Searc
 
 -- ---- search_checked: f is what the walk found
 
-module _ (limit : ℕ) (c s : List ℕ) (own : Aim) (lo hi : ℤ) (given : Searchable limit c s own lo hi) (lo′ hi′ : ℤ) (f : Index.Found)
-    (ef : f ≡ first (passesAfter limit c s own hi′) (floorCount lo′ hi′)) (el : lo′ ≡ lo) (eh : hi′ ≡ hi) where
+module _ (limit : ℕ) (c s : List ℕ) (own : Aim) (lo hi : ℤ) (given : Searchable limit c s own lo hi) (lo′ hi′ : ℤ)
+    (f : Index.Found) (ef : f ≡ first (passesAfter limit c s own hi′) (floorCount lo′ hi′)) (el : lo′ ≡ lo)
+    (eh : hi′ ≡ hi) where
   walked : f ≡ first (passesAfter limit c s own hi) (floorCount lo hi)
   walked = ef ∙ rw (el, eh)
 
   module _ (q : f ≡ Nothing) where
-    pub none-told : tells (Refused (Range 23 0)) ≡ toldAfter s hi (first (passesAfter limit c s own hi) (floorCount lo hi))
+    pub none-told : tells (Refused (Range 23 0))
+        ≡ toldAfter s hi (first (passesAfter limit c s own hi) (floorCount lo hi))
     unfolding tells toldAfter
     none-told = rw (← walked, q) (ap refusal (refused-says (Range 23 0) 23 0 refl))
 
@@ -331,7 +335,8 @@ module _ (c s ls : List ℕ) (π : Profile) (lo hi : ℤ) (out : List ℕ) (v : 
       pub search-ready : Searchable (π .weight) c s own lo′ hi′
       search-ready = rw (ew, el, eh) (searchable c s ls π lo hi (length out) ready)
 
-      before : refusedBefore c s ls π lo hi (length out) ≡ first (passesAfter (π .weight) c s own hi′) (floorCount lo′ hi′)
+      before : refusedBefore c s ls π lo hi (length out)
+          ≡ first (passesAfter (π .weight) c s own hi′) (floorCount lo′ hi′)
       before = refused-before c s ls π lo hi (length out) ready ∙ rw (ew, el, eh)
 
       pub search-told : (r : Searched)

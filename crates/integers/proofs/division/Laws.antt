@@ -1,14 +1,14 @@
 -- Laws of floor division: e ≡ q × c + m with 0 ≤ m < c, and the shares of c slots add up to e.
 use mathlib.Core.Path.{_≡_, refl}
 use mathlib.Core.Bool.{Bool, true, false, not, cond}
-use Prim.Native.Nat.{ℕ, zero, suc, _+_, _<_, _≤_, min}
+use Prim.Native.Nat.{ℕ, zero, suc, _+_, _*_, _<_, _≤_, min}
 use native.Mathlib.Nat.{div-add-mod, mod-lt, div-le-self, zero-div, zero-mod}
 use native.Mathlib.Omega.{arith}
 use lib.Dec.{T, ltb, ltb→lt, nltb→le, leb·suc-zero}
 use lib.IntN.{ℤ, pos, negsuc, natAbs, _+ℤ_, _*ℤ_}
-use lib.Signed.{mag}
+use lib.Signed.{mag, ltZ, _≤ℤ_}
 use Rattle.integers.specs.Division.{floorDiv, floorMod, share, shares}
-use Rattle.integers.proofs.Integers.{abs-add, ring, ints, by-eq, read-eq}
+use Rattle.integers.proofs.Integers.{abs-add, ring, ints, by-eq, by-le, read-eq, read-le, up, dn, le-parts, lt-parts, ltZ-true, ltZ-false, *ℤ-mono}
 
 pub floorMod-< : (e : ℤ) (c : ℕ) → 0 < c → floorMod e c < c
 unfolding floorMod
@@ -74,3 +74,48 @@ share-abs e c k = go (ltb k (floorMod e c))
     go : (b : Bool) → natAbs (cond b (floorDiv e c +ℤ pos 1) (floorDiv e c)) ≤ natAbs e + 1
     go true = omega (arith, floorDiv-size e c, abs-add (floorDiv e c) (pos 1))
     go false = omega (arith, floorDiv-size e c)
+
+-- ---- a larger error has shares at least as large
+
+module _ (e f : ℤ) (c : ℕ) (h : 0 < c) (l : e ≤ℤ f) where
+  -- a quotient that is larger by d at least, and with d 0 has a larger remainder, is that of a larger error
+  not-larger : (d : ℕ) → (floorDiv f c +ℤ pos d) ≤ℤ floorDiv e c → floorMod f c < floorMod e c + d * c → ⊥
+  not-larger d over more =
+      let product = simp ring at (read-le (*ℤ-mono {z = pos c} (by-le (simp ring (omega ints))) over)) in
+      let of-e = simp ring at (read-eq (floor-sum e c h)) in
+      let of-f = simp ring at (read-eq (floor-sum f c h)) in
+      omega (ints, l, product, of-e, of-f, more)
+
+  quotient-rises : floorDiv e c ≤ℤ floorDiv f c
+  quotient-rises = go (ltZ (floorDiv f c) (floorDiv e c)) refl
+    where
+      go : (b : Bool) → ltZ (floorDiv f c) (floorDiv e c) ≡ b → floorDiv e c ≤ℤ floorDiv f c
+      go false k = ltZ-false _ _ k
+      go true k =
+          let less = lt-parts (ltZ-true (floorDiv f c) (floorDiv e c) k) in
+          absurd (not-larger 1 (by-le (simp ring (omega (arith, less)))) (omega (arith, floorMod-< f c h)))
+
+  quotient-over : floorMod f c < floorMod e c → (floorDiv e c +ℤ pos 1) ≤ℤ floorDiv f c
+  quotient-over r = go (ltZ (floorDiv e c) (floorDiv f c)) refl
+    where
+      go : (b : Bool) → ltZ (floorDiv e c) (floorDiv f c) ≡ b → (floorDiv e c +ℤ pos 1) ≤ℤ floorDiv f c
+      go true k =
+          let less = lt-parts (ltZ-true (floorDiv e c) (floorDiv f c) k) in by-le (simp ring (omega (arith, less)))
+      go false k =
+          let more = le-parts (ltZ-false (floorDiv e c) (floorDiv f c) k) in
+          absurd (not-larger 0 (by-le (simp ring (omega (arith, more)))) (omega (arith, r)))
+
+  pub share-rises : (k : ℕ) → share e c k ≤ℤ share f c k
+  unfolding share
+  share-rises k =
+      go (ltb k (floorMod e c)) (ltb k (floorMod f c)) (ltb→lt k (floorMod e c)) (nltb→le k (floorMod f c))
+    where
+      q : up (floorDiv e c) + dn (floorDiv f c) ≤ up (floorDiv f c) + dn (floorDiv e c)
+      q = le-parts quotient-rises
+
+      go : (a b : Bool) → (T a → k < floorMod e c) → (T (not b) → floorMod f c ≤ k)
+          → cond a (floorDiv e c +ℤ pos 1) (floorDiv e c) ≤ℤ cond b (floorDiv f c +ℤ pos 1) (floorDiv f c)
+      go false false x y = quotient-rises
+      go false true x y = by-le (simp ring (omega (arith, q)))
+      go true true x y = by-le (simp ring (omega (arith, q)))
+      go true false x y = quotient-over (let a = x tt in let b = y tt in omega arith)

@@ -22,7 +22,7 @@ use Rattle.weighing.specs.Weighed.{weighedAnswer}
 use Rattle.weighing.specs.Exact.{Writable, exactProof}
 use Rattle.judging.specs.Check.{targetsOf, checkAnswer, outputOf}
 use Rattle.judging.specs.Promises.{LongEnough, CheckPromises}
-use Rattle.judging.proofs.Promises.{accepted-formed, accepted-enough, accepted-light, accepted-rows, check-promises}
+use Rattle.judging.proofs.Promises.{accepted-enough, accepted-light, accepted-rows, check-promises}
 
 -- ---- check: v is the verdict on 27, 1 to 15, 24 and 25
 
@@ -69,7 +69,8 @@ module _ (c s l : List ℕ) (π : Profile) (room : ℕ) (v : Verdict) (e : says 
 
 -- ---- v is the verdict, o the output afterwards
 
-module _ (c s l : List ℕ) (π : Profile) (out : List ℕ) (v : Verdict) (e : says v ≡ checkAnswer c s l π (length out)) where
+module _ (c s l : List ℕ) (π : Profile) (out : List ℕ) (v : Verdict)
+    (e : says v ≡ checkAnswer c s l π (length out)) where
   pub promises : Bytes s → (o : List ℕ) → o ≡ outputOf c s l π out
       → CheckPromises c s l π out (LongEnough s out) (Passes (says v)) (says v .value) o
   promises =
@@ -85,6 +86,7 @@ module _ (c s l : List ℕ) (π : Profile) (out : List ℕ) (v : Verdict) (e : s
     passes : Passes (checkAnswer c s l π (length out))
     passes = passed v _ e k h
 
-    pub accepted-output : (o : List ℕ) → o ≡ exactProof (targetOf c a) s ++ drop (length s) out → o ≡ outputOf c s l π out
+    pub accepted-output : (o : List ℕ) → o ≡ exactProof (targetOf c a) s ++ drop (length s) out
+        → o ≡ outputOf c s l π out
     unfolding outputOf targetsOf
     accepted-output o eo = rw passes (rw ea at eo)

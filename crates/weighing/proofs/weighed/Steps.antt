@@ -18,14 +18,14 @@ use Rattle.weighing.specs.Weighed.{rowsJudged, weighedAnswer}
 
 -- ---- weigh: f is what 16 found
 
-module _ (limit : ℕ) (c s : List ℕ) (a : Aim) (f : Found) (e : f ≡ first (unheld c s a) (pointCount (variables c) (termCount c)))
-  where
-    pub weighed-unheld : (i : ℕ) → f ≡ At i → says (Refused (Proof 16 i)) ≡ weighedAnswer limit c s a
-    unfolding weighedAnswer unheldAnswer
-    weighed-unheld i h =
-        then-refused _ _ (refused-at _ f _ 16 _ e i h (refused-says _ 16 i refl)) (Proof 16 i) refl _
+module _ (limit : ℕ) (c s : List ℕ) (a : Aim) (f : Found)
+    (e : f ≡ first (unheld c s a) (pointCount (variables c) (termCount c))) where
+  pub weighed-unheld : (i : ℕ) → f ≡ At i → says (Refused (Proof 16 i)) ≡ weighedAnswer limit c s a
+  unfolding weighedAnswer unheldAnswer
+  weighed-unheld i h =
+      then-refused _ _ (refused-at _ f _ 16 _ e i h (refused-says _ 16 i refl)) (Proof 16 i) refl _
 
-    pub weighed-judged : (v : Verdict) → f ≡ Nothing → says v ≡ rowsJudged limit (targetOf c a) s
-        → says v ≡ weighedAnswer limit c s a
-    unfolding weighedAnswer unheldAnswer
-    weighed-judged v h ev = then-passed (Accepted 0) _ (passed-at _ f _ 16 _ e h (accepted-says 0)) 0 refl v _ ev
+  pub weighed-judged : (v : Verdict) → f ≡ Nothing → says v ≡ rowsJudged limit (targetOf c a) s
+      → says v ≡ weighedAnswer limit c s a
+  unfolding weighedAnswer unheldAnswer
+  weighed-judged v h ev = then-passed (Accepted 0) _ (passed-at _ f _ 16 _ e h (accepted-says 0)) 0 refl v _ ev
