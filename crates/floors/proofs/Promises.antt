@@ -30,7 +30,7 @@ use Rattle.checks.proofs.proof_checks.Laws.{rows-counted}
 use Rattle.checks.proofs.input.Laws.{input-formed, input-enough, input-larger}
 use Rattle.targets.specs.Targets.{aimOf}
 use Rattle.sharing.proofs.shifts.Laws.{sheets-checked, claim-eight}
-use Rattle.weighing.proofs.Higher.{weighed-higher}
+use Rattle.weighing.proofs.weighed.Laws.{weighed-higher}
 use Rattle.judging.specs.Check.{checkAnswer, outputOf}
 use Rattle.judging.proofs.check.Laws.{floored-answer}
 use Rattle.judging.proofs.Promises.{accepted-rows, accepted-larger, floor-kept, check-promises}

@@ -6,14 +6,9 @@ use lib.ListN.{length}
 use Rattle.bounds.specs.Profiles.{fullProfile}
 use Rattle.answers.specs.Answers.{andThen}
 use Rattle.checks.proofs.Full.{input-full}
-use Rattle.targets.specs.declared.targets.Aim.{Aim}
-use Rattle.weighing.specs.Weighed.{rowsJudged, weighedAnswer}
+use Rattle.weighing.proofs.Full.{weighed-full}
 use Rattle.judging.specs.Check.{checkAnswer, outputOf}
-use Rattle.judging.specs.Full.{fullJudged, fullWeighed, fullAnswer, fullOutput, CheckFull}
-
-weighed-full : (c s : List ℕ) (a : Aim) → weighedAnswer (fullProfile .weight) c s a ≡ fullWeighed c s a
-unfolding weighedAnswer rowsJudged fullWeighed fullJudged
-weighed-full c s a = refl
+use Rattle.judging.specs.Full.{fullAnswer, fullOutput, CheckFull}
 
 module _ (c s l : List ℕ) where
   answer : (room : ℕ) → checkAnswer c s l fullProfile room ≡ fullAnswer c s l room

@@ -3,30 +3,16 @@ use mathlib.Core.Path.{_≡_}
 use mathlib.Core.Bool.{cond}
 use mathlib.Core.List.{List, _++_}
 use Prim.Native.Nat.{ℕ}
-use lib.IntN.{ℤ}
 use lib.ListN.{length, drop}
 use Rattle.bounds.specs.Bounds.{greatestWeight}
 use Rattle.bounds.specs.Profiles.{fullProfile}
 use Rattle.answers.specs.Answers.{Answer, andThen, blameless}
-use Rattle.points.specs.Points.{Exponents}
-use Rattle.sheets.specs.Layout.{rowCount}
 use Rattle.checks.specs.Input.{formedAnswer}
 use Rattle.checks.specs.Full.{fullInput, fullFormed}
-use Rattle.targets.specs.Targets.{aimOf, targetOf}
-use Rattle.targets.specs.declared.targets.Aim.{Aim}
-use Rattle.sharing.specs.Shifts.{shiftedRow}
-use Rattle.judgements.specs.Judgements.{firstsTo, judgedAnswer}
-use Rattle.weighing.specs.Unheld.{unheldAnswer}
+use Rattle.targets.specs.Targets.{aimOf}
 use Rattle.weighing.specs.Exact.{exactProof}
+use Rattle.weighing.specs.Full.{fullWeighed}
 use Rattle.judging.specs.Check.{targetsOf, checkAnswer, outputOf}
-
--- 17 to 19; τ gives each point's target
-unfoldable pub fullJudged : (Exponents → ℤ) → List ℕ → Answer
-fullJudged τ s = judgedAnswer (firstsTo greatestWeight (shiftedRow τ s) (rowCount s)) (rowCount s)
-
--- 16 to 19
-unfoldable pub fullWeighed : List ℕ → List ℕ → Aim → Answer
-fullWeighed c s a = andThen (unheldAnswer c s a) (fullJudged (targetOf c a) s)
 
 -- 1 to 10, 24, 25, 11 to 19
 unfoldable pub fullAnswer : List ℕ → List ℕ → List ℕ → ℕ → Answer

@@ -1,18 +1,20 @@
 -- Laws of sharing, on a list of slots alone: at a point with slots the shifted weights add up to its target, at any
--- other to 0, and weights that add up stay; and of slots gathered from rows, whatever a row is.
+-- other to 0, no weight rises where its target falls, and weights that add up stay; and of slots gathered from rows,
+-- whatever a row is.
 use mathlib.Core.Path.{_≡_, refl, _∙_}
 use mathlib.Core.Bool.{Bool, true, false, cond}
 use mathlib.Core.List.{[], _∷_, _++_, append-nil, append-assoc}
 use Prim.Native.Nat.{ℕ, zero, suc, _+_, _<_, _≤_}
 use native.Mathlib.Decide.{le-ind}
 use native.Mathlib.Omega.{arith}
-use lib.IntN.{ℤ, pos, _+ℤ_, +ℤ-idr, +ℤ-invr}
+use lib.IntN.{ℤ, pos, _+ℤ_, _-ℤ_, +ℤ-idr, +ℤ-invr}
+use lib.Signed.{_≤ℤ_}
 use Rattle.integers.specs.Division.{share, shares}
-use Rattle.integers.proofs.Integers.{ring, ints, by-eq}
-use Rattle.integers.proofs.division.Laws.{shares-none, shares-more, shares-sum, share-none}
+use Rattle.integers.proofs.Integers.{ring, ints, by-eq, by-le}
+use Rattle.integers.proofs.division.Laws.{shares-none, shares-more, shares-sum, share-none, share-rises}
 use Rattle.points.specs.Points.{Exponents, samePoint}
 use Rattle.points.specs.Lists.{table}
-use Rattle.points.proofs.points.Laws.{same-eq}
+use Rattle.points.proofs.points.Laws.{same-eq, same-refl}
 use Rattle.squares.specs.Sums.{Sum, gathered, coefficient}
 use Rattle.squares.proofs.Sums.{coefficient-nil, coefficient-cons, gathered-none, gathered-more}
 use Rattle.sharing.specs.Sharing.{count, errorAt, shiftedWeight, shiftedFrom, shiftedSlots}
@@ -37,6 +39,19 @@ count-cons α t L = refl
 pub count-nil : (α : Exponents) → count α [] ≡ 0
 unfolding count
 count-nil α = refl
+
+-- a slot is counted at its point, whatever stands before it
+pub later-counted : (γ : Exponents) (t : Exponents × ℤ) (M : Sum) → 0 < count γ M → 0 < count γ (t ∷ M)
+unfolding count
+later-counted γ t M h = go (samePoint γ (t .0))
+  where
+    go : (b : Bool) → 0 < cond b (suc (count γ M)) (count γ M)
+    go true = omega arith
+    go false = h
+
+pub first-counted : (γ : Exponents) (x : ℤ) (M : Sum) → 0 < count γ ((γ, x) ∷ M)
+unfolding count
+first-counted γ x M = rw (same-refl γ) (omega arith)
 
 -- a slot elsewhere does not count
 count-past : (α : Exponents) (L : Sum) (t : Exponents × ℤ) → samePoint α (t .0) ≡ false
@@ -113,6 +128,19 @@ module _ (τ : Exponents → ℤ) (L : Sum) (α : Exponents) where
   pub shifted-unheld : count α L ≡ 0 → coefficient α (shiftedSlots τ L) ≡ pos 0
   unfolding shiftedSlots got
   shifted-unheld h = from-adds [] L ∙ rw (h, shares-none, coefficient-unheld α L h)
+
+-- ---- with a target no larger, a weight is no larger
+
+module _ (τ τ′ : Exponents → ℤ) (L : Sum) (rank : ℕ) (α : Exponents) (x : ℤ) where
+  pub weight-falls : 0 < count α L → τ′ α ≤ℤ τ α → shiftedWeight τ′ L rank α x ≤ℤ shiftedWeight τ L rank α x
+  unfolding shiftedWeight errorAt
+  weight-falls held l =
+      let less : (τ′ α -ℤ coefficient α L) ≤ℤ (τ α -ℤ coefficient α L) = by-le (simp ring (omega (ints, l))) in
+      by-le (simp ring (omega (ints, share-rises _ _ (count α L) held less rank)))
+
+  pub weight-same : τ′ α ≡ τ α → shiftedWeight τ′ L rank α x ≡ shiftedWeight τ L rank α x
+  unfolding shiftedWeight errorAt
+  weight-same e = rw e
 
 -- ---- weights that add up stay
 

@@ -1,2 +1,2 @@
 pub mod Unlimited
-pub mod Higher
+pub mod Full

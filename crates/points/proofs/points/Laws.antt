@@ -10,7 +10,7 @@ use native.Mathlib.Decide.{ℕ-discrete}
 use native.Mathlib.Numerals.{add-one}
 use native.Mathlib.Omega.{arith}
 use lib.Dec.{eqb, ltb, leb}
-use lib.ListN.{length, getD, set, take, replicate, length-replicate, length-set, length-append, replicate-append-replicate, List·getD-append}
+use lib.ListN.{length, getD, set, take, drop, replicate, length-replicate, length-set, length-append, replicate-append-replicate, List·getD-append}
 use lib.Pow.{shr-shr}
 use lib.Seq.{take-append-seam, getD-append-add, set-at, set-append-left, getD-set-other}
 use borrow.Author.Tests.{lt-ltb, le-ltb, ltb-true, ltb-false, le-leb, lt-leb, leb-true, eq-eqb, ne-eqb, eqb-true}
@@ -297,11 +297,30 @@ midpoint-within limit (a ∷ v) (b ∷ w) h k =
     let m : (a + b) / 2 ≤ limit = omega (arith, leb-true a limit (p .0), leb-true b limit (q .0)) in
     rw (le-leb ((a + b) / 2) limit m, midpoint-within limit v w (p .1) (q .1))
 
+-- where it is the constant's point, so are both
+pub middle-constant : (n : ℕ) (v w : Exponents) → hasMidpoint v w ≡ true → midpointOf v w ≡ replicate n 0 → v ≡ w
+unfolding hasMidpoint everyPair midpointOf
+middle-constant n [] [] h e = refl
+middle-constant n [] (b ∷ w) h e = absurd (false≢true h)
+middle-constant n (a ∷ v) [] h e = absurd (false≢true h)
+middle-constant zero (a ∷ v) (b ∷ w) h e = let k = ap (length {A = ℕ}) e in absurd (omega (arith, k))
+middle-constant (suc n) (a ∷ v) (b ∷ w) h e =
+    let q = whole-more a b v w h in
+    let first : (a + b) / 2 ≡ 0 = ap (λ (l : List ℕ). getD l 0 0) e in
+    let rest : midpointOf v w ≡ replicate n 0 = ap (λ (l : List ℕ). drop 1 l) e in
+    ap₂ _∷_ (omega (arith, q .0, first)) (middle-constant n v w (q .1) rest)
+
 -- ---- masks
 
 -- bit i of what is left of a mask after its lowest bit
 pub masked-more : (mask i : ℕ) → mask / 2 / 2 ^ i ≡ mask / 2 ^ suc i
 masked-more mask i = let k : suc i ≡ 1 + i = omega arith in rw k (shr-shr mask 1 i)
+
+-- the constant keeps its sign
+pub constant-kept : (mask n : ℕ) → keepsSign mask (replicate n 0) ≡ true
+unfolding keepsSign
+constant-kept mask zero = refl
+constant-kept mask (suc n) = rw (le-leb 0 (mask % 2) (omega arith), constant-kept (mask / 2) n)
 
 -- without a mask: "every exponent is even"
 pub keeps-even : (α : Exponents) → keepsSign 0 α ≡ every (λ e. eqb (e % 2) 0) α

@@ -1,15 +1,18 @@
 -- Laws of targets: the aim of checked sheets, and the target as document 01 has it.
 use mathlib.Core.Path.{_≡_, refl, fun-ext}
+use mathlib.Core.Bool.{true, false}
 use mathlib.Core.List.{List}
 use Prim.Native.Nat.{ℕ, _≤_}
 use native.Mathlib.Omega.{arith}
 use lib.Dec.{lit<}
 use lib.IntN.{ℤ, natAbs}
-use lib.ListN.{length}
+use lib.ListN.{length, replicate}
+use lib.Signed.{_≤ℤ_}
 use Rattle.integers.proofs.Integers.{fits-within}
 use Rattle.bounds.specs.Bounds.{greatestWeight, greatestScale}
-use Rattle.points.specs.Points.{Exponents}
+use Rattle.points.specs.Points.{Exponents, samePoint}
 use Rattle.squares.specs.Targets.{lowered, target}
+use Rattle.squares.proofs.Targets.{target-other, target-falls}
 use Rattle.sheets.specs.Layout.{variables}
 use Rattle.sheets.specs.ClaimSheet.{domainWith, floorOf, withFloor, termsOf}
 use Rattle.sheets.proofs.claim_sheet.Laws.{floored-floor, floored-before, floored-domain, floored-terms}
@@ -75,3 +78,15 @@ pub aim-floored : (c s l : List ℕ) (b : ℤ) → 8 ≤ length c → natAbs b �
 unfolding aimOf atFloor
 aim-floored c s l b k w =
     rw (floored-floor c b k (fits-within b greatestWeight w (lit< tt)), floored-before c b 0 (omega arith))
+
+-- with a higher floor b′ they are no larger at the constant, and the same elsewhere
+module _ (c : List ℕ) (a : Aim) (b b′ : ℤ) (α : Exponents) where
+  pub targets-other : samePoint α (replicate (variables c) 0) ≡ false
+      → targetOf c (atFloor a b′) α ≡ targetOf c (atFloor a b) α
+  unfolding targetOf atFloor
+  targets-other = target-other (domainWith c (limitIn (a .limits))) (a .scale) (termsOf c) b b′ α
+
+  pub targets-fall : samePoint α (replicate (variables c) 0) ≡ true → b ≤ℤ b′
+      → targetOf c (atFloor a b′) α ≤ℤ targetOf c (atFloor a b) α
+  unfolding targetOf atFloor
+  targets-fall = target-falls (domainWith c (limitIn (a .limits))) (a .scale) (termsOf c) b b′ α

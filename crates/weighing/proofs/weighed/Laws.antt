@@ -5,9 +5,10 @@ use mathlib.Core.List.{List}
 use Prim.Native.Nat.{ℕ, _<_}
 use native.Mathlib.Omega.{arith}
 use lib.IntN.{ℤ}
+use lib.Signed.{_≤ℤ_}
 use Rattle.integers.proofs.words.Laws.{Bytes}
 use Rattle.answers.specs.Answers.{accepted, Passes, Short}
-use Rattle.answers.proofs.answers.Laws.{passes-then, then-on, short-then}
+use Rattle.answers.proofs.answers.Laws.{passes-then, then-on, accepted-passes, short-then}
 use Rattle.points.specs.Lists.{All}
 use Rattle.points.specs.Points.{Exponents}
 use Rattle.squares.specs.Rows.{slots, Holds}
@@ -17,10 +18,11 @@ use Rattle.sheets.specs.ClaimSheet.{withFloor}
 use Rattle.rows.specs.ProofSheet.{tripleFor}
 use Rattle.checks.specs.ProofChecks.{Within}
 use Rattle.checks.proofs.proof_checks.Laws.{rows-counted}
-use Rattle.targets.specs.Targets.{targetOf}
+use Rattle.targets.specs.Targets.{atFloor, targetOf}
 use Rattle.targets.specs.declared.targets.Aim.{Aim}
-use Rattle.targets.proofs.targets.Laws.{targets-floored}
-use Rattle.sharing.specs.Shifts.{shiftedRow, shiftedRows}
+use Rattle.targets.proofs.targets.Laws.{targets-floored, targets-other, targets-fall}
+use Rattle.sharing.specs.Shifts.{shiftedRow, shiftedRows, CheckedSheets}
+use Rattle.sharing.proofs.Lighter.{row-light}
 use Rattle.sharing.proofs.shifts.Laws.{rows-all, rows-each}
 use Rattle.judgements.specs.Judgements.{judgedAs}
 use Rattle.judgements.proofs.judgements.Laws.{each-holds, holds-accepted, judged-passed, judged-accepted, judged-short}
@@ -91,3 +93,21 @@ module _ (limit : ℕ) (c s : List ℕ) (a : Aim) where
   weighed-short h bc bs =
       short-then _ _ (unheld-short c s a (omega arith) bc)
       (judged-short limit (shiftedRow τ s) (rowCount s) h (rows-counted s bs))
+
+-- ---- a higher floor: what holds with it, and is within the limit with a lower one, is within the limit
+
+pub weighed-higher : (limit larger : ℕ) (c s : List ℕ) (a : Aim) → CheckedSheets c s a → (b b′ : ℤ) → b ≤ℤ b′
+    → Passes (weighedAnswer limit c s (atFloor a b)) → Passes (weighedAnswer larger c s (atFloor a b′))
+    → Passes (weighedAnswer limit c s (atFloor a b′))
+unfolding weightsFor
+weighed-higher limit larger c s a given b b′ l h h′ =
+    let low = weighed-within limit c s (atFloor a b) h in
+    let hold = weighed-hold larger c s (atFloor a b′) h′ in
+    let within : AllWithin limit (targetOf c (atFloor a b′)) s =
+    record {
+      within = λ i m.
+          row-light (variables c) limit _ _ (targets-other c a b b′) (λ α e. targets-fall c a b b′ α e l) s
+          (given .proof) i m (low .within i m) (rows-each _ s (λ r. Holds (r .weights)) hold i m);
+    } in
+    accepted-passes _ _
+    (weighed-accepted limit c s (atFloor a b′) within hold (weighed-adds larger c s (atFloor a b′) h′))
