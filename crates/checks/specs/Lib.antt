@@ -1,3 +1,4 @@
 pub mod ProofChecks
 pub mod Input
 pub mod Full
+pub mod Profiled

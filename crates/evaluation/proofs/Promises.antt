@@ -1,6 +1,6 @@
 -- The promises of an evaluation, from what it tells.
 use mathlib.Core.Path.{_≡_, refl, sym}
-use mathlib.Core.Bool.{false, not}
+use mathlib.Core.Bool.{true, false, not}
 use mathlib.Core.List.{List}
 use mathlib.Core.Logic.{_↔_}
 use Prim.Native.Nat.{ℕ, _<_, _≤_}
@@ -15,11 +15,13 @@ use Rattle.bounds.proofs.bounds.Laws.{within-bound, bound-within}
 use Rattle.answers.specs.Answers.{accepted, refuseIf, Passes}
 use Rattle.answers.proofs.answers.Laws.{then-on, if-on, at-on, accepted-passes}
 use Rattle.answers.proofs.searches.Laws.{none-wrong, all-right}
+use Rattle.points.specs.Points.{exponentsWithin}
+use Rattle.points.proofs.points.Laws.{within-larger}
 use Rattle.squares.specs.Sums.{valueAt}
 use Rattle.sheets.specs.Layout.{variables, termCount}
-use Rattle.sheets.specs.ClaimSheet.{termsOf}
+use Rattle.sheets.specs.ClaimSheet.{termPoint, termsOf}
 use Rattle.claims.specs.ClaimChecks.{claimAnswer}
-use Rattle.claims.proofs.claim_checks.Laws.{claim-larger}
+use Rattle.claims.proofs.claim_checks.Laws.{terms-within, claim-under}
 use Rattle.judging.proofs.Promises.{floor-kept}
 use Rattle.evaluation.specs.Evaluations.{value, termValue, tooLarge, tooLargeAnswer, evaluationAnswer, evaluationOf}
 use Rattle.evaluation.specs.Promises.{Evaluable, EvaluationPromises}
@@ -60,8 +62,10 @@ passes c π x e =
 larger-passes : (c : List ℕ) (π ρ : Profile) → Larger π ρ → (x : List ℤ) → Evaluable c π x
     → Passes (evaluationAnswer c ρ x)
 larger-passes c π ρ l x e =
+    let keep : (i : ℕ) → i < termCount c → exponentsWithin (ρ .exponent) (termPoint c (variables c) i) ≡ true =
+    λ i m. within-larger _ _ (l .exponent-larger) _ (terms-within c π (e .formed) i m) in
     passes c ρ x
-    (record { formed = claim-larger c π ρ l (e .formed); counted = e .counted; small = e .small })
+    (record { formed = claim-under c π ρ (l .in-range) keep (e .formed); counted = e .counted; small = e .small })
 
 -- ---- the promises, for whatever is to say that a value is given
 

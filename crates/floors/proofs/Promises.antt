@@ -27,7 +27,7 @@ use Rattle.sheets.proofs.claim_sheet.Laws.{floored-floor, floored-before, floor
 use Rattle.limits.specs.LimitsSheet.{domainOf}
 use Rattle.checks.specs.Input.{WellFormed}
 use Rattle.checks.proofs.proof_checks.Laws.{rows-counted}
-use Rattle.checks.proofs.input.Laws.{input-formed, input-enough, input-larger}
+use Rattle.checks.proofs.input.Laws.{formed-larger, input-passes, input-formed, input-enough}
 use Rattle.targets.specs.Targets.{aimOf}
 use Rattle.sharing.proofs.shifts.Laws.{sheets-checked, claim-eight}
 use Rattle.weighing.proofs.weighed.Laws.{weighed-higher}
@@ -248,7 +248,11 @@ module _ (c s ls : List ℕ) (π ρ : Profile) (l : Larger π ρ) (lo hi : ℤ) 
   larger-ready : Passes (rangeAnswer c s ls ρ lo hi room)
   unfolding rangeAnswer
   larger-ready =
-      let p = passes-then _ _ ready in then-passes _ _ (input-larger c s ls π ρ l room (p .0)) (p .1)
+      let input = input-passed c s ls π lo hi room ready in
+      then-passes _ _
+      (input-passes c s ls ρ room (formed-larger c s ls π ρ l (input-formed c s ls π room input))
+      (input-enough c s ls π room input))
+      (passes-then _ _ ready .1)
 
   abbrev Accepts : Profile → ℤ → Type 0
   Accepts σ x = accepts c s ls σ room x ≡ true

@@ -25,8 +25,9 @@ use Rattle.sheets.specs.ClaimSheet.{floorOf, termsOf}
 use Rattle.sheets.proofs.claim_sheet.Laws.{terms-sized}
 use Rattle.rows.specs.ProofSheet.{scaleOf, tripleOf, rowsOf, tripleFor}
 use Rattle.limits.specs.LimitsSheet.{domainOf}
-use Rattle.checks.specs.Input.{inputAnswer, WellFormed}
-use Rattle.checks.proofs.input.Laws.{range-formed, weights-formed, input-passes, input-formed, input-enough, input-larger, input-short}
+use Rattle.checks.specs.Input.{WellFormed}
+use Rattle.checks.proofs.input.Laws.{range-formed, fits-formed, formed-larger, input-passes, input-formed, input-enough, input-short}
+use Rattle.checks.proofs.Profiled.{formed-profiled}
 use Rattle.targets.specs.Targets.{aimOf}
 use Rattle.targets.proofs.targets.Laws.{targets-are}
 use Rattle.sharing.specs.Shifts.{shiftedRows, CheckedSheets}
@@ -51,15 +52,13 @@ module _ (c s l : List ℕ) (π : Profile) where
   -- ---- what an acceptance says
 
   module _ (room : ℕ) (h : Passes (checkAnswer c s l π room)) where
-    accepted-input : Passes (inputAnswer c s l π room)
-    unfolding checkAnswer
-    accepted-input = passes-then _ _ h .0
-
     pub accepted-formed : WellFormed c s l π
-    accepted-formed = input-formed c s l π room accepted-input
+    unfolding checkAnswer
+    accepted-formed = input-formed c s l π room (passes-then _ _ h .0)
 
     pub accepted-enough : length s ≤ room
-    accepted-enough = input-enough c s l π room accepted-input
+    unfolding checkAnswer
+    accepted-enough = input-enough c s l π room (passes-then _ _ h .0)
 
     weighed : Passes (weighedAnswer (π .weight) c s (aimOf c s l))
     unfolding checkAnswer
@@ -128,7 +127,7 @@ module _ (c s l : List ℕ) (π : Profile) where
 
     pub exact-accepted : (room : ℕ) → length s ≤ room → checkAnswer c s l π room ≡ accepted (rowCount s)
     exact-accepted room e =
-        accepts room f e (same-within τ s (own .proof) exact (π .weight) (weights-formed c s l π f))
+        accepts room f e (same-within τ s (own .proof) exact (π .weight) (fits-formed c s l π f .weights))
         (rw (rows-stay τ s exact) d)
 
     pub exact-bytes : Bytes s → exactProof τ s ≡ s
@@ -145,8 +144,8 @@ module _ (c s l : List ℕ) (π : Profile) where
 pub accepted-larger : (c s l : List ℕ) (π ρ : Profile) → Larger π ρ → (room : ℕ) → Passes (checkAnswer c s l π room)
     → checkAnswer c s l ρ room ≡ accepted (rowCount s)
 accepted-larger c s l π ρ larger room h =
-    let p = input-larger c s l π ρ larger room (accepted-input c s l π room h) in
-    accepts c s l ρ room (input-formed c s l ρ room p) (accepted-enough c s l π room h)
+    accepts c s l ρ room (formed-larger c s l π ρ larger (accepted-formed c s l π room h))
+    (accepted-enough c s l π room h)
     (all-larger _ _ (larger .weight-larger) _ s (accepted-within c s l π room h))
     (accepted-decomposes c s l π room h)
 
@@ -214,6 +213,7 @@ module _ (c s l : List ℕ) (π : Profile) (out : List ℕ) where
         let h = meant .0 a in
         let q = accepted-larger c s l π ρ l′ (length out) h in
         (q ∙ rw (counted h), written c s l ρ out (accepted-passes _ _ q) ∙ sym (e ∙ written c s l π out h));
+    formed = formed-profiled c s l π;
     full = check-full c s l;
   }
 
@@ -229,6 +229,7 @@ module _ (c s l : List ℕ) (π : Profile) (out : List ℕ) where
     floors = λ a. absurd (refused a);
     keeps = λ f r d. absurd (short r);
     larger = λ a. absurd (refused a);
+    formed = formed-profiled c s l π;
     full = check-full c s l;
   }
 

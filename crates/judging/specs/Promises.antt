@@ -16,6 +16,7 @@ use Rattle.sheets.specs.ClaimSheet.{floorOf, termsOf}
 use Rattle.rows.specs.ProofSheet.{scaleOf, rowsOf}
 use Rattle.limits.specs.LimitsSheet.{domainOf}
 use Rattle.checks.specs.Input.{WellFormed}
+use Rattle.checks.specs.Profiled.{FormedUnder}
 use Rattle.sharing.specs.Shifts.{shiftedRows}
 use Rattle.weighing.specs.Exact.{AllWithin}
 use Rattle.judging.specs.Check.{targetsOf, checkAnswer, outputOf}
@@ -62,5 +63,7 @@ pub record CheckPromises (c s l : List ℕ) (π : Profile) (out : List ℕ) (Eno
   -- least as large in all three"
   pub larger : Accepted → (ρ : Profile) → Larger π ρ
       → (checkAnswer c s l ρ (length out) ≡ accepted k) × (outputOf c s l ρ out ≡ o)
+  -- what the profile asks of well-formed sheets, and nothing else: "Checks 6, 9, 12, 15 .. read it"
+  pub formed : FormedUnder c s l π
   -- "the full profile gives the old verdicts"
   pub full : CheckFull c s l

@@ -19,7 +19,6 @@ use Rattle.squares.proofs.rows.Laws.{slots-pair, slots-lone}
 use Rattle.sheets.specs.Layout.{rowCount, shapeOf}
 use Rattle.sheets.specs.declared.layout.Shape.{Shape}
 use Rattle.rows.specs.ProofSheet.{vOf, wOf, rowOf, rowsOf, tripleFor}
-use Rattle.rows.specs.declared.proof_sheet.Triple.{Triple}
 use Rattle.rows.proofs.proof_sheet.Laws.{for-pair, for-lone, pair-of, row-v, row-w}
 use Rattle.checks.specs.ProofChecks.{Within, ProofFacts}
 use Rattle.sharing.specs.Sharing.{count, shiftedWeight}

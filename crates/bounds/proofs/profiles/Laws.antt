@@ -1,8 +1,8 @@
--- Laws of profiles: what it says that one is in range, and that the full one is.
+-- Laws of profiles: what it says that one is in range, and that the full one is, and is larger than all others.
 use mathlib.Core.Path.{_≡_, refl}
 use mathlib.Core.Bool.{true, and-eq-true-iff}
 use borrow.Author.Tests.{le-leb, leb-true}
-use Rattle.bounds.specs.Profiles.{InRange, inRange, fullProfile}
+use Rattle.bounds.specs.Profiles.{InRange, inRange, fullProfile, Larger}
 use Rattle.bounds.specs.declared.profiles.Profile.{Profile}
 
 pub range-facts : (π : Profile) → inRange π ≡ true → InRange π
@@ -31,3 +31,11 @@ facts-range π f =
 pub full-range : inRange fullProfile ≡ true
 unfolding inRange
 full-range = refl
+
+pub full-larger : (π : Profile) → InRange π → Larger π fullProfile
+full-larger π r = record {
+  in-range = range-facts fullProfile full-range;
+  exponent-larger = r .exponent-within;
+  weight-larger = r .weight-within;
+  rows-larger = r .rows-within;
+}

@@ -13,18 +13,19 @@ use Rattle.bounds.specs.declared.profiles.Profile.{Profile}
 use Rattle.answers.specs.Answers.{says, Passes, Short}
 use Rattle.answers.specs.declared.answers.Verdict.the-variants.{Accepted}
 use Rattle.answers.proofs.answers.Laws.{number-then, passed-if, accepted-says, passes-if, passes-then, then-passes, then-on, passed, short-accepted, short-if, short-then}
-use Rattle.sheets.specs.Layout.{variables, termCount, rowCount, shapeOf, LimitsRoom}
+use Rattle.points.proofs.points.Laws.{within-larger}
+use Rattle.sheets.specs.Layout.{variables, termCount, shapeOf, LimitsRoom}
 use Rattle.sheets.specs.ClaimSheet.{withFloor}
 use Rattle.sheets.proofs.claim_sheet.Laws.{floored-before}
-use Rattle.rows.specs.ProofSheet.{tripleOf}
 use Rattle.limits.specs.LimitsSheet.{limitsOf}
 use Rattle.limits.specs.LimitChecks.{limitsAnswer, RightLimits}
 use Rattle.limits.proofs.limit_checks.Laws.{limits-room, limits-right, limits-short, limits-other}
 use Rattle.claims.specs.ClaimChecks.{claimAnswer, ClaimFacts}
-use Rattle.claims.proofs.claim_checks.Laws.{profile-facts, claim-facts, claim-larger, claim-floored, claim-short, claim-other}
-use Rattle.checks.specs.ProofChecks.{rowsAnswer, Within, HeaderFacts, ProofFacts}
+use Rattle.claims.proofs.claim_checks.Laws.{profile-facts, terms-within, claim-facts, claim-under, claim-floored, claim-short, claim-other}
+use Rattle.checks.specs.ProofChecks.{rowsAnswer, HeaderFacts, ProofFacts}
 use Rattle.checks.specs.Input.{headAnswer, roomAnswer, bodyAnswer, restAnswer, inputAnswer, formedAnswer, WellFormed, InputUnlimited}
-use Rattle.checks.proofs.proof_checks.Laws.{header-facts, proposed-within, proof-facts, header-larger, rows-larger, header-short, rows-short}
+use Rattle.checks.specs.Profiled.{Fits}
+use Rattle.checks.proofs.proof_checks.Laws.{triple-larger, header-facts, proposed-within, ends-within, proof-facts, rows-few, header-under, rows-under, header-short, rows-short}
 
 -- ---- 1 to 10
 
@@ -75,6 +76,30 @@ module _ (c s l : List ℕ) (π : Profile) (f : WellFormed c s l π) where
   pub range-formed : InRange π
   range-formed = head-range c s π formed-head
 
+  -- they fit their profile
+  pub fits-formed : Fits c s π
+  unfolding headAnswer
+  fits-formed =
+      let head = passes-then _ _ formed-head in
+      record {
+        terms = terms-within c π (head .0);
+        v-ends = λ i l. ends-within s π formed-rows i l .0;
+        w-ends = λ i l. ends-within s π formed-rows i l .1;
+        weights = proposed-within s π formed-rows;
+        rows = rows-few (π .rows) (variables c) s (head .1);
+      }
+
+  -- and are well-formed under every other in range that they fit
+  pub formed-under : (ρ : Profile) → InRange ρ → Fits c s ρ → WellFormed c s l ρ
+  unfolding formedAnswer headAnswer
+  formed-under ρ r fit =
+      let head = passes-then _ _ formed-head in
+      then-passes _ _
+      (then-passes _ _ (claim-under c π ρ r (fit .terms) (head .0))
+      (header-under (π .rows) (variables c) s (head .1) (ρ .rows) (fit .rows)))
+      (then-passes _ _ formed-limits
+      (rows-under s π ρ (shapeOf s) (λ i m. (fit .v-ends i m, fit .w-ends i m)) (fit .weights) formed-rows))
+
   pub claim-formed : ClaimFacts c (variables c) (termCount c)
   claim-formed = head-claim-facts c s π formed-head
 
@@ -84,14 +109,25 @@ module _ (c s l : List ℕ) (π : Profile) (f : WellFormed c s l π) where
   pub proof-formed : ProofFacts s (shapeOf s)
   proof-formed = proof-facts s π formed-rows range-formed (head-facts c s π formed-head .1)
 
-  pub weights-formed : (i : ℕ) → i < rowCount s → Within (π .weight) (tripleOf s (shapeOf s) i)
-  weights-formed = proposed-within s π formed-rows
-
   pub room-formed : LimitsRoom l (variables c)
   room-formed = limits-room (variables c) l (claim-formed .room .few) formed-limits
 
   pub limits-formed : RightLimits (limitsOf l (variables c))
   limits-formed = limits-right (variables c) l formed-limits
+
+-- what fits a profile fits a larger one
+fits-larger : (c s : List ℕ) (π ρ : Profile) → Larger π ρ → Fits c s π → Fits c s ρ
+fits-larger c s π ρ l f = record {
+  terms = λ i m. within-larger _ _ (l .exponent-larger) _ (f .terms i m);
+  v-ends = λ i m. within-larger _ _ (l .exponent-larger) _ (f .v-ends i m);
+  w-ends = λ i m. within-larger _ _ (l .exponent-larger) _ (f .w-ends i m);
+  weights = λ i m. triple-larger _ _ (l .weight-larger) _ (f .weights i m);
+  rows = omega (arith, f .rows, l .rows-larger);
+}
+
+pub formed-larger : (c s l : List ℕ) (π ρ : Profile) → Larger π ρ → WellFormed c s l π → WellFormed c s l ρ
+formed-larger c s l π ρ larger f =
+    formed-under c s l π f ρ (larger .in-range) (fits-larger c s π ρ larger (fits-formed c s l π f))
 
 -- they are passed exactly where the sheets are well-formed and the output is long enough
 module _ (c s l : List ℕ) (π : Profile) (room : ℕ) where
@@ -126,18 +162,6 @@ module _ (c s l : List ℕ) (π : Profile) (room : ℕ) where
         let d = passes-then _ _ (a .0) in
         rw (floored-before c b 0 (omega arith))
         (then-passes _ _ (then-passes _ _ (claim-floored c b π w (d .0)) (d .1)) (a .1))
-
--- and under a larger profile as well
-pub input-larger : (c s l : List ℕ) (π ρ : Profile) → Larger π ρ → (room : ℕ) → Passes (inputAnswer c s l π room)
-    → Passes (inputAnswer c s l ρ room)
-unfolding inputAnswer restAnswer bodyAnswer headAnswer
-input-larger c s l π ρ larger room h =
-    let head = passes-then _ _ (passes-then _ _ h .0) in
-    let p = parts c s l π room h in
-    then-passes _ _
-    (then-passes _ _ (claim-larger c π ρ larger (head .0))
-    (header-larger _ _ (larger .rows-larger) (variables c) s (head .1)))
-    (then-passes _ _ (p .0) (then-passes _ _ (p .1) (rows-larger s π ρ larger (shapeOf s) (p .2))))
 
 -- every answer is short
 head-short : (c s : List ℕ) (π : Profile) {limit : ℕ} → 27 < limit → Bytes c → Short limit (headAnswer c s π)

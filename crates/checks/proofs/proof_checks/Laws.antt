@@ -1,5 +1,5 @@
--- Laws of the checks 8 to 10 and 12 to 15: what it says of a proof that it passes them, that it passes them under a
--- larger profile, and how short its answers are.
+-- Laws of the checks 8 to 10 and 12 to 15: what it says of a proof that it passes them, that it passes them under
+-- another profile, and how short its answers are.
 use mathlib.Core.Path.{_≡_, refl, sym}
 use mathlib.Core.Bool.{Bool, true, false, _&&_, false≢true, and-eq-true-iff}
 use mathlib.Core.List.{List}
@@ -13,7 +13,7 @@ use Rattle.integers.proofs.Integers.{abs-zero}
 use Rattle.integers.proofs.words.Laws.{Bytes}
 use Rattle.integers.proofs.Tests.{nor, nand}
 use Rattle.bounds.specs.Bounds.{mostVariables, mostRows, greatestExponent}
-use Rattle.bounds.specs.Profiles.{InRange, Larger}
+use Rattle.bounds.specs.Profiles.{InRange}
 use Rattle.bounds.specs.declared.profiles.Profile.{Profile}
 use Rattle.bounds.proofs.bounds.Laws.{within-bound, bound-within}
 use Rattle.answers.specs.Answers.{Passes, Short}
@@ -61,7 +61,7 @@ triple-larger limit larger l x w = record {
 }
 
 module _ (s : List ℕ) (sh : Shape) (i : ℕ) where
-  abbrev Ends : ℕ → Type 0
+  abbrev pub Ends : ℕ → Type 0
   Ends limit = (exponentsWithin limit (vOf s sh i) ≡ true) × (exponentsWithin limit (wOf s sh i) ≡ true)
 
   ends-facts : (limit : ℕ) → rowBreaks (Exponent limit) s sh i ≡ false → Ends limit
@@ -131,6 +131,11 @@ module _ (s : List ℕ) (π : Profile) (h : Passes (rowsAnswer s π (shapeOf s))
       let p₁₅ = passes-at _ 14 _ refl p₁₄ .1 in
       weights-fact s _ i _ (none-wrong _ _ (passes-at _ 15 _ refl p₁₅ .0) i l)
 
+  -- 12
+  pub ends-within : (i : ℕ) → i < rowCount s → Ends s (shapeOf s) i (π .exponent)
+  unfolding rowsAnswer
+  ends-within i l = ends-facts s _ i _ (none-wrong _ _ (passes-at _ 12 _ refl h .0) i l)
+
   pub proof-facts : InRange π → HeaderFacts s (shapeOf s) → ProofFacts s (shapeOf s)
   unfolding rowsAnswer
   proof-facts r header =
@@ -138,7 +143,7 @@ module _ (s : List ℕ) (π : Profile) (h : Passes (rowsAnswer s π (shapeOf s))
       let p₁₃ = passes-at _ 13 _ refl (p₁₂ .1) in
       let p₁₄ = passes-at _ 14 _ refl (p₁₃ .1) in
       let ends : (i : ℕ) → i < rowCount s → Ends s (shapeOf s) i greatestExponent =
-      λ i l. ends-larger s _ i _ _ (r .exponent-within) (ends-facts s _ i _ (none-wrong _ _ (p₁₂ .0) i l)) in
+      λ i l. ends-larger s _ i _ _ (r .exponent-within) (ends-within i l) in
       record {
         header = header;
         v-within = λ i l. ends i l .0;
@@ -148,52 +153,54 @@ module _ (s : List ℕ) (π : Profile) (h : Passes (rowsAnswer s π (shapeOf s))
         weights-within = λ i l. triple-larger _ _ (r .weight-within) _ (proposed-within i l);
       }
 
--- ---- with larger limits they are passed as well
+-- ---- they are passed under every other profile that the proof keeps
 
-one-weaker : (a b b′ d e : Bool) → (b ≡ true → b′ ≡ true) → a && b && d && e ≡ true → a && b′ && d && e ≡ true
-one-weaker true true b′ d e f h = rw (f refl) h
-one-weaker true false b′ d e f h = absurd (false≢true h)
-one-weaker false b b′ d e f h = absurd (false≢true h)
+one-true : (a b d e : Bool) → a && b && d && e ≡ true → b ≡ true
+one-true true true d e h = refl
+one-true true false d e h = absurd (false≢true h)
+one-true false b d e h = absurd (false≢true h)
 
-header-right-larger : (limit larger : ℕ) → limit ≤ larger → (n : ℕ) (s : List ℕ) → proofHeaderRight limit n s ≡ true
-    → proofHeaderRight larger n s ≡ true
+one-other : (a b b′ d e : Bool) → b′ ≡ true → a && b && d && e ≡ true → a && b′ && d && e ≡ true
+one-other true true b′ d e f h = rw f h
+one-other true false b′ d e f h = absurd (false≢true h)
+one-other false b b′ d e f h = absurd (false≢true h)
+
+header-other-limit : (limit other n : ℕ) (s : List ℕ) → rowCount s ≤ other → proofHeaderRight limit n s ≡ true
+    → proofHeaderRight other n s ≡ true
 unfolding proofHeaderRight
-header-right-larger limit larger l n s =
-    one-weaker (eqb (variables s) n && eqb (getD s 1 0) 0) (leb (rowCount s) limit) _ _ _
-    (λ h. let few = leb-true (rowCount s) limit h in le-leb (rowCount s) larger (omega arith))
+header-other-limit limit other n s l =
+    one-other (eqb (variables s) n && eqb (getD s 1 0) 0) (leb (rowCount s) limit) _ _ _ (le-leb (rowCount s) other l)
 
-pub header-larger : (limit larger : ℕ) → limit ≤ larger → (n : ℕ) (s : List ℕ) → Passes (headerAnswer limit n s)
-    → Passes (headerAnswer larger n s)
-unfolding headerAnswer
-header-larger limit larger l n s h =
-    let p₈ = passes-if _ 8 _ refl h in
-    let p₉ = passes-if _ 9 _ refl (p₈ .1) in
-    rw (
-      if-on _ 8 _ (p₈ .0),
-      header-right-larger limit larger l n s (not-false _ (p₉ .0)),
-      if-on false 9 _ refl,
-    )
-    (p₉ .1)
+module _ (limit n : ℕ) (s : List ℕ) (h : Passes (headerAnswer limit n s)) where
+  header-right : proofHeaderRight limit n s ≡ true
+  unfolding headerAnswer
+  header-right = not-false _ (passes-if _ 9 _ refl (passes-if _ 8 _ refl h .1) .0)
 
-pub rows-larger : (s : List ℕ) (π ρ : Profile) → Larger π ρ → (sh : Shape) → Passes (rowsAnswer s π sh)
+  pub rows-few : rowCount s ≤ limit
+  unfolding proofHeaderRight
+  rows-few =
+      leb-true (rowCount s) limit
+      (one-true (eqb (variables s) n && eqb (getD s 1 0) 0) (leb (rowCount s) limit) _ _ header-right)
+
+  pub header-under : (other : ℕ) → rowCount s ≤ other → Passes (headerAnswer other n s)
+  unfolding headerAnswer
+  header-under other l =
+      let p₈ = passes-if _ 8 _ refl h in
+      let p₉ = passes-if _ 9 _ refl (p₈ .1) in
+      rw (if-on _ 8 _ (p₈ .0), header-other-limit limit other n s l header-right, if-on false 9 _ refl) (p₉ .1)
+
+pub rows-under : (s : List ℕ) (π ρ : Profile) (sh : Shape) → ((i : ℕ) → i < sh .k → Ends s sh i (ρ .exponent))
+    → ((i : ℕ) → i < sh .k → Within (ρ .weight) (tripleOf s sh i)) → Passes (rowsAnswer s π sh)
     → Passes (rowsAnswer s ρ sh)
 unfolding rowsAnswer
-rows-larger s π ρ l sh h =
+rows-under s π ρ sh ends weights h =
     let p₁₂ = passes-at _ 12 _ refl h in
     let p₁₃ = passes-at _ 13 _ refl (p₁₂ .1) in
     let p₁₄ = passes-at _ 14 _ refl (p₁₃ .1) in
     let p₁₅ = passes-at _ 15 _ refl (p₁₄ .1) in
-    let ends =
-    all-right (rowBreaks (Exponent (ρ .exponent)) s sh) (sh .k)
-    (λ i m.
-    ends-break s sh i _
-    (ends-larger s sh i _ _ (l .exponent-larger) (ends-facts s sh i _ (none-wrong _ _ (p₁₂ .0) i m)))) in
-    let weights =
-    all-right (rowBreaks (Weight (ρ .weight)) s sh) (sh .k)
-    (λ i m.
-    weights-break s sh i _
-    (triple-larger _ _ (l .weight-larger) _ (weights-fact s sh i _ (none-wrong _ _ (p₁₅ .0) i m)))) in
-    rw (at-on _ 12 _ (sym ends), at-on _ 13 _ (p₁₃ .0), at-on _ 14 _ (p₁₄ .0), at-on _ 15 _ (sym weights)) (p₁₅ .1)
+    let e = all-right (rowBreaks (Exponent (ρ .exponent)) s sh) (sh .k) (λ i m. ends-break s sh i _ (ends i m)) in
+    let w = all-right (rowBreaks (Weight (ρ .weight)) s sh) (sh .k) (λ i m. weights-break s sh i _ (weights i m)) in
+    rw (at-on _ 12 _ (sym e), at-on _ 13 _ (p₁₃ .0), at-on _ 14 _ (p₁₄ .0), at-on _ 15 _ (sym w)) (p₁₅ .1)
 
 -- ---- every number is document 01's, and an index is below a count that two bytes give
 

@@ -1,5 +1,5 @@
--- Laws of the checks 27 and 1 to 7: what it says of a claim that it passes them, that it passes them under a larger
--- profile and with another floor, what 2 asks without a mask, and how short its answers are.
+-- Laws of the checks 27 and 1 to 7: what it says of a claim that it passes them, that it passes them under
+-- another profile and with another floor, what 2 asks without a mask, and how short its answers are.
 use mathlib.Core.Path.{_≡_, refl, sym, _∙_, fun-ext}
 use mathlib.Core.Bool.{Bool, true, false, _&&_, true≢false, and-eq-true-iff}
 use mathlib.Core.List.{List}
@@ -15,7 +15,7 @@ use Rattle.integers.proofs.Integers.{fits-within}
 use Rattle.integers.proofs.words.Laws.{Bytes}
 use Rattle.integers.proofs.Tests.{nor, nand}
 use Rattle.bounds.specs.Bounds.{greatestExponent, greatestWeight, mostVariables, mostTerms}
-use Rattle.bounds.specs.Profiles.{InRange, Larger}
+use Rattle.bounds.specs.Profiles.{InRange}
 use Rattle.bounds.specs.declared.profiles.Profile.{Profile}
 use Rattle.bounds.proofs.bounds.Laws.{within-bound, bound-within}
 use Rattle.bounds.proofs.profiles.Laws.{range-facts, facts-range}
@@ -80,6 +80,19 @@ pub profile-facts : (c : List ℕ) (π : Profile) → Passes (claimAnswer c π) 
 unfolding claimAnswer
 profile-facts c π h = range-facts π (not-false _ (passes-if _ 27 _ refl h .0))
 
+-- 6
+pub terms-within : (c : List ℕ) (π : Profile) → Passes (claimAnswer c π) → (i : ℕ) → i < termCount c
+    → exponentsWithin (π .exponent) (termPoint c (variables c) i) ≡ true
+unfolding claimAnswer termsAnswer
+terms-within c π h i l =
+    let p₁ = passes-if _ 27 _ refl h .1 in
+    let p₂ = passes-if _ 1 _ refl p₁ .1 in
+    let p₃ = passes-if _ 2 _ refl p₂ .1 in
+    let p₄ = passes-if _ 3 _ refl p₃ .1 in
+    let p₅ = passes-if _ 4 _ refl p₄ .1 in
+    let p₆ = passes-at _ 5 _ refl p₅ .1 in
+    exponents-fact c _ _ i (π .exponent) (none-wrong _ _ (passes-at _ 6 _ refl p₆ .0) i l)
+
 pub claim-facts : (c : List ℕ) (π : Profile) → Passes (claimAnswer c π) → ClaimFacts c (variables c) (termCount c)
 unfolding claimAnswer termsAnswer
 claim-facts c π h =
@@ -101,42 +114,42 @@ claim-facts c π h =
       coefficient-within = λ i l. coefficient-fact c _ _ i (none-wrong _ _ (p₅ .0) i l);
       exponents-within = λ i l.
           within-larger (π .exponent) greatestExponent (profile-facts c π h .exponent-within) _
-          (exponents-fact c _ _ i (π .exponent) (none-wrong _ _ (p₆ .0) i l));
+          (terms-within c π h i l);
       rising = λ i l. rising-fact c _ _ i (none-wrong _ _ (p₇ .0) (suc i) l);
     }
 
--- ---- a claim that passes under a profile passes under a larger one
+-- ---- a claim that passes under a profile passes under every other in range whose exponent its terms keep
 
-terms-larger : (c : List ℕ) (π ρ : Profile) → Larger π ρ → (n t : ℕ) → Passes (termsAnswer c π n t)
+terms-under : (c : List ℕ) (π ρ : Profile) (n t : ℕ)
+    → ((i : ℕ) → i < t → exponentsWithin (ρ .exponent) (termPoint c n i) ≡ true) → Passes (termsAnswer c π n t)
     → Passes (termsAnswer c ρ n t)
 unfolding termsAnswer
-terms-larger c π ρ l n t h =
+terms-under c π ρ n t keep h =
     let p₅ = passes-at _ 5 _ refl h in
     let p₆ = passes-at _ 6 _ refl (p₅ .1) in
     let none =
-    all-right (termBreaks (Exponent (ρ .exponent)) c n t) t
-    (λ i m.
-    exponents-break c n t i _
-    (within-larger _ _ (l .exponent-larger) _ (exponents-fact c n t i _ (none-wrong _ _ (p₆ .0) i m)))) in
+    all-right (termBreaks (Exponent (ρ .exponent)) c n t) t (λ i m. exponents-break c n t i _ (keep i m)) in
     rw (at-on _ 5 _ (p₅ .0), at-on _ 6 _ (sym none)) (p₆ .1)
 
-pub claim-larger : (c : List ℕ) (π ρ : Profile) → Larger π ρ → Passes (claimAnswer c π) → Passes (claimAnswer c ρ)
+pub claim-under : (c : List ℕ) (π ρ : Profile) → InRange ρ
+    → ((i : ℕ) → i < termCount c → exponentsWithin (ρ .exponent) (termPoint c (variables c) i) ≡ true)
+    → Passes (claimAnswer c π) → Passes (claimAnswer c ρ)
 unfolding claimAnswer
-claim-larger c π ρ l h =
+claim-under c π ρ r keep h =
     let p₀ = passes-if _ 27 _ refl h in
     let p₁ = passes-if _ 1 _ refl (p₀ .1) in
     let p₂ = passes-if _ 2 _ refl (p₁ .1) in
     let p₃ = passes-if _ 3 _ refl (p₂ .1) in
     let p₄ = passes-if _ 4 _ refl (p₃ .1) in
     rw (
-      facts-range ρ (l .in-range),
+      facts-range ρ r,
       if-on _ 27 _ refl,
       if-on _ 1 _ (p₁ .0),
       if-on _ 2 _ (p₂ .0),
       if-on _ 3 _ (p₃ .0),
       if-on _ 4 _ (p₄ .0),
     )
-    (terms-larger c π ρ l _ _ (p₄ .1))
+    (terms-under c π ρ _ _ keep (p₄ .1))
 
 -- without a mask: "Bytes 2 and 3: zero"
 pub header-unmasked : (c : List ℕ) → maskOf c ≡ 0
