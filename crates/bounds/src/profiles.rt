@@ -15,7 +15,7 @@ pub struct Profile {
     pub rows: u32,
 }
 
-// The greatest of all.
+// The full profile: the largest in range.
 pub const FULL: Profile = Profile {
     exponent: GREATEST_EXPONENT as u32,
     weight: GREATEST_WEIGHT as u32,

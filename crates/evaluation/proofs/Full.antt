@@ -7,10 +7,10 @@ use Rattle.bounds.specs.Profiles.{fullProfile}
 use Rattle.answers.specs.Answers.{andThen}
 use Rattle.claims.proofs.Full.{claim-full}
 use Rattle.evaluation.specs.Evaluations.{evaluationAnswer, evaluationOf}
-use Rattle.evaluation.specs.Full.{fullAnswer, fullEvaluation, EvaluationFull}
+use Rattle.evaluation.specs.Full.{fullEvaluationAnswer, fullEvaluation, EvaluationFull}
 
-answer : (c : List ℕ) (x : List ℤ) → evaluationAnswer c fullProfile x ≡ fullAnswer c x
-unfolding evaluationAnswer fullAnswer
+answer : (c : List ℕ) (x : List ℤ) → evaluationAnswer c fullProfile x ≡ fullEvaluationAnswer c x
+unfolding evaluationAnswer fullEvaluationAnswer
 answer c x = ap₂ andThen (claim-full c) refl
 
 pub evaluation-full : (c : List ℕ) (x : List ℤ) → EvaluationFull c x

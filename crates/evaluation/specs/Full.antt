@@ -15,15 +15,15 @@ use Rattle.claims.specs.Full.{fullClaim}
 use Rattle.evaluation.specs.Evaluations.{Told, toldBy, tooLargeAnswer, evaluationAnswer, evaluationOf}
 
 -- 1 to 7, 20 and 21
-unfoldable pub fullAnswer : List ℕ → List ℤ → Answer
-fullAnswer c x =
+unfoldable pub fullEvaluationAnswer : List ℕ → List ℤ → Answer
+fullEvaluationAnswer c x =
     andThen (fullClaim c)
     (refuseIf (not (eqb (length x) (variables c))) 20
     (tooLargeAnswer c (variables c) (termCount c) x))
 
 unfoldable pub fullEvaluation : List ℕ → List ℤ → Told
-fullEvaluation c x = toldBy (fullAnswer c x) (valueAt x (termsOf c))
+fullEvaluation c x = toldBy (fullEvaluationAnswer c x) (valueAt x (termsOf c))
 
 pub record EvaluationFull (c : List ℕ) (x : List ℤ) : Type 0 where
-  pub answer : evaluationAnswer c fullProfile x ≡ fullAnswer c x
+  pub answer : evaluationAnswer c fullProfile x ≡ fullEvaluationAnswer c x
   pub told : evaluationOf c fullProfile x ≡ fullEvaluation c x
