@@ -20,9 +20,10 @@ cases =
     ∷ record { answer = refused 11 0; code = 12885622784 }
     ∷ record { answer = refused 20 0; code = 17181179904 }
     ∷ record { answer = refused 22 0; code = 21476278272 }
-    -- a limit of the last of eight variables, a page of another length
+    -- a limit of the last of eight variables, a page of another length, a profile out of range
     ∷ record { answer = refused 25 7; code = 25771442183 }
     ∷ record { answer = refused 26 0; code = 30066475008 }
+    ∷ record { answer = refused 27 0; code = 34361507840 }
     ∷ []
 
 -- the definition gives every number
