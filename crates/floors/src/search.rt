@@ -22,9 +22,9 @@ ghost use Prim.Native.Nat.{_≤_};
 ghost use lib.IntN.{natAbs};
 ghost use lib.ListN.{length};
 ghost use Rattle.bounds.specs.Bounds.{greatestWeight, greatestSpan};
-ghost use Rattle.answers.specs.Answers.{says, refused};
+ghost use Rattle.answers.specs.Answers.{refused};
 ghost use Rattle.answers.specs.Searches.{first};
-ghost use Rattle.floors.specs.Search.{rangeWrong, rangeAnswer, floorCount, toldAfter, aimAfter, Searchable, passesAfter, outputAfter, found, refusal, tells, searchOf, searchOutput};
+ghost use Rattle.floors.specs.Search.{rangeWrong, floorCount, toldAfter, aimAfter, Searchable, passesAfter, outputAfter, found, refusal, tells, searchOf, searchOutput};
 ghost use Rattle.floors.specs.Promises.{SearchPromises};
 
 // The highest floor that is accepted, how many floors were tried and the number of rows; or the sheet at fault.
@@ -47,29 +47,6 @@ fn range_wrong(lo: i64, hi: i64) -> bool
         return true;
     }
     is_beyond(hi - lo, GREATEST_SPAN)
-}
-
-// The checks 27, 1 to 15, 24 and 25, then 22; the room is the output's length.
-fn check_range(
-    claim: &[u8],
-    proof: &[u8],
-    limits: &[u8],
-    profile: Profile,
-    lo: i64,
-    hi: i64,
-    room: usize,
-) -> Verdict
-    ensures { λ r. ⌜ says r
-        ≡ rangeAnswer (now (claim .entry)) (now (proof .entry)) (now (limits .entry)) profile lo hi room ⌝ }
-{
-    let formed = check_input(claim, proof, limits, profile, room);
-    let Verdict::Accepted(_) = formed else {
-        return formed;
-    };
-    if range_wrong(lo, hi) {
-        return Verdict::Refused(Sheet::Range(22, 0));
-    }
-    Verdict::Accepted(0)
 }
 
 // How many floors there are from lo to hi.
@@ -155,9 +132,11 @@ pub fn search(
         lo hi (now (output .entry)) (λ b tried k. tells r ≡ found b tried k) (tells r ≡ refusal (refused 23 0))
         (now (output .exit)) ⌝ }
 {
-    let ranged = check_range(claim, proof, limits, profile, lo, hi, output.len());
-    if let Verdict::Refused(sheet) = ranged {
+    if let Verdict::Refused(sheet) = check_input(claim, proof, limits, profile, output.len()) {
         return Searched::Refused(sheet);
+    }
+    if range_wrong(lo, hi) {
+        return Searched::Refused(Sheet::Range(22, 0));
     }
     let own = aim_of(claim, proof, limits);
     search_checked(claim, proof, own, profile.weight as u64, lo, hi, output)

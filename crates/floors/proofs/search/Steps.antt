@@ -128,28 +128,6 @@ module _ (lo hi lo′ hi′ : ℤ) (el : lo′ ≡ lo) (eh : hi′ ≡ hi) where
       unfolding floorCount
       count-is = omega (arith, size)
 
--- ---- check_range: v is the verdict on 27, 1 to 15, 24 and 25, r whether the range is wrong
-
-module _ (c s ls : List ℕ) (π : Profile) (lo hi : ℤ) (room : ℕ) (v : Verdict)
-    (e : says v ≡ inputAnswer c s ls π room) where
-  pub input-refused : (x : Sheet) → v ≡ Verdicts.Refused x → says v ≡ rangeAnswer c s ls π lo hi room
-  unfolding rangeAnswer
-  input-refused x h = then-refused v _ e x h _
-
-  module _ (j : ℕ) (h : v ≡ Verdicts.Accepted j) (r : Bool) (lo′ hi′ : ℤ) (er : r ≡ rangeWrong lo′ hi′)
-      (el : lo′ ≡ lo) (eh : hi′ ≡ hi) where
-    tested : (b : Bool) → r ≡ b → rangeWrong lo hi ≡ b
-    tested b w = sym (er ∙ rw (el, eh)) ∙ w
-
-    pub range-refused : r ≡ true → says (Verdicts.Refused (Range 22 0)) ≡ rangeAnswer c s ls π lo hi room
-    unfolding rangeAnswer
-    range-refused w =
-        then-passed v _ e j h _ _ (refused-if _ _ 22 _ (tested true w) (refused-says (Range 22 0) 22 0 refl))
-
-    pub range-right : r ≡ false → says (Verdicts.Accepted 0) ≡ rangeAnswer c s ls π lo hi room
-    unfolding rangeAnswer
-    range-right w = then-passed v _ e j h _ _ (passed-if _ _ 22 _ (tested false w) (accepted-says 0))
-
 -- ---- aim_after: b is the floor
 
 module _ (a : Aim) (hi hi′ : ℤ) (i : ℕ) (eh : hi′ ≡ hi) (w : natAbs hi ≤ greatestWeight) (l : i ≤ greatestSpan) where
@@ -300,65 +278,81 @@ module _ (limit : ℕ) (c s : List ℕ) (own : Aim) (lo hi : ℤ) (given : Searc
       unfolding outputAfter
       found-written o out eo = eo ∙ rw (← walked, q, aim-is)
 
--- ---- search: v is the verdict before 16
+-- ---- search: v is the verdict on 27, 1 to 15, 24 and 25, r whether the range is wrong
 
-module _ (c s ls : List ℕ) (π : Profile) (lo hi : ℤ) (out : List ℕ) (v : Verdict) (lo′ hi′ : ℤ)
-    (e : says v ≡ rangeAnswer c s ls π lo′ hi′ (length out)) (el : lo′ ≡ lo) (eh : hi′ ≡ hi) where
-  ranged-is : says v ≡ rangeAnswer c s ls π lo hi (length out)
-  ranged-is = e ∙ rw (el, eh)
-
-  pub search-refused : (x : Sheet) → v ≡ Verdicts.Refused x → tells (Refused x) ≡ searchOf c s ls π lo hi (length out)
+module _ (c s ls : List ℕ) (π : Profile) (lo hi : ℤ) (out : List ℕ) (v : Verdict)
+    (e : says v ≡ inputAnswer c s ls π (length out)) where
+  refused-told : (x : Sheet) → says (Verdicts.Refused x) ≡ rangeAnswer c s ls π lo hi (length out)
+      → tells (Refused x) ≡ searchOf c s ls π lo hi (length out)
   unfolding tells searchOf
-  search-refused x h = rw (failed v _ ranged-is x h) (ap refusal (sym (ap says h) ∙ ranged-is))
+  refused-told x q = rw (failed (Verdicts.Refused x) _ q x refl) (ap refusal q)
 
-  module _ (j : ℕ) (h : v ≡ Verdicts.Accepted j) where
-    ready : Passes (rangeAnswer c s ls π lo hi (length out))
-    ready = passed v _ ranged-is j h
+  pub input-refused : (x : Sheet) → v ≡ Verdicts.Refused x → tells (Refused x) ≡ searchOf c s ls π lo hi (length out)
+  unfolding rangeAnswer
+  input-refused x h = refused-told x (sym (ap says h) ∙ then-refused v _ e x h _)
 
-    input : Passes (inputAnswer c s ls π (length out))
-    input = input-passed c s ls π lo hi (length out) ready
+  module _ (j : ℕ) (h : v ≡ Verdicts.Accepted j) (r : Bool) (lo′ hi′ : ℤ) (er : r ≡ rangeWrong lo′ hi′)
+      (el : lo′ ≡ lo) (eh : hi′ ≡ hi) where
+    tested : (b : Bool) → r ≡ b → rangeWrong lo hi ≡ b
+    tested b w = sym (er ∙ rw (el, eh)) ∙ w
 
-    pub search-claim : 8 ≤ length c
-    search-claim = claim-eight c s _ (searchable c s ls π lo hi (length out) ready .sheets)
+    pub range-refused : r ≡ true → tells (Refused (Range 22 0)) ≡ searchOf c s ls π lo hi (length out)
+    unfolding rangeAnswer
+    range-refused w =
+        refused-told (Range 22 0)
+        (then-passed v _ e j h _ _ (refused-if _ _ 22 _ (tested true w) (refused-says (Range 22 0) 22 0 refl)))
 
-    pub search-proof : 8 ≤ length s
-    search-proof = proof-eight c s _ (searchable c s ls π lo hi (length out) ready .sheets)
+    module _ (w : r ≡ false) where
+      ready : Passes (rangeAnswer c s ls π lo hi (length out))
+      unfolding rangeAnswer
+      ready =
+          passed (Verdicts.Accepted 0) _
+          (then-passed v _ e j h _ _ (passed-if _ _ 22 _ (tested false w) (accepted-says 0))) 0 refl
 
-    pub search-limits : LimitsRoom ls (variables c)
-    search-limits = room-formed c s ls π (input-formed c s ls π (length out) input)
+      input : Passes (inputAnswer c s ls π (length out))
+      input = input-passed c s ls π lo hi (length out) ready
 
-    pub search-room : length s ≤ length out
-    search-room = input-enough c s ls π (length out) input
+      pub search-claim : 8 ≤ length c
+      search-claim = claim-eight c s _ (searchable c s ls π lo hi (length out) ready .sheets)
 
-    -- own is the aim that was read
-    module _ (own : Aim) (ew : own ≡ aimOf c s ls) where
-      pub search-ready : Searchable (π .weight) c s own lo′ hi′
-      search-ready = rw (ew, el, eh) (searchable c s ls π lo hi (length out) ready)
+      pub search-proof : 8 ≤ length s
+      search-proof = proof-eight c s _ (searchable c s ls π lo hi (length out) ready .sheets)
 
-      before : refusedBefore c s ls π lo hi (length out)
-          ≡ first (passesAfter (π .weight) c s own hi′) (floorCount lo′ hi′)
-      before = refused-before c s ls π lo hi (length out) ready ∙ rw (ew, el, eh)
+      pub search-limits : LimitsRoom ls (variables c)
+      search-limits = room-formed c s ls π (input-formed c s ls π (length out) input)
 
-      pub search-told : (r : Searched)
-          → tells r ≡ toldAfter s hi′ (first (passesAfter (π .weight) c s own hi′) (floorCount lo′ hi′))
-          → tells r ≡ searchOf c s ls π lo hi (length out)
-      unfolding searchOf
-      search-told r er = er ∙ rw (← before, ready, eh)
+      pub search-room : length s ≤ length out
+      search-room = input-enough c s ls π (length out) input
 
-      pub search-written : (o : List ℕ)
-          → o ≡ outputAfter c s own hi′ out (first (passesAfter (π .weight) c s own hi′) (floorCount lo′ hi′))
-          → o ≡ searchOutput c s ls π lo hi out
-      unfolding searchOutput searchOf outputAfter outputBy toldAfter aimAfter passesAfter
-      search-written o eo = eo ∙ rw (← before, ready, eh, ew) (go (refusedBefore c s ls π lo hi (length out)) refl)
-        where
-          go : (f : Index.Found) → refusedBefore c s ls π lo hi (length out) ≡ f
-              → outputAfter c s (aimOf c s ls) hi out f ≡ outputBy c s ls π out (toldAfter s hi f)
-          go (At i) q =
-              let own = searchable c s ls π lo hi (length out) ready in
-              let f = first-inside _ _ i (sym (refused-before c s ls π lo hi (length out) ready) ∙ q) in
-              let within = after-within lo hi (right-range lo hi (own .ranged)) i (f .0) in
-              sym (floored-output c s ls π (length out) input (floorAfter hi i) within out refl (f .1))
-          go Nothing q = refl
+      -- own is the aim that was read
+      module _ (own : Aim) (ew : own ≡ aimOf c s ls) where
+        pub search-ready : Searchable (π .weight) c s own lo′ hi′
+        search-ready = rw (ew, el, eh) (searchable c s ls π lo hi (length out) ready)
+
+        before : refusedBefore c s ls π lo hi (length out)
+            ≡ first (passesAfter (π .weight) c s own hi′) (floorCount lo′ hi′)
+        before = refused-before c s ls π lo hi (length out) ready ∙ rw (ew, el, eh)
+
+        pub search-told : (r : Searched)
+            → tells r ≡ toldAfter s hi′ (first (passesAfter (π .weight) c s own hi′) (floorCount lo′ hi′))
+            → tells r ≡ searchOf c s ls π lo hi (length out)
+        unfolding searchOf
+        search-told r er = er ∙ rw (← before, ready, eh)
+
+        pub search-written : (o : List ℕ)
+            → o ≡ outputAfter c s own hi′ out (first (passesAfter (π .weight) c s own hi′) (floorCount lo′ hi′))
+            → o ≡ searchOutput c s ls π lo hi out
+        unfolding searchOutput searchOf outputAfter outputBy toldAfter aimAfter passesAfter
+        search-written o eo = eo ∙ rw (← before, ready, eh, ew) (go (refusedBefore c s ls π lo hi (length out)) refl)
+          where
+            go : (f : Index.Found) → refusedBefore c s ls π lo hi (length out) ≡ f
+                → outputAfter c s (aimOf c s ls) hi out f ≡ outputBy c s ls π out (toldAfter s hi f)
+            go (At i) q =
+                let own = searchable c s ls π lo hi (length out) ready in
+                let f = first-inside _ _ i (sym (refused-before c s ls π lo hi (length out) ready) ∙ q) in
+                let within = after-within lo hi (right-range lo hi (own .ranged)) i (f .0) in
+                sym (floored-output c s ls π (length out) input (floorAfter hi i) within out refl (f .1))
+            go Nothing q = refl
 
 -- r is what the search answers, o the output afterwards
 
