@@ -95,10 +95,10 @@ module _ (c s l : List ℕ) (π : Profile) (f : WellFormed c s l π) where
   formed-under ρ r fit =
       let head = passes-then _ _ formed-head in
       then-passes _ _
-      (then-passes _ _ (claim-under c π ρ r (fit .terms) (head .0))
+      (then-passes _ _ (claim-under c π (head .0) ρ r (fit .terms))
       (header-under (π .rows) (variables c) s (head .1) (ρ .rows) (fit .rows)))
       (then-passes _ _ formed-limits
-      (rows-under s π ρ (shapeOf s) (λ i m. (fit .v-ends i m, fit .w-ends i m)) (fit .weights) formed-rows))
+      (rows-under s π formed-rows ρ (λ i m. (fit .v-ends i m, fit .w-ends i m)) (fit .weights)))
 
   pub claim-formed : ClaimFacts c (variables c) (termCount c)
   claim-formed = head-claim-facts c s π formed-head

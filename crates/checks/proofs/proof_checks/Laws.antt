@@ -17,7 +17,9 @@ use Rattle.bounds.specs.Profiles.{InRange}
 use Rattle.bounds.specs.declared.profiles.Profile.{Profile}
 use Rattle.bounds.proofs.bounds.Laws.{within-bound, bound-within}
 use Rattle.answers.specs.Answers.{Passes, Short}
-use Rattle.answers.proofs.answers.Laws.{passes-if, passes-at, if-on, at-on, short-accepted, short-if, short-at}
+use Rattle.answers.specs.Searches.{first}
+use Rattle.answers.specs.declared.searches.Found.the-variants.{Nothing}
+use Rattle.answers.proofs.answers.Laws.{passes-if, passes-at, if-on, at-on, accepted-passes, short-accepted, short-if, short-at}
 use Rattle.answers.proofs.searches.Laws.{none-wrong, all-right}
 use Rattle.points.specs.Points.{samePoint, hasMidpoint, exponentsWithin}
 use Rattle.points.proofs.points.Laws.{within-larger}
@@ -26,6 +28,7 @@ use Rattle.sheets.specs.declared.layout.Shape.{Shape}
 use Rattle.rows.specs.ProofSheet.{vOf, wOf, tripleOf}
 use Rattle.rows.specs.declared.proof_sheet.Triple.{Triple}
 use Rattle.checks.specs.ProofChecks.{proofHeaderRight, headerAnswer, qOrR, anyBeyond, rowBreaks, rowsAnswer, Within, HeaderFacts, ProofFacts}
+use Rattle.checks.specs.declared.proof_checks.RowRule.{RowRule}
 use Rattle.checks.specs.declared.proof_checks.RowRule.the-variants.{Exponent, Midpoint, Unused, Weight}
 
 -- ---- what each check says that is passed
@@ -121,39 +124,7 @@ header-facts limit n s most some few h =
       },
     )
 
-module _ (s : List ℕ) (π : Profile) (h : Passes (rowsAnswer s π (shapeOf s))) where
-  -- 15
-  pub proposed-within : (i : ℕ) → i < rowCount s → Within (π .weight) (tripleOf s (shapeOf s) i)
-  unfolding rowsAnswer
-  proposed-within i l =
-      let p₁₃ = passes-at _ 12 _ refl h .1 in
-      let p₁₄ = passes-at _ 13 _ refl p₁₃ .1 in
-      let p₁₅ = passes-at _ 14 _ refl p₁₄ .1 in
-      weights-fact s _ i _ (none-wrong _ _ (passes-at _ 15 _ refl p₁₅ .0) i l)
-
-  -- 12
-  pub ends-within : (i : ℕ) → i < rowCount s → Ends s (shapeOf s) i (π .exponent)
-  unfolding rowsAnswer
-  ends-within i l = ends-facts s _ i _ (none-wrong _ _ (passes-at _ 12 _ refl h .0) i l)
-
-  pub proof-facts : InRange π → HeaderFacts s (shapeOf s) → ProofFacts s (shapeOf s)
-  unfolding rowsAnswer
-  proof-facts r header =
-      let p₁₂ = passes-at _ 12 _ refl h in
-      let p₁₃ = passes-at _ 13 _ refl (p₁₂ .1) in
-      let p₁₄ = passes-at _ 14 _ refl (p₁₃ .1) in
-      let ends : (i : ℕ) → i < rowCount s → Ends s (shapeOf s) i greatestExponent =
-      λ i l. ends-larger s _ i _ _ (r .exponent-within) (ends-within i l) in
-      record {
-        header = header;
-        v-within = λ i l. ends i l .0;
-        w-within = λ i l. ends i l .1;
-        whole = λ i l. whole-fact s _ i (none-wrong _ _ (p₁₃ .0) i l);
-        unused = λ i l. unused-facts s _ i (none-wrong _ _ (p₁₄ .0) i l);
-        weights-within = λ i l. triple-larger _ _ (r .weight-within) _ (proposed-within i l);
-      }
-
--- ---- they are passed under every other profile that the proof keeps
+-- under another limit that the rows keep
 
 one-true : (a b d e : Bool) → a && b && d && e ≡ true → b ≡ true
 one-true true true d e h = refl
@@ -189,18 +160,75 @@ module _ (limit n : ℕ) (s : List ℕ) (h : Passes (headerAnswer limit n s)) wh
       let p₉ = passes-if _ 9 _ refl (p₈ .1) in
       rw (if-on _ 8 _ (p₈ .0), header-other-limit limit other n s l header-right, if-on false 9 _ refl) (p₉ .1)
 
-pub rows-under : (s : List ℕ) (π ρ : Profile) (sh : Shape) → ((i : ℕ) → i < sh .k → Ends s sh i (ρ .exponent))
-    → ((i : ℕ) → i < sh .k → Within (ρ .weight) (tripleOf s sh i)) → Passes (rowsAnswer s π sh)
-    → Passes (rowsAnswer s ρ sh)
-unfolding rowsAnswer
-rows-under s π ρ sh ends weights h =
-    let p₁₂ = passes-at _ 12 _ refl h in
-    let p₁₃ = passes-at _ 13 _ refl (p₁₂ .1) in
-    let p₁₄ = passes-at _ 14 _ refl (p₁₃ .1) in
-    let p₁₅ = passes-at _ 15 _ refl (p₁₄ .1) in
-    let e = all-right (rowBreaks (Exponent (ρ .exponent)) s sh) (sh .k) (λ i m. ends-break s sh i _ (ends i m)) in
-    let w = all-right (rowBreaks (Weight (ρ .weight)) s sh) (sh .k) (λ i m. weights-break s sh i _ (weights i m)) in
-    rw (at-on _ 12 _ (sym e), at-on _ 13 _ (p₁₃ .0), at-on _ 14 _ (p₁₄ .0), at-on _ 15 _ (sym w)) (p₁₅ .1)
+-- ---- 12 to 15 are passed exactly where each is
+
+module _ (s : List ℕ) (π : Profile) (sh : Shape) where
+  abbrev Unbroken : RowRule → Type 0
+  Unbroken rule = first (rowBreaks rule s sh) (sh .k) ≡ Nothing
+
+  record Rows : Type 0 where
+    ends : Unbroken (Exponent (π .exponent))
+    whole : Unbroken Midpoint
+    unused : Unbroken Unused
+    weights : Unbroken (Weight (π .weight))
+
+  rows-parts : Passes (rowsAnswer s π sh) → Rows
+  unfolding rowsAnswer
+  rows-parts h =
+      let p₁₂ = passes-at _ 12 _ refl h in
+      let p₁₃ = passes-at _ 13 _ refl (p₁₂ .1) in
+      let p₁₄ = passes-at _ 14 _ refl (p₁₃ .1) in
+      let p₁₅ = passes-at _ 15 _ refl (p₁₄ .1) in
+      record { ends = p₁₂ .0; whole = p₁₃ .0; unused = p₁₄ .0; weights = p₁₅ .0 }
+
+  parts-rows : Rows → Passes (rowsAnswer s π sh)
+  unfolding rowsAnswer
+  parts-rows p =
+      rw (
+        at-on _ 12 _ (p .ends),
+        at-on _ 13 _ (p .whole),
+        at-on _ 14 _ (p .unused),
+        at-on _ 15 _ (p .weights),
+      )
+      (accepted-passes _ 0 refl)
+
+module _ (s : List ℕ) (π : Profile) (h : Passes (rowsAnswer s π (shapeOf s))) where
+  abbrev sh : Shape
+  sh = shapeOf s
+
+  abbrev p : Rows s π sh
+  p = rows-parts s π sh h
+
+  pub ends-within : (i : ℕ) → i < rowCount s → Ends s sh i (π .exponent)
+  ends-within i l = ends-facts s sh i _ (none-wrong _ _ (p .ends) i l)
+
+  pub proposed-within : (i : ℕ) → i < rowCount s → Within (π .weight) (tripleOf s sh i)
+  proposed-within i l = weights-fact s sh i _ (none-wrong _ _ (p .weights) i l)
+
+  pub proof-facts : InRange π → HeaderFacts s sh → ProofFacts s sh
+  proof-facts r header =
+      let ends : (i : ℕ) → i < rowCount s → Ends s sh i greatestExponent =
+      λ i l. ends-larger s sh i _ _ (r .exponent-within) (ends-within i l) in
+      record {
+        header = header;
+        v-within = λ i l. ends i l .0;
+        w-within = λ i l. ends i l .1;
+        whole = λ i l. whole-fact s sh i (none-wrong _ _ (p .whole) i l);
+        unused = λ i l. unused-facts s sh i (none-wrong _ _ (p .unused) i l);
+        weights-within = λ i l. triple-larger _ _ (r .weight-within) _ (proposed-within i l);
+      }
+
+  -- under every other profile that the rows keep
+  pub rows-under : (ρ : Profile) → ((i : ℕ) → i < rowCount s → Ends s sh i (ρ .exponent))
+      → ((i : ℕ) → i < rowCount s → Within (ρ .weight) (tripleOf s sh i)) → Passes (rowsAnswer s ρ sh)
+  rows-under ρ ends weights =
+      parts-rows s ρ sh
+      (record {
+        ends = sym (all-right (rowBreaks _ s sh) _ (λ i m. ends-break s sh i _ (ends i m)));
+        whole = p .whole;
+        unused = p .unused;
+        weights = sym (all-right (rowBreaks _ s sh) _ (λ i m. weights-break s sh i _ (weights i m)));
+      })
 
 -- ---- every number is document 01's, and an index is below a count that two bytes give
 

@@ -1,7 +1,7 @@
 -- Laws of the checks 27 and 1 to 7: what it says of a claim that it passes them, that it passes them under
 -- another profile and with another floor, what 2 asks without a mask, and how short its answers are.
 use mathlib.Core.Path.{_≡_, refl, sym, _∙_, fun-ext}
-use mathlib.Core.Bool.{Bool, true, false, _&&_, true≢false, and-eq-true-iff}
+use mathlib.Core.Bool.{Bool, true, false, not, _&&_, true≢false, and-eq-true-iff}
 use mathlib.Core.List.{List}
 use Prim.Native.Nat.{ℕ, suc, _-_, _^_, _<_, _≤_}
 use native.Mathlib.Nat.{zero-div}
@@ -14,15 +14,17 @@ use borrow.Author.Tests.{eqb-true, not-false, lt-ltb, ltb-false, leb-true}
 use Rattle.integers.proofs.Integers.{fits-within}
 use Rattle.integers.proofs.words.Laws.{Bytes}
 use Rattle.integers.proofs.Tests.{nor, nand}
-use Rattle.bounds.specs.Bounds.{greatestExponent, greatestWeight, mostVariables, mostTerms}
-use Rattle.bounds.specs.Profiles.{InRange}
+use Rattle.bounds.specs.Bounds.{greatestExponent, greatestWeight, beyond, mostVariables, mostTerms}
+use Rattle.bounds.specs.Profiles.{InRange, inRange}
 use Rattle.bounds.specs.declared.profiles.Profile.{Profile}
 use Rattle.bounds.proofs.bounds.Laws.{within-bound, bound-within}
 use Rattle.bounds.proofs.profiles.Laws.{range-facts, facts-range}
 use Rattle.answers.specs.Answers.{says, Passes, Short}
+use Rattle.answers.specs.Searches.{first}
 use Rattle.answers.specs.declared.answers.Verdict.{Verdict}
 use Rattle.answers.specs.declared.answers.Verdict.the-variants.{Accepted}
-use Rattle.answers.proofs.answers.Laws.{passes-if, passes-at, if-on, at-on, passed, number-accepted, number-if, number-at, short-accepted, short-if, short-at}
+use Rattle.answers.specs.declared.searches.Found.the-variants.{Nothing}
+use Rattle.answers.proofs.answers.Laws.{passes-if, passes-at, if-on, at-on, accepted-passes, passed, number-accepted, number-if, number-at, short-accepted, short-if, short-at}
 use Rattle.answers.proofs.searches.Laws.{none-wrong, all-right}
 use Rattle.points.specs.Points.{samePoint, risesTo, exponentsWithin}
 use Rattle.points.proofs.points.Laws.{same-eq, rises-self, rises-trans, within-larger}
@@ -75,81 +77,100 @@ header-room c h sized =
     let f = counts-fact c (and-eq-true-iff _ _ .0 (a .0) .0) in
     (f .0, record { few = f .1; terms = f .2; long = omega arith })
 
--- 27
-pub profile-facts : (c : List ℕ) (π : Profile) → Passes (claimAnswer c π) → InRange π
-unfolding claimAnswer
-profile-facts c π h = range-facts π (not-false _ (passes-if _ 27 _ refl h .0))
+-- ---- a claim passes them exactly where it passes each
 
--- 6
-pub terms-within : (c : List ℕ) (π : Profile) → Passes (claimAnswer c π) → (i : ℕ) → i < termCount c
-    → exponentsWithin (π .exponent) (termPoint c (variables c) i) ≡ true
-unfolding claimAnswer termsAnswer
-terms-within c π h i l =
-    let p₁ = passes-if _ 27 _ refl h .1 in
-    let p₂ = passes-if _ 1 _ refl p₁ .1 in
-    let p₃ = passes-if _ 2 _ refl p₂ .1 in
-    let p₄ = passes-if _ 3 _ refl p₃ .1 in
-    let p₅ = passes-if _ 4 _ refl p₄ .1 in
-    let p₆ = passes-at _ 5 _ refl p₅ .1 in
-    exponents-fact c _ _ i (π .exponent) (none-wrong _ _ (passes-at _ 6 _ refl p₆ .0) i l)
+module _ (c : List ℕ) (π : Profile) where
+  abbrev Unbroken : TermRule → Type 0
+  Unbroken rule = first (termBreaks rule c (variables c) (termCount c)) (termCount c) ≡ Nothing
 
-pub claim-facts : (c : List ℕ) (π : Profile) → Passes (claimAnswer c π) → ClaimFacts c (variables c) (termCount c)
-unfolding claimAnswer termsAnswer
-claim-facts c π h =
-    let p₀ = passes-if _ 27 _ refl h in
-    let p₁ = passes-if _ 1 _ refl (p₀ .1) in
-    let p₂ = passes-if _ 2 _ refl (p₁ .1) in
-    let p₃ = passes-if _ 3 _ refl (p₂ .1) in
-    let p₄ = passes-if _ 4 _ refl (p₃ .1) in
-    let p₅ = passes-at _ 5 _ refl (p₄ .1) in
-    let p₆ = passes-at _ 6 _ refl (p₅ .1) in
-    let p₇ = passes-at _ 7 _ refl (p₆ .1) in
-    let sized = eqb-true _ _ (not-false _ (p₃ .0)) in
-    let counts = header-room c (not-false _ (p₂ .0)) sized in
-    record {
-      some = counts .0;
-      room = counts .1;
-      sized = sized;
-      floor-within = within-bound greatestWeight (floorOf c) (p₄ .0);
-      coefficient-within = λ i l. coefficient-fact c _ _ i (none-wrong _ _ (p₅ .0) i l);
-      exponents-within = λ i l.
-          within-larger (π .exponent) greatestExponent (profile-facts c π h .exponent-within) _
-          (terms-within c π h i l);
-      rising = λ i l. rising-fact c _ _ i (none-wrong _ _ (p₇ .0) (suc i) l);
-    }
+  record Parts : Type 0 where
+    ranged : not (inRange π) ≡ false
+    long : ltb (length c) 8 ≡ false
+    headed : not (claimHeaderRight c) ≡ false
+    sized : not (eqb (length c) (claimLength (variables c) (termCount c))) ≡ false
+    floored : beyond greatestWeight (floorOf c) ≡ false
+    coefficients : Unbroken (Coefficient greatestWeight)
+    exponents : Unbroken (Exponent (π .exponent))
+    order : Unbroken Order
 
--- ---- a claim that passes under a profile passes under every other in range whose exponent its terms keep
+  parts : Passes (claimAnswer c π) → Parts
+  unfolding claimAnswer termsAnswer
+  parts h =
+      let p₀ = passes-if _ 27 _ refl h in
+      let p₁ = passes-if _ 1 _ refl (p₀ .1) in
+      let p₂ = passes-if _ 2 _ refl (p₁ .1) in
+      let p₃ = passes-if _ 3 _ refl (p₂ .1) in
+      let p₄ = passes-if _ 4 _ refl (p₃ .1) in
+      let p₅ = passes-at _ 5 _ refl (p₄ .1) in
+      let p₆ = passes-at _ 6 _ refl (p₅ .1) in
+      let p₇ = passes-at _ 7 _ refl (p₆ .1) in
+      record {
+        ranged = p₀ .0;
+        long = p₁ .0;
+        headed = p₂ .0;
+        sized = p₃ .0;
+        floored = p₄ .0;
+        coefficients = p₅ .0;
+        exponents = p₆ .0;
+        order = p₇ .0;
+      }
 
-terms-under : (c : List ℕ) (π ρ : Profile) (n t : ℕ)
-    → ((i : ℕ) → i < t → exponentsWithin (ρ .exponent) (termPoint c n i) ≡ true) → Passes (termsAnswer c π n t)
-    → Passes (termsAnswer c ρ n t)
-unfolding termsAnswer
-terms-under c π ρ n t keep h =
-    let p₅ = passes-at _ 5 _ refl h in
-    let p₆ = passes-at _ 6 _ refl (p₅ .1) in
-    let none =
-    all-right (termBreaks (Exponent (ρ .exponent)) c n t) t (λ i m. exponents-break c n t i _ (keep i m)) in
-    rw (at-on _ 5 _ (p₅ .0), at-on _ 6 _ (sym none)) (p₆ .1)
+  parts-pass : Parts → Passes (claimAnswer c π)
+  unfolding claimAnswer termsAnswer
+  parts-pass p =
+      rw (
+        if-on _ 27 _ (p .ranged),
+        if-on _ 1 _ (p .long),
+        if-on _ 2 _ (p .headed),
+        if-on _ 3 _ (p .sized),
+        if-on _ 4 _ (p .floored),
+        at-on _ 5 _ (p .coefficients),
+        at-on _ 6 _ (p .exponents),
+        at-on _ 7 _ (p .order),
+      )
+      (accepted-passes _ 0 refl)
 
-pub claim-under : (c : List ℕ) (π ρ : Profile) → InRange ρ
-    → ((i : ℕ) → i < termCount c → exponentsWithin (ρ .exponent) (termPoint c (variables c) i) ≡ true)
-    → Passes (claimAnswer c π) → Passes (claimAnswer c ρ)
-unfolding claimAnswer
-claim-under c π ρ r keep h =
-    let p₀ = passes-if _ 27 _ refl h in
-    let p₁ = passes-if _ 1 _ refl (p₀ .1) in
-    let p₂ = passes-if _ 2 _ refl (p₁ .1) in
-    let p₃ = passes-if _ 3 _ refl (p₂ .1) in
-    let p₄ = passes-if _ 4 _ refl (p₃ .1) in
-    rw (
-      facts-range ρ r,
-      if-on _ 27 _ refl,
-      if-on _ 1 _ (p₁ .0),
-      if-on _ 2 _ (p₂ .0),
-      if-on _ 3 _ (p₃ .0),
-      if-on _ 4 _ (p₄ .0),
-    )
-    (terms-under c π ρ _ _ keep (p₄ .1))
+module _ (c : List ℕ) (π : Profile) (h : Passes (claimAnswer c π)) where
+  abbrev p : Parts c π
+  p = parts c π h
+
+  pub profile-facts : InRange π
+  profile-facts = range-facts π (not-false _ (p .ranged))
+
+  pub terms-within : (i : ℕ) → i < termCount c → exponentsWithin (π .exponent) (termPoint c (variables c) i) ≡ true
+  terms-within i l = exponents-fact c _ _ i (π .exponent) (none-wrong _ _ (p .exponents) i l)
+
+  pub claim-facts : ClaimFacts c (variables c) (termCount c)
+  claim-facts =
+      let sized = eqb-true _ _ (not-false _ (p .sized)) in
+      let counts = header-room c (not-false _ (p .headed)) sized in
+      record {
+        some = counts .0;
+        room = counts .1;
+        sized = sized;
+        floor-within = within-bound greatestWeight (floorOf c) (p .floored);
+        coefficient-within = λ i l. coefficient-fact c _ _ i (none-wrong _ _ (p .coefficients) i l);
+        exponents-within = λ i l.
+            within-larger (π .exponent) greatestExponent (profile-facts .exponent-within) _ (terms-within i l);
+        rising = λ i l. rising-fact c _ _ i (none-wrong _ _ (p .order) (suc i) l);
+      }
+
+  -- it passes under every other profile in range whose exponent its terms keep
+  pub claim-under : (ρ : Profile) → InRange ρ
+      → ((i : ℕ) → i < termCount c → exponentsWithin (ρ .exponent) (termPoint c (variables c) i) ≡ true)
+      → Passes (claimAnswer c ρ)
+  claim-under ρ r keep =
+      parts-pass c ρ
+      (record {
+        ranged = rw (facts-range ρ r);
+        long = p .long;
+        headed = p .headed;
+        sized = p .sized;
+        floored = p .floored;
+        coefficients = p .coefficients;
+        exponents = sym (all-right (termBreaks _ c _ _) _ (λ i l. exponents-break c _ _ i _ (keep i l)));
+        order = p .order;
+      })
 
 -- without a mask: "Bytes 2 and 3: zero"
 pub header-unmasked : (c : List ℕ) → maskOf c ≡ 0
@@ -166,10 +187,6 @@ module _ (c : List ℕ) (b : ℤ) where
   breaks-floored (Exponent limit) n t = fun-ext (λ i. rw (floored-point c b n i))
   breaks-floored Order n t = fun-ext (λ i. rw (floored-point c b n i, floored-point c b n (i - 1)))
 
-  terms-floored : (π : Profile) (n t : ℕ) → termsAnswer (withFloor c b) π n t ≡ termsAnswer c π n t
-  unfolding termsAnswer
-  terms-floored π n t = rw (breaks-floored _ n t, breaks-floored _ n t, breaks-floored _ n t)
-
   header-floored : claimHeaderRight (withFloor c b) ≡ claimHeaderRight c
   unfolding claimHeaderRight countsRight maskRight
   header-floored = rw (
@@ -181,28 +198,23 @@ module _ (c : List ℕ) (b : ℤ) where
 
   pub claim-floored : (π : Profile) → natAbs b ≤ greatestWeight → Passes (claimAnswer c π)
       → Passes (claimAnswer (withFloor c b) π)
-  unfolding claimAnswer
   claim-floored π w h =
-      let p₀ = passes-if _ 27 _ refl h in
-      let p₁ = passes-if _ 1 _ refl (p₀ .1) in
-      let p₂ = passes-if _ 2 _ refl (p₁ .1) in
-      let p₃ = passes-if _ 3 _ refl (p₂ .1) in
-      let p₄ = passes-if _ 4 _ refl (p₃ .1) in
-      let read = floored-floor c b (ltb-false _ _ (p₁ .0)) (fits-within b greatestWeight w (lit< tt)) in
-      rw (
-        floored-length c b,
-        header-floored,
-        floored-before c b 0 (omega arith),
-        floored-before c b 1 (omega arith),
-        read,
-        terms-floored,
-        if-on _ 27 _ (p₀ .0),
-        if-on _ 1 _ (p₁ .0),
-        if-on _ 2 _ (p₂ .0),
-        if-on _ 3 _ (p₃ .0),
-        if-on _ 4 _ (bound-within _ b w),
-      )
-      (p₄ .1)
+      let p = parts c π h in
+      let en = floored-before c b 0 (omega arith) in
+      let et = floored-before c b 1 (omega arith) in
+      parts-pass (withFloor c b) π
+      (record {
+        ranged = p .ranged;
+        long = rw (floored-length c b) (p .long);
+        headed = rw header-floored (p .headed);
+        sized = rw (floored-length c b, en, et) (p .sized);
+        floored =
+            rw (floored-floor c b (ltb-false _ _ (p .long)) (fits-within b greatestWeight w (lit< tt)))
+            (bound-within _ b w);
+        coefficients = rw (en, et, breaks-floored (Coefficient greatestWeight)) (p .coefficients);
+        exponents = rw (en, et, breaks-floored (Exponent (π .exponent))) (p .exponents);
+        order = rw (en, et, breaks-floored Order) (p .order);
+      })
 
 -- of a claim that a verdict accepts
 module _ (c : List ℕ) (π : Profile) (v : Verdict) (e : says v ≡ claimAnswer c π) (j : ℕ) (h : v ≡ Accepted j) where
