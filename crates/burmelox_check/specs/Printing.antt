@@ -7,7 +7,7 @@ use lib.IntN.{ℤ}
 use lib.ListN.{length, take, replicate}
 use lib.Signed.{_≤ℤ_}
 use Rattle.bounds.specs.Profiles.{fullProfile}
-use Rattle.answers.specs.Answers.{blameless, Passes}
+use Rattle.answers.specs.Answers.{Answer, blameless, Passes}
 use Rattle.monomials.specs.Powers.{Allowed}
 use Rattle.squares.specs.Sums.{valueAt}
 use Rattle.squares.specs.Floor.{AtMost}
@@ -43,17 +43,19 @@ acceptedLines c s =
     ended (acceptedLine (rowCount s) (scaleOf s) (floorOf c))
     ++ linesOf (λ i. tripleFor (weightsFor (plainTargets c s) s i)) (rowCount s)
 
+-- the verdict on a claim and its proof
+abbrev pub verdictOf : List ℕ → List ℕ → Answer
+verdictOf c s = plainAnswer c s fullProfile (length s)
+
 -- what tells an acceptance: the text's first word
 abbrev pub Accepts : List ℕ → Type 0
 Accepts text = take 8 text ≡ ascii "accepted"
 
 -- an acceptance has these lines, and "A refusal prints `refused 19 at 0`: number, index"
 pub record IsPrinted (c s text : List ℕ) : Type 0 where
-  pub acceptance : Passes (plainAnswer c s fullProfile (length s)) → text ≡ acceptedLines c s
-  pub refusal : blameless (plainAnswer c s fullProfile (length s)) ≡ false
-      → text
-      ≡ ended
-      (refusedLine (plainAnswer c s fullProfile (length s) .number) (plainAnswer c s fullProfile (length s) .value))
+  pub acceptance : Passes (verdictOf c s) → text ≡ acceptedLines c s
+  pub refusal : blameless (verdictOf c s) ≡ false
+      → text ≡ ended (refusedLine (verdictOf c s .number) (verdictOf c s .value))
   -- what the check promises, by the text's first word, with k and the shifted rows as its lines have them
   pub promises : CheckPromises c s (noLimits (variables c)) fullProfile (zeros (length s))
       (LongEnough s (zeros (length s))) (Accepts text) (rowCount s) (plainOutput c s fullProfile (zeros (length s)))

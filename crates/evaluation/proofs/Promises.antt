@@ -65,7 +65,7 @@ larger-passes c π ρ l x e =
     let keep : (i : ℕ) → i < termCount c → exponentsWithin (ρ .exponent) (termPoint c (variables c) i) ≡ true =
     λ i m. within-larger _ _ (l .exponent-larger) _ (terms-within c π (e .formed) i m) in
     passes c ρ x
-    (record { formed = claim-under c π ρ (l .in-range) keep (e .formed); counted = e .counted; small = e .small })
+    (record { formed = claim-under c π (e .formed) ρ (l .in-range) keep; counted = e .counted; small = e .small })
 
 -- ---- the promises, for whatever is to say that a value is given
 

@@ -28,7 +28,7 @@ use Rattle.text.specs.Lines.{refusedLine}
 use Rattle.report.specs.Reports.{ended, reportText}
 use Rattle.report.proofs.reports.Laws.{accepted-word, refused-word, accepted-lines, refused-lines}
 use Rattle.burmelox_check.specs.Input.{claimEnd, claimPart, proofPart}
-use Rattle.burmelox_check.specs.Printing.{zeros, sheetsText, programText, acceptedLines, IsPrinted, Accepts, PrintsLines}
+use Rattle.burmelox_check.specs.Printing.{zeros, sheetsText, programText, acceptedLines, verdictOf, Accepts, IsPrinted, PrintsLines}
 
 -- as many zeros as are taken of more
 take-zeros : (k most : ℕ) → k ≤ most → take k (zeros most) ≡ zeros k
@@ -103,8 +103,7 @@ module _ (c s : List ℕ) where
   answers : (room : ℕ) → checkAnswer c s ls fullProfile room ≡ plainAnswer c s fullProfile room
   answers = unlimited c s .answer
 
-  accepted-text : Passes (plainAnswer c s fullProfile (length s))
-      → sheetsText c s (zeros (length s)) ≡ acceptedLines c s
+  accepted-text : Passes (verdictOf c s) → sheetsText c s (zeros (length s)) ≡ acceptedLines c s
   unfolding sheetsText acceptedLines
   accepted-text h =
       let out = zeros (length s) in
@@ -120,23 +119,19 @@ module _ (c s : List ℕ) where
       (scale-left c s ls fullProfile out p)
       (weights-left c s ls fullProfile out p))
 
-  refused-text : blameless (plainAnswer c s fullProfile (length s)) ≡ false
-      → sheetsText c s (zeros (length s))
-      ≡ ended
-      (refusedLine (plainAnswer c s fullProfile (length s) .number) (plainAnswer c s fullProfile (length s) .value))
+  refused-text : blameless (verdictOf c s) ≡ false
+      → sheetsText c s (zeros (length s)) ≡ ended (refusedLine (verdictOf c s .number) (verdictOf c s .value))
   unfolding sheetsText
-  refused-text h =
-      rw as-long
-      (refused-lines c (plainOutput c s fullProfile (zeros (length s))) (plainAnswer c s fullProfile (length s)) h)
+  refused-text h = rw as-long (refused-lines c (plainOutput c s fullProfile (zeros (length s))) (verdictOf c s) h)
 
-  passed-begins : Passes (plainAnswer c s fullProfile (length s)) → Accepts (sheetsText c s (zeros (length s)))
+  passed-begins : Passes (verdictOf c s) → Accepts (sheetsText c s (zeros (length s)))
   unfolding acceptedLines
   passed-begins h = rw (accepted-text h) (accepted-word _ _ _ _)
 
   -- no refusal begins so
-  begins-passed : Accepts (sheetsText c s (zeros (length s))) → Passes (plainAnswer c s fullProfile (length s))
+  begins-passed : Accepts (sheetsText c s (zeros (length s))) → Passes (verdictOf c s)
   begins-passed h =
-      passes-or-fails (plainAnswer c s fullProfile (length s)) (λ q. q)
+      passes-or-fails (verdictOf c s) (λ q. q)
       (λ q.
       let w : _≡_ {A = ℕ} 97 114 =
       ap (λ (l : List ℕ). getD l 0 0) (sym h ∙ ap (take 8) (refused-text q) ∙ refused-word _ _) in
