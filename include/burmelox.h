@@ -33,13 +33,13 @@ extern "C" {
 #endif
 
 #define BURMELOX_VERSION_MAJOR 0
-#define BURMELOX_VERSION_MINOR 6
+#define BURMELOX_VERSION_MINOR 7
 #define BURMELOX_VERSION_PATCH 0
-#define BURMELOX_VERSION "0.6.0"
+#define BURMELOX_VERSION "0.7.0"
 
 /*
  * An answer is one number. It is under 65,536 where nothing is refused: the number of rows of an
- * accepted proof, 0 for a value. A refusal is sheet * 2^32 + number * 2^16 + index.
+ * accepted proof, 0 for a value, the length of a text. A refusal is sheet * 2^32 + number * 2^16 + index.
  */
 #define BURMELOX_ACCEPTED(answer) ((uint64_t)(answer) < 0x10000u)
 #define BURMELOX_SHEET(answer) ((unsigned)((uint64_t)(answer) >> 32))
@@ -55,7 +55,8 @@ enum burmelox_sheet {
     BURMELOX_RANGE = 5,
     BURMELOX_LIMITS = 6,
     BURMELOX_PAGE = 7,
-    BURMELOX_PROFILE = 8
+    BURMELOX_PROFILE = 8,
+    BURMELOX_BUFFER = 9
 };
 
 /*
@@ -91,7 +92,8 @@ enum burmelox_refusal {
     BURMELOX_LIMITS_LENGTH_WRONG = 24,  /* or n not the claim's */
     BURMELOX_LIMIT_WRONG = 25,          /* power, L or m; variable */
     BURMELOX_PAGE_LENGTH_WRONG = 26,    /* not 2,920 bytes */
-    BURMELOX_PROFILE_WRONG = 27         /* exponent, weight or rows out of range */
+    BURMELOX_PROFILE_WRONG = 27,        /* exponent, weight or rows out of range */
+    BURMELOX_BUFFER_TOO_SHORT = 30      /* shorter than the text */
 };
 
 /*
@@ -128,6 +130,12 @@ enum burmelox_refusal {
 #define BURMELOX_MOST_CLAIM BURMELOX_CLAIM_LENGTH(BURMELOX_MOST_VARIABLES, BURMELOX_MOST_TERMS)
 #define BURMELOX_MOST_PROOF BURMELOX_PROOF_LENGTH(BURMELOX_MOST_VARIABLES, BURMELOX_MOST_ROWS)
 #define BURMELOX_MOST_LIMITS BURMELOX_LIMITS_LENGTH(BURMELOX_MOST_VARIABLES)
+
+/* A buffer of this length has room for every text of its kind. */
+#define BURMELOX_MOST_CLAIM_TEXT 4781
+#define BURMELOX_MOST_PROOF_TEXT 31520
+#define BURMELOX_MOST_LIMITS_TEXT 395
+#define BURMELOX_MOST_PROFILE_TEXT 48
 
 /*
  * A profile: the greatest exponent of the claim's points and of the rows' (0 to 120), the greatest
@@ -205,6 +213,24 @@ uint64_t burmelox_search(const uint8_t *claim, size_t claim_len,
                          int64_t lo, int64_t hi,
                          uint8_t *output, size_t output_len,
                          int64_t *floor, uint32_t *tried);
+
+/*
+ * The text of a claim, of a proof, of a limits sheet and of a profile, one fact a line, as
+ * docs/FORMAT.md has it. The text determines the sheet: no other bytes have the same. The answer is
+ * the number of characters, which stand at the start of the buffer; no zero ends them, and later
+ * bytes keep their values. What does not pass its own checks, under the full profile, is refused by
+ * their numbers (a claim by 1 to 7, a proof by 8 to 10 and 12 to 15, limits by 24 and 25, a profile
+ * by 27; a proof or limits without 1 to 8 variables by 9 or 24), and a buffer that is shorter than
+ * the text by 30; a refusal writes nothing.
+ */
+uint64_t burmelox_claim_text(const uint8_t *claim, size_t claim_len,
+                             uint8_t *text, size_t text_len);
+uint64_t burmelox_proof_text(const uint8_t *proof, size_t proof_len,
+                             uint8_t *text, size_t text_len);
+uint64_t burmelox_limits_text(const uint8_t *limits, size_t limits_len,
+                              uint8_t *text, size_t text_len);
+uint64_t burmelox_profile_text(struct burmelox_profile profile,
+                               uint8_t *text, size_t text_len);
 
 #ifdef __cplusplus
 }

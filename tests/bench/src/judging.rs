@@ -23,7 +23,7 @@ pub trait Method {
 
 /// The library's check, under the full profile.
 pub fn by_library(given: &Given, output: &mut Vec<u8>) -> u64 {
-    library::check(&given.claim, &given.proof, &given.limits, Profile::FULL, output)
+    burmelox::check(&given.claim, &given.proof, &given.limits, Profile::FULL, output)
 }
 
 /// The check: answers the number of rows, or a refusal.

@@ -98,7 +98,7 @@ fn page_times(claim: &Claim, proof: &Proof, limits: &Limits) -> [Times; 2] {
     let mut stored = (vec![0; given.proof.len()], vec![0; PAGE_LENGTH]);
     let checks: [PageCheck; 2] = [
         |Given { claim, proof, limits }, (output, page)| {
-            library::check_page(claim, proof, limits, Profile::FULL, output, page)
+            burmelox::check_page(claim, proof, limits, Profile::FULL, output, page)
         },
         |given, (output, _)| judging::by_library(given, output),
     ];
@@ -163,7 +163,7 @@ fn print_evaluation(name: &str, exponent: fn(u8, u8) -> u8, offsets: [i32; 8]) {
 /// The times of the library and of the same method, which store the value.
 fn evaluation_times(claim: &[u8], offsets: &[i32]) -> [Times; 2] {
     let evaluations: [Evaluate; 2] = [
-        |(claim, offsets), value| library::evaluate(claim, Profile::FULL, offsets, value),
+        |(claim, offsets), value| burmelox::evaluate(claim, Profile::FULL, offsets, value),
         |(claim, offsets), value| evaluation::evaluate(claim, offsets, value),
     ];
     times(evaluations, &(claim, offsets), 0, 0)

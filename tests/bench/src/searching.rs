@@ -27,7 +27,7 @@ pub struct Found {
 pub fn by_library(search: &Search, found: &mut Found) -> u64 {
     let Search { sheets: Given { claim, proof, limits }, lo, hi } = search;
     let Found { output, floor, tried } = found;
-    library::search(claim, proof, limits, Profile::FULL, *lo, *hi, output, floor, tried)
+    burmelox::search(claim, proof, limits, Profile::FULL, *lo, *hi, output, floor, tried)
 }
 
 /// The library's method in Rust with i64.
@@ -70,7 +70,7 @@ pub fn by_checks(search: &Search, found: &mut Found) -> u64 {
     let mut claim = claim.clone();
     for floor in (search.lo..=search.hi).rev() {
         claim[4..8].copy_from_slice(&(floor as i32).to_le_bytes());
-        let answer = library::check(&claim, proof, limits, Profile::FULL, &mut found.output);
+        let answer = burmelox::check(&claim, proof, limits, Profile::FULL, &mut found.output);
         if answer < 1 << 16 {
             (found.floor, found.tried) = (floor, (search.hi - floor + 1) as u32);
             return answer;

@@ -60,7 +60,7 @@ pub fn check(case: &Case, rng: &mut Rng) -> Compared<Accepted> {
     let Case { claim, proof, limits, profile, room, .. } = case;
     let verdict = oracle::check(claim, proof, limits, *profile, *room);
     let mut output = Buffer::new(rng, *room);
-    let answer = library::check(claim, proof, limits, *profile, output.lent());
+    let answer = burmelox::check(claim, proof, limits, *profile, output.lent());
 
     same("check", &code(verdict.as_ref(), rows), &answer, case)?;
     output.compare("output", exact(verdict.as_ref()), case)?;
@@ -77,7 +77,7 @@ pub fn check_page(case: &Case, rng: &mut Rng) -> Result<Paged, String> {
     let paged = oracle::check_page(claim, proof, limits, *profile, *room, *page);
     let (mut output, mut page) = (Buffer::new(rng, *room), Buffer::new(rng, *page));
     let mut alone = output.clone();
-    let answer = library::check_page(claim, proof, limits, *profile, output.lent(), page.lent());
+    let answer = burmelox::check_page(claim, proof, limits, *profile, output.lent(), page.lent());
 
     let verdict = paged.verdict.as_ref();
     let written = paged.page.as_deref().unwrap_or_default();
@@ -85,7 +85,7 @@ pub fn check_page(case: &Case, rng: &mut Rng) -> Result<Paged, String> {
     page.compare("page", written.as_bytes(), case)?;
     output.compare("output beside the page", exact(verdict), case)?;
     if paged.page.is_some() {
-        let without = library::check(claim, proof, limits, *profile, alone.lent());
+        let without = burmelox::check(claim, proof, limits, *profile, alone.lent());
         same("check without a page", &answer, &without, case)?;
         alone.compare("output without a page", exact(verdict), case)?;
     }
@@ -103,7 +103,7 @@ pub fn search(case: &Case, rng: &mut Rng) -> Compared<Found> {
     let before = (floor, tried);
     let lent = output.lent();
     let answer =
-        library::search(claim, proof, limits, profile, lo, hi, lent, &mut floor, &mut tried);
+        burmelox::search(claim, proof, limits, profile, lo, hi, lent, &mut floor, &mut tried);
 
     let verdict = found.as_ref().map(|found| &found.accepted);
     let stored = found.as_ref().map(|found| (found.accepted.floor.into(), found.tried));
@@ -123,7 +123,7 @@ fn is_checked(case: &Case, accepted: &Accepted) -> Outcome {
     let mut claim = case.claim.clone();
     claim[4..8].copy_from_slice(&accepted.floor.to_le_bytes());
     let mut output = vec![0; case.proof.len()];
-    let answer = library::check(&claim, &case.proof, &case.limits, case.profile, &mut output);
+    let answer = burmelox::check(&claim, &case.proof, &case.limits, case.profile, &mut output);
     same("check of the floor that was found", &rows(accepted), &answer, case)?;
     same("output of that check", &Hex(&accepted.bytes), &Hex(&output), case)
 }
@@ -131,7 +131,7 @@ fn is_checked(case: &Case, accepted: &Accepted) -> Outcome {
 /// An exact proof, whose weights add up, is accepted again and written as it is.
 fn keeps_exact(case: &Case, exact: &[u8]) -> Outcome {
     let mut output = vec![0; exact.len()];
-    let answer = library::check(&case.claim, exact, &case.limits, case.profile, &mut output);
+    let answer = burmelox::check(&case.claim, exact, &case.limits, case.profile, &mut output);
     same("acceptance of the exact proof", &true, &(answer < 1 << 16), case)?;
     same("output for the exact proof", &Hex(exact), &Hex(&output), case)
 }
@@ -142,7 +142,7 @@ fn evaluate(case: &Case, rng: &mut Rng) -> Compared<Integer> {
     let exact = oracle::evaluate(claim, *profile, offsets);
     let mut value = rng.bits() as i64;
     let before = Integer::from(value);
-    let answer = library::evaluate(claim, *profile, offsets, &mut value);
+    let answer = burmelox::evaluate(claim, *profile, offsets, &mut value);
 
     same("evaluation", &code(exact.as_ref(), |_| 0), &answer, case)?;
     same("value", exact.as_ref().unwrap_or(&before), &Integer::from(value), case)?;

@@ -169,7 +169,7 @@ fn is_under_its_floor(example: &Example, case: &Case, offset: i32, value: i64) -
 /// The value that the library gives.
 fn value(claim: &[u8], offsets: &[i32]) -> Result<i64, String> {
     let mut value = 0;
-    match library::evaluate(claim, Profile::FULL, offsets, &mut value) {
+    match burmelox::evaluate(claim, Profile::FULL, offsets, &mut value) {
         0 => Ok(value),
         answer => Err(format!("the answer is {answer} at {offsets:?}")),
     }

@@ -64,21 +64,21 @@ fn is_refused(answer: u64) -> bool {
 fn check(case: &Case) -> (u64, Vec<u8>) {
     let Case { claim, proof, limits, profile, room, .. } = case;
     let mut output = vec![0; *room];
-    (library::check(claim, proof, limits, *profile, &mut output), output)
+    (burmelox::check(claim, proof, limits, *profile, &mut output), output)
 }
 
 /// The answer to a check with a page, the output and the page.
 fn check_page(case: &Case) -> (u64, [Vec<u8>; 2]) {
     let Case { claim, proof, limits, profile, room, page, .. } = case;
     let (mut output, mut page) = (vec![0; *room], vec![0; *page]);
-    let answer = library::check_page(claim, proof, limits, *profile, &mut output, &mut page);
+    let answer = burmelox::check_page(claim, proof, limits, *profile, &mut output, &mut page);
     (answer, [output, page])
 }
 
 /// The answer to an evaluation, and the value.
 fn evaluate(case: &Case) -> (u64, i64) {
     let mut value = 0;
-    (library::evaluate(&case.claim, case.profile, &case.offsets, &mut value), value)
+    (burmelox::evaluate(&case.claim, case.profile, &case.offsets, &mut value), value)
 }
 
 /// The answer to a search, the floor, the number of floors tried and the output.
@@ -87,6 +87,6 @@ fn search(case: &Case) -> (u64, (i64, u32, Vec<u8>)) {
     let (mut output, mut floor, mut tried) = (vec![0; *room], 0, 0);
     let (profile, lo, hi, lent) = (*profile, *lo, *hi, &mut output);
     let answer =
-        library::search(claim, proof, limits, profile, lo, hi, lent, &mut floor, &mut tried);
+        burmelox::search(claim, proof, limits, profile, lo, hi, lent, &mut floor, &mut tried);
     (answer, (floor, tried, output))
 }

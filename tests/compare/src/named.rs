@@ -180,7 +180,7 @@ fn comes_to_its_outcome(search: &Search) -> Outcome {
 
 fn reaches_2_to_56() -> Outcome {
     let mut value = 0;
-    let answer = library::evaluate(&power_claim(56).bytes(), Profile::FULL, &[2], &mut value);
+    let answer = burmelox::evaluate(&power_claim(56).bytes(), Profile::FULL, &[2], &mut value);
     equal("the answer and the value", &(0, 1 << 56), &(answer, value))
 }
 
@@ -212,7 +212,7 @@ fn runs_in_c(name: &str, text: &str) -> Outcome {
     let mut compiler = Command::new("cc");
     compiler.args(["-std=c99", "-pedantic", "-Wall", "-Wextra", "-Werror"]);
     compiler.arg("-I").arg(files::path("include"));
-    compiler.arg(files::path(&format!("tests/c/{name}.c"))).arg(library::ARCHIVE);
+    compiler.arg(files::path(&format!("tests/c/{name}.c"))).arg(burmelox::ARCHIVE);
     let compiled = compiler.arg("-o").arg(&binary).status();
     let compiled = compiled.map_err(|error| format!("cc: {error}"))?;
     equal("cc ends well", &true, &compiled.success())?;

@@ -56,6 +56,29 @@ extern "C" {
         floor: *mut i64,
         tried: *mut u32,
     ) -> u64;
+
+    fn burmelox_claim_text(
+        claim: *const u8,
+        claim_len: usize,
+        text: *mut u8,
+        text_len: usize,
+    ) -> u64;
+
+    fn burmelox_proof_text(
+        proof: *const u8,
+        proof_len: usize,
+        text: *mut u8,
+        text_len: usize,
+    ) -> u64;
+
+    fn burmelox_limits_text(
+        limits: *const u8,
+        limits_len: usize,
+        text: *mut u8,
+        text_len: usize,
+    ) -> u64;
+
+    fn burmelox_profile_text(profile: Profile, text: *mut u8, text_len: usize) -> u64;
 }
 
 /// Checks a proof of a claim within limits, under a profile. Answers the number of rows where it is
@@ -161,4 +184,29 @@ pub fn search(
             tried,
         )
     }
+}
+
+/// Writes the text of a claim that passes 1 to 7. Answers its length, else a refusal as the check
+/// does, or by 30 where the buffer is shorter than the text; nothing is written then.
+pub fn claim_text(claim: &[u8], text: &mut [u8]) -> u64 {
+    // SAFETY: each pointer comes with the length of its slice.
+    unsafe { burmelox_claim_text(claim.as_ptr(), claim.len(), text.as_mut_ptr(), text.len()) }
+}
+
+/// The same of a proof that passes 8 to 10 and 12 to 15 beside a claim of as many variables.
+pub fn proof_text(proof: &[u8], text: &mut [u8]) -> u64 {
+    // SAFETY: each pointer comes with the length of its slice.
+    unsafe { burmelox_proof_text(proof.as_ptr(), proof.len(), text.as_mut_ptr(), text.len()) }
+}
+
+/// The same of a limits sheet that passes 24 and 25 beside a claim of as many variables.
+pub fn limits_text(limits: &[u8], text: &mut [u8]) -> u64 {
+    // SAFETY: each pointer comes with the length of its slice.
+    unsafe { burmelox_limits_text(limits.as_ptr(), limits.len(), text.as_mut_ptr(), text.len()) }
+}
+
+/// The same of a profile that passes 27.
+pub fn profile_text(profile: Profile, text: &mut [u8]) -> u64 {
+    // SAFETY: the pointer comes with the length of its slice.
+    unsafe { burmelox_profile_text(profile, text.as_mut_ptr(), text.len()) }
 }

@@ -6,7 +6,7 @@ use std::path::PathBuf;
 fn main() {
     println!("cargo:rerun-if-env-changed=BURMELOX_LIB_DIR");
     let folder = env::var("BURMELOX_LIB_DIR").map_or_else(
-        |_| PathBuf::from(env!("CARGO_MANIFEST_DIR")).join("../../target/staticlib"),
+        |_| PathBuf::from(env!("CARGO_MANIFEST_DIR")).join("../target/staticlib"),
         PathBuf::from,
     );
     let archive = folder.join("libburmelox.a");
