@@ -27,7 +27,7 @@ const SHEET_UNIT: u64 = 4294967296;
 const NUMBER_UNIT: u64 = 65536;
 
 // k for an acceptance, sheet × 2^32 + number × 2^16 + index for a refusal.
-fn code(verdict: Verdict) -> u64
+pub(crate) fn code(verdict: Verdict) -> u64
     requires { ⌜ Short 65536 (says verdict) ⌝ }
     ensures { λ r. ⌜ r ≡ codeOf (says verdict) ⌝ }
 {

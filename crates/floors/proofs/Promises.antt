@@ -11,7 +11,7 @@ use lib.ListN.{length}
 use lib.Signed.{ltZ, _≤ℤ_, _<ℤ_}
 use Rattle.integers.proofs.Integers.{ring, ints, by-eq, read-eq, abs-difference, fits-within, ltZ-false, ltZ-true}
 use Rattle.integers.proofs.Tests.{never}
-use Rattle.integers.proofs.words.Laws.{Bytes}
+use Rattle.integers.specs.Words.{Bytes}
 use Rattle.bounds.specs.Bounds.{greatestWeight}
 use Rattle.bounds.specs.Profiles.{Larger}
 use Rattle.bounds.specs.declared.profiles.Profile.{Profile}

@@ -5,8 +5,12 @@ use Prim.Native.Nat.{ℕ, _+_, _*_, _/_, _%_}
 use lib.IntN.{ℤ}
 use lib.ListN.{getD}
 use lib.Seq.{sets}
-use mir.Syntax.{w32}
-use mir.Val.{toZ, ofZ}
+use mir.Syntax.{w8, w32}
+use mir.Val.{Fits, toZ, ofZ}
+
+-- every element is a byte, as owning a slice of them tells
+abbrev pub Bytes : List ℕ → Type 0
+Bytes s = (i : ℕ) → Fits w8 (getD s i 0)
 
 -- the number of the two bytes from a place on, the lowest first
 abbrev pub u16At : List ℕ → ℕ → ℕ

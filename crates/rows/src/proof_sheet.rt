@@ -69,7 +69,7 @@ pub fn scale(proof: &[u8]) -> u64
 }
 
 // Where the points of row i begin.
-fn row_place(shape: Shape, i: usize) -> usize
+pub fn row_place(shape: Shape, i: usize) -> usize
     requires { ⌜ (shape .n ≤ mostVariables) × (shape .k ≤ mostRows) × (i < shape .k) ⌝ }
     ensures { λ r. ⌜ (r ≡ vAt shape i) × (r ≤ 4088) ⌝ }
 {

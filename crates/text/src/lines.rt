@@ -33,7 +33,7 @@ fn later_text(q: i64, r: i64, out: &mut [u8], at: usize) -> usize
 }
 
 // A row's three weights.
-fn weights_text(x: Triple, out: &mut [u8], at: usize) -> usize
+pub fn weights_text(x: Triple, out: &mut [u8], at: usize) -> usize
     requires { ⌜ Room (now out) at (weightsText x) ⌝ }
     ensures { λ r. ⌜ Written (now (out .entry)) at (weightsText x) (now (out .exit)) r ⌝ }
 {

@@ -7,7 +7,7 @@ use Prim.Native.Nat.{ℕ, _+_, _*_, _<_, _^_}
 use native.Mathlib.Omega.{arith}
 use lib.IntN.{ℤ}
 use lib.ListN.{length}
-use Rattle.integers.proofs.words.Laws.{Bytes}
+use Rattle.integers.specs.Words.{Bytes}
 use Rattle.bounds.specs.declared.profiles.Profile.{Profile}
 use Rattle.answers.specs.Answers.{Answer, sheetNumber, accepted, refused, says, Passes, Short}
 use Rattle.answers.specs.declared.answers.Sheet.{Sheet}
@@ -54,7 +54,7 @@ module _ (v : Verdict) (x m : ℕ) (ex : x ≡ sheetNumber (says v .blamed)) (em
 -- ---- the macros read back what was put in: r is the code of an answer
 
 module _ (a : Answer) (r : ℕ) (e : r ≡ codeOf a) where
-  accepted-code : (k : ℕ) → a ≡ accepted k → r ≡ k
+  pub accepted-code : (k : ℕ) → a ≡ accepted k → r ≡ k
   unfolding codeOf
   accepted-code k q =
       let n = accepted-numbers a k q in
@@ -66,7 +66,7 @@ module _ (a : Answer) (r : ℕ) (e : r ≡ codeOf a) where
 
   -- k is what an acceptance carries
   module _ (short : Short 65536 a) (k : ℕ) (carried : Passes a → a ≡ accepted k) where
-    coded : Coded a r
+    pub coded : Coded a r
     unfolding codeOf sheetIn numberIn indexIn
     coded = record {
       accepted = (

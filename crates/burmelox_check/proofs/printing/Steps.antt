@@ -6,7 +6,7 @@ use Prim.Native.Nat.{ℕ, zero, suc, _+_, _-_, _*_, _<_, _≤_}
 use native.Mathlib.Omega.{arith}
 use lib.ListN.{length, getD, set, take, drop, replicate, length-drop, length-replicate}
 use lib.Seq.{take-all, getD-drop}
-use Rattle.integers.proofs.words.Laws.{Bytes}
+use Rattle.integers.specs.Words.{Bytes}
 use Rattle.bounds.specs.Profiles.{fullProfile}
 use Rattle.answers.specs.Answers.{says, blameless, Passes}
 use Rattle.answers.specs.declared.answers.Verdict.{Verdict}

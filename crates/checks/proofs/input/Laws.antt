@@ -6,7 +6,7 @@ use native.Mathlib.Omega.{arith}
 use lib.IntN.{ℤ, natAbs}
 use lib.ListN.{length}
 use borrow.Author.Tests.{le-ltb, ltb-false}
-use Rattle.integers.proofs.words.Laws.{Bytes}
+use Rattle.integers.specs.Words.{Bytes}
 use Rattle.bounds.specs.Bounds.{greatestWeight}
 use Rattle.bounds.specs.Profiles.{InRange, Larger}
 use Rattle.bounds.specs.declared.profiles.Profile.{Profile}

@@ -10,7 +10,7 @@ use lib.IntN.{pos}
 use lib.ListN.{length, getD}
 use borrow.Author.Tests.{leb-true, le-leb, eqb-true, not-false}
 use Rattle.integers.proofs.Integers.{abs-zero}
-use Rattle.integers.proofs.words.Laws.{Bytes}
+use Rattle.integers.specs.Words.{Bytes}
 use Rattle.integers.proofs.Tests.{nor, nand}
 use Rattle.bounds.specs.Bounds.{mostVariables, mostRows, greatestExponent}
 use Rattle.bounds.specs.Profiles.{InRange}
@@ -96,6 +96,15 @@ module _ (s : List ℕ) (sh : Shape) (i : ℕ) where
   weights-break : (limit : ℕ) → Within limit (tripleOf s sh i) → rowBreaks (Weight limit) s sh i ≡ false
   unfolding rowBreaks
   weights-break limit w = within-none limit _ w
+
+-- byte 1
+pub unused-zero : (limit n : ℕ) (s : List ℕ) → Passes (headerAnswer limit n s) → getD s 1 0 ≡ 0
+unfolding headerAnswer proofHeaderRight
+unused-zero limit n s h =
+    let p = passes-if _ 9 _ refl (passes-if _ 8 _ refl h .1) in
+    let d = and-eq-true-iff _ _ .0 (not-false _ (p .0)) in
+    let f = and-eq-true-iff _ _ .0 (and-eq-true-iff _ _ .0 (d .0) .0) in
+    eqb-true (getD s 1 0) 0 (and-eq-true-iff (eqb (variables s) n) _ .0 (f .0) .1)
 
 -- 8 to 10, beside a claim of n variables
 pub header-facts : (limit n : ℕ) (s : List ℕ) → limit ≤ mostRows → 1 ≤ n → n ≤ mostVariables

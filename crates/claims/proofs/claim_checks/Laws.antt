@@ -12,7 +12,7 @@ use lib.IntN.{ℤ, natAbs}
 use lib.ListN.{length, getD}
 use borrow.Author.Tests.{eqb-true, not-false, lt-ltb, ltb-false, leb-true}
 use Rattle.integers.proofs.Integers.{fits-within}
-use Rattle.integers.proofs.words.Laws.{Bytes}
+use Rattle.integers.specs.Words.{Bytes}
 use Rattle.integers.proofs.Tests.{nor, nand}
 use Rattle.bounds.specs.Bounds.{greatestExponent, greatestWeight, beyond, mostVariables, mostTerms}
 use Rattle.bounds.specs.Profiles.{InRange, inRange}
@@ -139,6 +139,13 @@ module _ (c : List ℕ) (π : Profile) (h : Passes (claimAnswer c π)) where
 
   pub terms-within : (i : ℕ) → i < termCount c → exponentsWithin (π .exponent) (termPoint c (variables c) i) ≡ true
   terms-within i l = exponents-fact c _ _ i (π .exponent) (none-wrong _ _ (p .exponents) i l)
+
+  -- byte 3
+  pub unused-zero : getD c 3 0 ≡ 0
+  unfolding claimHeaderRight
+  unused-zero =
+      let headed = not-false (claimHeaderRight c) (p .headed) in
+      eqb-true (getD c 3 0) 0 (and-eq-true-iff (countsRight c && maskRight c) _ .0 headed .1)
 
   pub claim-facts : ClaimFacts c (variables c) (termCount c)
   claim-facts =

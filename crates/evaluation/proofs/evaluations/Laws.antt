@@ -7,7 +7,7 @@ use native.Mathlib.Omega.{arith}
 use lib.Dec.{eqb}
 use lib.IntN.{ℤ}
 use lib.ListN.{length}
-use Rattle.integers.proofs.words.Laws.{Bytes}
+use Rattle.integers.specs.Words.{Bytes}
 use Rattle.integers.proofs.Tests.{never}
 use Rattle.bounds.specs.declared.profiles.Profile.{Profile}
 use Rattle.answers.specs.Answers.{Answer, accepted, says, blameless, Passes, Short}

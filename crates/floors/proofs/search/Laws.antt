@@ -9,7 +9,7 @@ use lib.ListN.{length}
 use lib.Signed.{_≤ℤ_}
 use Rattle.integers.proofs.Integers.{ring, ints, by-le, read-eq, ltZ-false, le-ltZ, abs-difference, abs-between}
 use Rattle.integers.proofs.Tests.{nor}
-use Rattle.integers.proofs.words.Laws.{Bytes}
+use Rattle.integers.specs.Words.{Bytes}
 use Rattle.bounds.specs.Bounds.{greatestWeight, greatestSpan}
 use Rattle.bounds.specs.declared.profiles.Profile.{Profile}
 use Rattle.bounds.proofs.bounds.Laws.{within-bound, bound-within}

@@ -13,7 +13,7 @@ use mir.Syntax.{w32, w64}
 use mir.Val.{Fits, SFits, toZ}
 use mir.Facts.{toZ-ofZ, toZ-pos}
 use Rattle.integers.proofs.Integers.{back, ltZ-false, abs-sub, difference-nonneg, fits-within}
-use Rattle.integers.proofs.words.Laws.{Bytes}
+use Rattle.integers.specs.Words.{Bytes}
 use Rattle.bounds.specs.Bounds.{greatestWeight, greatestSpan, beyond}
 use Rattle.bounds.specs.declared.profiles.Profile.{Profile}
 use Rattle.bounds.proofs.bounds.Laws.{within-bound, over-nonneg}

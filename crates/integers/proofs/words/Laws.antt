@@ -8,14 +8,10 @@ use native.Mathlib.Omega.{arith}
 use lib.IntN.{ℤ}
 use lib.ListN.{length, getD, set, length-set}
 use lib.Seq.{sets, length-sets, set-append-left, getD-set-same, getD-set-other, set-getD}
-use mir.Syntax.{w8, w32}
-use mir.Val.{Fits, SFits, toZ, ofZ}
+use mir.Syntax.{w32}
+use mir.Val.{SFits, toZ, ofZ}
 use mir.Facts.{toZ-ofZ, ofZ-toZ, sfits-toZ, fits-ofZ}
-use Rattle.integers.specs.Words.{u32At, i32At, bytesOf, withBits, withI32}
-
--- every element is a byte, as owning a slice of them tells
-abbrev pub Bytes : List ℕ → Type 0
-Bytes s = (i : ℕ) → Fits w8 (getD s i 0)
+use Rattle.integers.specs.Words.{Bytes, u32At, i32At, bytesOf, withBits, withI32}
 
 -- a word is its bytes, the lowest first
 pub u32-bytes : (s : List ℕ) (at : ℕ)

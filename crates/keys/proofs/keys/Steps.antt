@@ -12,8 +12,8 @@ use lib.Seq.{drop-cons, getD-take}
 use lib.Pow.{pow-pos, pow-mono, ones-split, ones-lt}
 use mir.Syntax.{w64}
 use mir.Val.{Fits}
-use Rattle.integers.specs.Words.{u32At}
-use Rattle.integers.proofs.words.Laws.{Bytes, u32-bytes}
+use Rattle.integers.specs.Words.{Bytes, u32At}
+use Rattle.integers.proofs.words.Laws.{u32-bytes}
 use Rattle.bounds.specs.Bounds.{mostVariables}
 use Rattle.points.specs.Points.{Exponents, exponents, bytesAt}
 use Rattle.points.specs.declared.points.Point.{Point}

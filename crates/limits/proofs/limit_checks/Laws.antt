@@ -106,6 +106,10 @@ pub limits-room : (n : ℕ) (l : List ℕ) → n ≤ mostVariables → Passes (l
 unfolding limitsAnswer
 limits-room n l few h = shaped-room n l (not-false _ (passes-if _ 24 _ refl h .0)) few
 
+pub limits-sized : (n : ℕ) (l : List ℕ) → Passes (limitsAnswer n l) → length l ≡ limitsLength n
+unfolding limitsAnswer limitsShaped
+limits-sized n l h = eqb-true _ _ (and-eq-true-iff _ _ .0 (not-false _ (passes-if _ 24 _ refl h .0)) .0)
+
 pub limits-right : (n : ℕ) (l : List ℕ) → Passes (limitsAnswer n l) → RightLimits (limitsOf l n)
 unfolding limitsAnswer limitBreaks
 limits-right n l h = record { right = λ i. go i (decLt i n) }

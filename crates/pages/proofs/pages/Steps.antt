@@ -10,7 +10,7 @@ use borrow.Author.Tests.{lt-ltb, le-ltb}
 use mir.Facts.{toZ-pos}
 use mir.Syntax.{w32, w64}
 use mir.Val.{SFits, toZ}
-use Rattle.integers.proofs.words.Laws.{Bytes}
+use Rattle.integers.specs.Words.{Bytes}
 use Rattle.answers.specs.Answers.{Answer}
 use Rattle.sheets.specs.Layout.{ProofRoom}
 use Rattle.sheets.specs.declared.layout.Shape.{Shape}

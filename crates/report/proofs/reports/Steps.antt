@@ -10,7 +10,7 @@ use lib.ListN.{length, length-append}
 use borrow.Author.Tests.{le-leb, lt-leb, leb-true}
 use mir.Syntax.{w32, w64}
 use mir.Val.{Fits}
-use Rattle.integers.proofs.words.Laws.{Bytes}
+use Rattle.integers.specs.Words.{Bytes}
 use Rattle.bounds.specs.Bounds.{mostVariables, mostRows}
 use Rattle.answers.specs.Answers.{Answer, says, Passes}
 use Rattle.answers.specs.declared.answers.Sheet.{Sheet}

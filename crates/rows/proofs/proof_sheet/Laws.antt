@@ -7,8 +7,8 @@ use native.Mathlib.Nat.{mul-le-mul-right}
 use native.Mathlib.Omega.{arith}
 use lib.IntN.{ℤ, pos}
 use lib.ListN.{length, getD}
-use Rattle.integers.specs.Words.{i32At}
-use Rattle.integers.proofs.words.Laws.{Bytes, same-bits, u32-bound, i32-fits}
+use Rattle.integers.specs.Words.{Bytes, i32At}
+use Rattle.integers.proofs.words.Laws.{same-bits, u32-bound, i32-fits}
 use Rattle.integers.proofs.Tests.{never}
 use Rattle.points.specs.Lists.{table}
 use Rattle.points.specs.Points.{pointOf, samePoint, hasMidpoint}

@@ -7,7 +7,8 @@ use lib.IntN.{ℤ}
 use lib.ListN.{length, getD}
 use mir.Syntax.{w32}
 use mir.Val.{SFits}
-use Rattle.integers.proofs.words.Laws.{Bytes, i32-fits, written-length, written-before, written-after, read-written, read-after}
+use Rattle.integers.specs.Words.{Bytes}
+use Rattle.integers.proofs.words.Laws.{i32-fits, written-length, written-before, written-after, read-written, read-after}
 use Rattle.points.specs.Lists.{table}
 use Rattle.points.proofs.Lists.{all-table, table-same}
 use Rattle.points.proofs.points.Laws.{bytes-length, bytes-same}

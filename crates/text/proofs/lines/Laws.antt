@@ -24,11 +24,11 @@ refused-begins number index rest = refl
 
 -- ---- how long they are, with numbers of 32 bits
 
-counted-short : (label : List ℕ) (k n : ℕ) → n < 10 ^ suc k → length (counted label n) ≤ length label + suc k
+pub counted-short : (label : List ℕ) (k n : ℕ) → n < 10 ^ suc k → length (counted label n) ≤ length label + suc k
 unfolding counted
 counted-short label k n h = rw (length-append label (natural n)) (omega (arith, natural-short k n h))
 
-word-short : (label : List ℕ) (z : ℤ) → SFits w32 z → length (numbered label z) ≤ length label + 11
+pub word-short : (label : List ℕ) (z : ℤ) → SFits w32 z → length (numbered label z) ≤ length label + 11
 unfolding numbered
 word-short label z f = rw (length-append label (integer z)) (omega (ints, integer-short 9 z (omega (ints, sizes z))))
 

@@ -8,7 +8,7 @@ use lib.Dec.{lit<}
 use lib.IntN.{ℤ}
 use lib.ListN.{length, getD, length-append, List·getD-append}
 use Rattle.integers.proofs.Integers.{fits-within}
-use Rattle.integers.proofs.words.Laws.{Bytes}
+use Rattle.integers.specs.Words.{Bytes}
 use Rattle.bounds.specs.Bounds.{greatestWeight}
 use Rattle.points.specs.Points.{Exponents}
 use Rattle.squares.specs.Rows as Formal

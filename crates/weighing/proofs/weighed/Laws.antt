@@ -6,7 +6,7 @@ use Prim.Native.Nat.{ℕ, _<_}
 use native.Mathlib.Omega.{arith}
 use lib.IntN.{ℤ}
 use lib.Signed.{_≤ℤ_}
-use Rattle.integers.proofs.words.Laws.{Bytes}
+use Rattle.integers.specs.Words.{Bytes}
 use Rattle.answers.specs.Answers.{accepted, Passes, Short}
 use Rattle.answers.proofs.answers.Laws.{passes-then, then-on, accepted-passes, short-then}
 use Rattle.points.specs.Lists.{All}

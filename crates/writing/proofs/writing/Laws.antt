@@ -10,8 +10,8 @@ use native.Mathlib.Numerals.{add-one}
 use native.Mathlib.Omega.{arith}
 use lib.IntN.{pos}
 use lib.ListN.{length, getD}
-use Rattle.integers.specs.Words.{i32At, withI32}
-use Rattle.integers.proofs.words.Laws.{Bytes, written-length, written-before, written-append, read-before, read-written, written-read}
+use Rattle.integers.specs.Words.{Bytes, i32At, withI32}
+use Rattle.integers.proofs.words.Laws.{written-length, written-before, written-append, read-before, read-written, written-read}
 use Rattle.points.specs.Points.{samePoint}
 use Rattle.points.specs.Lists.{table}
 use Rattle.points.proofs.Lists.{table-same}

@@ -1,0 +1,2 @@
+// The text of a claim.
+pub mod claim_text;

@@ -1,0 +1,3 @@
+pub mod OwnChecks
+pub mod LimitsText
+pub mod ProfileText

@@ -1,0 +1,2 @@
+pub mod OwnChecks
+pub mod ProofText

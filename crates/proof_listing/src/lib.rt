@@ -1,0 +1,3 @@
+// The text of a proof.
+pub mod own_checks;
+pub mod proof_text;
