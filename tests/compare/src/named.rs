@@ -4,7 +4,7 @@
 use crate::report::{equal, Outcome, Report};
 use crate::{answers, files, program};
 use oracle::{Refusal, Verdict};
-use refusals::EntryPoint;
+use refusals::{EntryPoint, TEXTS};
 use sheets::limited::{self, LimitedExample};
 use sheets::random::Rng;
 use sheets::searches::{searches, Found, Search};
@@ -52,7 +52,27 @@ const C_PROGRAMS: [(&str, &str); 2] = [
          floor 8, tried 9\n\
          last floor: 0\n\
          floor 0, tried 4096\n\
+         no claim as text: refused 1 at 0, sheet 1\n\
+         no proof as text: refused 8 at 0, sheet 2\n\
+         no limits as text: refused 24 at 0, sheet 6\n\
+         too many rows as text: refused 27 at 0, sheet 8\n\
+         no buffer for a claim: refused 30 at 0, sheet 9\n\
+         no buffer for a proof: refused 30 at 0, sheet 9\n\
+         no buffer for limits: refused 30 at 0, sheet 9\n\
+         no buffer for a profile: refused 30 at 0, sheet 9\n\
+         one byte too few: refused 30 at 0, sheet 9\n\
+         first byte of the text 0\n\
+         claim: 33\n\
+         claim\nvariables 1\nmask 0\nfloor 0\n\
+         byte after the text 0\n\
+         proof: 26\n\
+         proof\nvariables 1\nscale 1\n\
+         limits: 59\n\
+         limits\nvariables 1\nvariable 0 power 2 limit 3 multiplier 1\n\
+         profile: 48\n\
+         profile\nexponent 120\nweight 1073741824\nrows 256\n\
          greatest lengths 776, 7176 and 57\n\
+         greatest lengths of texts 4781, 31520, 395 and 48\n\
          page of 40 lines of 72 characters, 2920 bytes\n\
          last row: refused 19 at 255, sheet 2\n\
          most rows: 256\n",
@@ -108,10 +128,14 @@ fn shows_limited(limited: &LimitedExample) -> Outcome {
     answers::compare(EntryPoint::Program, &case, &mut Rng::new(0)).map(|_| ())
 }
 
-/// The verdict of the library's check, which is the same with a page.
+/// The verdict of the library's check, which is the same with a page. The texts are the oracle's too.
 fn checked(case: &Case) -> Result<Verdict, String> {
-    answers::check_page(case, &mut Rng::new(0))?;
-    answers::check(case, &mut Rng::new(0))
+    let mut rng = Rng::new(0);
+    for text in TEXTS {
+        answers::compare(text, case, &mut rng)?;
+    }
+    answers::check_page(case, &mut rng)?;
+    answers::check(case, &mut rng)
 }
 
 /// The sheet and the text among the files are the example's.
