@@ -1,15 +1,21 @@
 //! What the documents say of the project: their tables of refusals, held against the one that the
-//! tests share, the header's greatest values, and the files and names that they send a reader to.
+//! tests share, the header's greatest values and lengths of texts, and the files and names that they
+//! send a reader to.
 
-use crate::files;
 use crate::report::{equal, Outcome, Report};
+use crate::{answers, files};
 use refusals::RULES;
+use sheets::listings::{longest, Longest};
+use sheets::random::Rng;
 
 pub fn run(report: &mut Report) {
     report.add("refusals in the format's document", are_in_format());
     report.add("refusals in the C header", are_in_header());
     report.add("sheets in the C header", are_sheets_in_header());
     report.add("greatest values in the C header", are_greatest_values_in_header());
+    for longest in longest() {
+        report.add(&format!("room for a {:?}", longest.entry_point), is_room_told(&longest));
+    }
     for document in ["README.md", "docs/FORMAT.md"] {
         report.add(&format!("names in {document}"), are_where_told(document));
     }
@@ -91,6 +97,29 @@ fn are_greatest_values_in_header() -> Outcome {
     let in_header = |value: &&String| header.lines().any(|line| line == *value);
     equal("the lines", &values, &values.iter().filter(in_header).cloned().collect())?;
     equal("there are greatest values", &true, &!values.is_empty())
+}
+
+/// The header and a row of the format's document have the length of a buffer for every text of the
+/// kind.
+fn is_room_told(longest: &Longest) -> Outcome {
+    let Longest { entry_point, case, .. } = longest;
+    let text = answers::listing(*entry_point, case, &mut Rng::new(0))?;
+    let room = room_for(&text.map_err(|refusal| refusal.to_string())?);
+    let kind = format!("{entry_point:?}").replace("Text", "").to_uppercase();
+    let name = format!("BURMELOX_MOST_{kind}_TEXT");
+    let line = format!("#define {name} {room}");
+    equal(&line, &true, &read("include/burmelox.h")?.lines().any(|other| other == line))?;
+    let cells = format!("| {room} | `{name}` |");
+    let is_told = |row: &str| row.replace(',', "").ends_with(&cells);
+    equal(&cells, &true, &read("docs/FORMAT.md")?.lines().any(is_told))
+}
+
+/// The length of a text in which each term or row is counted with an index as long as the last one.
+fn room_for(text: &str) -> usize {
+    let last = text.lines().next_back().unwrap_or_default();
+    let word = last.split(' ').next();
+    let length = |line: &str| if line.split(' ').next() == word { last.len() } else { line.len() };
+    text.lines().map(|line| length(line) + 1).sum()
 }
 
 fn read(name: &str) -> Result<String, String> {
