@@ -6,8 +6,8 @@
 #   make uninstall  takes them away again
 #   make clean      removes what was built
 #
-# The first build takes three to four minutes, and one after which nothing changed no time. With
-# DESTDIR all is installed below that folder, and still written for PREFIX.
+# The first build proves every crate, which takes some minutes; one after which nothing changed takes
+# no time. With DESTDIR all is installed below that folder, and still written for PREFIX.
 
 PREFIX = /usr/local
 DESTDIR =

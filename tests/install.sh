@@ -68,7 +68,8 @@ runs_the_program() {
 }
 
 runs_the_command() {
-    same "burmelox $(version)" "$(elsewhere "$prefix/bin/burmelox" --version)"
+    elsewhere "$prefix/bin/burmelox" --version > "$folder/version"
+    grep -qwF "$(version)" "$folder/version"
     elsewhere "$prefix/bin/burmelox" check "$examples/G.sheet" > "$folder/verdict"
     grep -qx "$(head -n 1 "$examples/G.txt")" "$folder/verdict"
 }
