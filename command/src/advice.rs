@@ -33,17 +33,26 @@ fn shifted_words(balance: &Balance, row: usize, rest: String) -> String {
 fn unheld(balance: &Balance, index: usize) -> String {
     let point = balance.point(index);
     let target = balance.target(&point);
-    let is_constant = point == balance.claim.origin();
-    let what = if target > 0 {
+    let what = if point == balance.claim.origin() {
+        unheld_constant(balance, target)
+    } else if target > 0 {
         "add a lone row there, or a pair with an end there".to_string()
-    } else if is_constant {
-        let floor = i128::from(balance.claim.floor);
-        let carried = floor + target.div_euclid(balance.proof.scale.into());
-        format!("lower the floor: try {carried}")
     } else {
         "add a pair whose midpoint it is".to_string()
     };
     format!("the target at {} is {target}: {what}", bracketed(&point))
+}
+
+/// Without a slot at the constant one floor alone will do, which need not be whole.
+fn unheld_constant(balance: &Balance, target: i128) -> String {
+    let scale = i128::from(balance.proof.scale);
+    let floor = i128::from(balance.claim.floor) + target.div_euclid(scale);
+    match (target > 0, target % scale == 0 && floor >= LEAST_FLOOR) {
+        (true, true) => format!("add a lone row there, or raise the floor: try {floor}"),
+        (true, false) => "add a lone row there".to_string(),
+        (false, true) => format!("lower the floor: try {floor}"),
+        (false, false) => format!("lower the floor to {floor} and add a lone row there"),
+    }
 }
 
 fn beyond(balance: &Balance, row: usize, profile: Profile) -> String {

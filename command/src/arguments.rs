@@ -150,3 +150,52 @@ fn is_operand(word: &str) -> bool {
     let is_number = |rest: &str| rest.starts_with(|first: char| first.is_ascii_digit());
     word.strip_prefix('-').is_none_or(|rest| rest.is_empty() || is_number(rest))
 }
+
+#[cfg(test)]
+mod tests {
+    use super::*;
+    use crate::status::Status;
+
+    const EXAMPLE: Subcommand = Subcommand {
+        name: "example",
+        operands: "FILE X ..",
+        count: 1..=3,
+        summary: "",
+        about: "",
+        options: &[EXACT],
+        run: |_| Ok(Status::Done),
+    };
+
+    fn parsed(words: &str) -> Result<Arguments, Trouble> {
+        let words: Vec<String> = words.split(' ').map(str::to_string).collect();
+        Arguments::parse(&EXAMPLE, &words)
+    }
+
+    #[test]
+    fn operands_and_options() {
+        let arguments = parsed("file -3 -o - --json").ok().expect("all is right");
+        assert_eq!(arguments.operands, ["file", "-3"]);
+        assert_eq!((arguments.value("-o"), arguments.has("--json")), (Some("-"), true));
+        assert_eq!(
+            parsed("-- --json -").ok().map(|found| found.operands),
+            Some(vec!["--json".into(), "-".into()])
+        );
+        assert_eq!(
+            parsed("-o=x -").ok().and_then(|found| found.value("-o").map(String::from)),
+            Some("x".into())
+        );
+    }
+
+    #[test]
+    fn misuse_is_told() {
+        let told = |words| parsed(words).err().map(|Trouble(words)| words).unwrap_or_default();
+        assert_eq!(
+            told("file --page"),
+            "example: there is no option --page; try `burmelox example --help`"
+        );
+        assert!(told("file -o").contains("-o needs FILE after it"));
+        assert!(told("file -o a -o b").contains("-o is there twice"));
+        assert!(told("file --json=1").contains("--json takes no value"));
+        assert!(told("--json").contains("expected FILE X .., but there are 0"));
+    }
+}

@@ -212,3 +212,96 @@ fn limit(mut line: Line) -> Result<Limit, Mistake> {
     line.end()?;
     Ok(Limit { power, limit, multiplier })
 }
+
+#[cfg(test)]
+mod tests {
+    use super::*;
+
+    /// The sheets of a text that can be read.
+    fn parts(text: &str) -> Parts {
+        read(text.as_bytes()).expect("the text can be read")
+    }
+
+    /// What can't be read, with its place.
+    fn mistake(text: &str) -> String {
+        read(text.as_bytes()).expect_err("the text can't be read").to_string()
+    }
+
+    #[test]
+    fn a_claim_freely_written() {
+        let strict = "claim\nvariables 1\nmask 0\nfloor -1\nterm 0 coefficient 1 exponents 0\n\
+                      term 1 coefficient -2 exponents 1\n";
+        let free = "# a comment\n\n claim\r\nvariables\t1\nfloor  -1 # no mask\n\
+                    term coefficient -2 exponents 1\r\nterm 0 coefficient 1 exponents 0";
+        let (strict, free) = (parts(strict).claim.unwrap(), parts(free).claim.unwrap());
+        assert_eq!(strict.bytes, free.bytes);
+        assert_eq!((strict.lines, free.lines), (vec![5, 6], vec![7, 6]));
+    }
+
+    #[test]
+    fn a_proof_with_decimals() {
+        let text =
+            "proof\nvariables 1\nscale 10\nrow pair v 0 w 2 p 0.25 q 1/3 r -7\nrow lone v 2 p 4";
+        let rows = Proof::read(&parts(text).proof.unwrap().bytes).unwrap().rows;
+        assert_eq!([rows[0].weights, rows[1].weights], [[3, 3, -7], [4, 0, 0]]);
+    }
+
+    #[test]
+    fn mistakes_have_their_place() {
+        let claim = "claim\nvariables 1\nfloor 0\n";
+        let term = |line: &str| mistake(&format!("{claim}{line}"));
+        assert_eq!(
+            mistake("clam\n"),
+            "1:1: expected \"claim\", \"proof\" or \"limits\", found \"clam\""
+        );
+        assert_eq!(
+            mistake("# none\n"),
+            "1:1: expected \"claim\", \"proof\" or \"limits\", found the text's end"
+        );
+        assert_eq!(mistake("claim\nvariables x"), "2:11: expected a whole number, found \"x\"");
+        assert_eq!(
+            mistake("claim\nvariables 256"),
+            "2:11: expected a number from 0 to 255, found \"256\""
+        );
+        assert_eq!(mistake("claim\nvariables 1 2"), "2:13: expected the line's end, found \"2\"");
+        assert_eq!(
+            term("  term coefficient 1.5 exponents 0"),
+            "4:20: expected a whole number, found \"1.5\""
+        );
+        assert_eq!(
+            term("term coefficient 1 exponents"),
+            "4:29: expected a whole number, found the line's end"
+        );
+        assert_eq!(
+            term("term 1 coefficient 1 exponents 0"),
+            "4:6: expected 0, its place by the order of points, found \"1\""
+        );
+        assert_eq!(
+            term("term coefficient 1 exponents 0\nterm coefficient 2 exponents 0"),
+            "5:1: the point of line 4 stands here again"
+        );
+        assert_eq!(
+            term("row 0"),
+            "4:1: expected \"term\", \"proof\" or the text's end, found \"row\""
+        );
+    }
+
+    #[test]
+    fn mistakes_in_proofs_and_limits() {
+        let row = |line: &str| mistake(&format!("proof\nvariables 1\nscale 4\n{line}"));
+        assert_eq!(row("row 1 lone v 0 p 1"), "4:5: expected 0, found \"1\"");
+        assert_eq!(row("row both v 0 p 1"), "4:5: expected \"pair\" or \"lone\", found \"both\"");
+        assert_eq!(row("row lone v 0 p 1/0"), "4:16: expected a number, found \"1/0\"");
+        assert_eq!(
+            row("row lone v 0 p 1e9"),
+            "4:16: \"1e9\" times the scale 4 does not fit into 32 bits"
+        );
+        let limits = |line: &str| mistake(&format!("limits\nvariables 2\n{line}"));
+        assert_eq!(
+            limits("variable 2 power 2 limit 5 multiplier 1"),
+            "3:10: expected a number from 0 to 1, found \"2\""
+        );
+        let twice = "variable 1 power 2 limit 5 multiplier 1\n".repeat(2);
+        assert_eq!(limits(&twice), "4:10: variable 1 stands on line 3 too");
+    }
+}

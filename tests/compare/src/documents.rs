@@ -1,8 +1,8 @@
 //! What the documents say of the project: their tables of refusals, held against the one that the
 //! tests share, the header's greatest values, and the files and names that they send a reader to.
 
-use crate::files;
-use crate::report::{equal, Outcome, Report};
+use harness::files;
+use harness::report::{equal, Outcome, Report};
 use refusals::RULES;
 
 pub fn run(report: &mut Report) {
