@@ -9,6 +9,9 @@ use std::path::{Path, PathBuf};
 /// A file that is read has at most so many bytes.
 pub const MOST: u64 = 16 << 20;
 
+/// No two sheets in bytes have more, so that one call reads them.
+const USUAL: usize = 8192;
+
 /// The name that stands for standard input.
 pub const STANDARD_INPUT: &str = "-";
 
@@ -38,7 +41,7 @@ pub fn read(name: &str) -> Result<Vec<u8>, Trouble> {
 }
 
 fn read_all(source: impl Read, name: &str) -> Result<Vec<u8>, Trouble> {
-    let mut bytes = Vec::new();
+    let mut bytes = Vec::with_capacity(USUAL);
     let read = source.take(MOST + 1).read_to_end(&mut bytes);
     read.map_err(|error| failed(name, &error))?;
     if bytes.len() as u64 > MOST {

@@ -142,9 +142,10 @@ fn limits(inputs: &mut Inputs, file: &str) -> Result<Held, Trouble> {
 fn both(inputs: &mut Inputs, file: &str) -> Result<(Held, Held), Trouble> {
     let Contents { claim, proof, .. } = Contents::read(inputs, file, Kind::Both)?;
     let claim = needed(file, claim, "claim")?;
-    let is_right = library::claim_text(&claim.bytes).is_ok();
-    let proof = proof.filter(|proof| !(proof.bytes.is_empty() && is_right));
-    Ok((claim, needed(file, proof, "proof")?))
+    let is_right = || library::claim_text(&claim.bytes).is_ok();
+    let proof = proof.filter(|proof| !proof.bytes.is_empty() || !is_right());
+    let proof = needed(file, proof, "proof")?;
+    Ok((claim, proof))
 }
 
 /// A claim and what follows it, parted as the program parts its input: by the claim's own length,

@@ -1,7 +1,7 @@
 //! Batches: results in the order of their list, runs that were cut and go on, trouble with lines.
 
 use crate::binary;
-use crate::folder::Folder;
+use harness::folder::Folder;
 use harness::report::{equal, Outcome, Report};
 use std::fs;
 

@@ -1,10 +1,9 @@
 //! The command, run as its users do.
 
+use harness::command::path;
 use harness::files;
 use harness::report::{equal, Outcome};
-use std::env;
 use std::io::Write;
-use std::path::PathBuf;
 use std::process::{Command, Output, Stdio};
 
 /// How a run ended: its status, and what it wrote to standard output and standard error.
@@ -39,24 +38,6 @@ impl Run {
         }
         Err(format!("expected trouble with {words:?}, found {self:?}"))
     }
-}
-
-/// The command is there, or what to do about it.
-pub fn is_built() -> Result<(), String> {
-    let path = path();
-    if path.exists() {
-        return Ok(());
-    }
-    Err(format!(
-        "{} is missing: run `cargo build --release --manifest-path command/Cargo.toml` at the \
-         project's root, or name the command in BURMELOX_COMMAND",
-        path.display()
-    ))
-}
-
-pub fn path() -> PathBuf {
-    env::var("BURMELOX_COMMAND")
-        .map_or_else(|_| files::path("command/target/release/burmelox"), PathBuf::from)
 }
 
 /// The command with arguments, at the project's root.

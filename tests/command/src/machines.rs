@@ -1,9 +1,9 @@
 //! What `--json` prints: one object a line, with the same facts as the lines for people.
 
 use crate::binary::{self, Run};
-use crate::folder::Folder;
 use crate::json::{self, Value};
 use harness::files;
+use harness::folder::Folder;
 use harness::report::{equal, Outcome, Report};
 
 pub fn run(report: &mut Report) {

@@ -6,12 +6,11 @@
 //! advice on refusals against the library and the oracle, `table` the table of refusals against the
 //! documents. The others run the command: `statuses` for its exit status, `mistakes` for what it
 //! says of texts that can't be read, `writes` for what it leaves in files, `machines` for its JSON,
-//! read by `json`, `batches` for its batches. `binary` finds and runs it, `folder` has the files.
+//! read by `json`, `batches` for its batches. `binary` runs it.
 
 mod advice;
 mod batches;
 mod binary;
-mod folder;
 mod json;
 mod machines;
 mod mistakes;
@@ -24,7 +23,7 @@ use harness::report::Report;
 use std::process::ExitCode;
 
 fn main() -> ExitCode {
-    if let Err(missing) = binary::is_built() {
+    if let Err(missing) = harness::command::is_built() {
         eprintln!("{missing}");
         return ExitCode::from(2);
     }

@@ -1,7 +1,7 @@
 //! Texts that can't be read or are refused, by file, line and column; and weights as decimals.
 
 use crate::binary;
-use crate::folder::Folder;
+use harness::folder::Folder;
 use harness::report::{equal, Outcome, Report};
 
 const CLAIM: &str = "claim\nvariables 1\nfloor 0\nterm coefficient 1 exponents 0\n";

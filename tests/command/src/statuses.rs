@@ -1,8 +1,8 @@
 //! The exit status of each subcommand, also where standard output or a file is no good.
 
 use crate::binary;
-use crate::folder::Folder;
 use harness::files;
+use harness::folder::Folder;
 use harness::report::{equal, Outcome, Report};
 use sheets::random::Rng;
 use std::fs::File;

@@ -1,8 +1,8 @@
 //! What the command leaves in files: all of it or nothing.
 
 use crate::binary;
-use crate::folder::Folder;
 use harness::files;
+use harness::folder::Folder;
 use harness::report::{equal, Outcome, Report};
 use std::fs;
 use std::os::unix::fs::symlink;

@@ -1,4 +1,4 @@
-//! A folder for the files of one test, which goes with it.
+//! A folder for the files of one test or timing, which goes with it.
 
 use std::env::temp_dir;
 use std::fs;
@@ -9,7 +9,7 @@ pub struct Folder(PathBuf);
 
 impl Folder {
     pub fn new(name: &str) -> Folder {
-        let path = temp_dir().join(format!("burmelox-command-{name}-{}", process::id()));
+        let path = temp_dir().join(format!("burmelox-{name}-{}", process::id()));
         fs::create_dir_all(&path).expect("a folder can be made");
         Folder(path)
     }
