@@ -109,6 +109,7 @@ fn tell_no_kind(report: &mut Report, file: &str, bytes: &[u8]) {
             Some(refusal) => format!("{refusal}: {}", refusal.rule().wrong),
             None => "the proof has not as many variables as the claim".to_string(),
         };
-        report.note(kind.name(), &format!("as {}", kind.name()), &words);
+        let name = kind.name();
+        report.note(&format!("as_{name}"), &format!("as {name}"), &words);
     }
 }

@@ -42,6 +42,7 @@ fn run(arguments: &Arguments) -> Ending {
     let status = match Refusal::of(answer) {
         None => {
             report.line(&format!("value {value}"));
+            report.fields().text("verdict", "evaluated");
             report.fields().number("value", value);
             Status::Done
         }

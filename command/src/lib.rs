@@ -47,7 +47,7 @@ use status::{trouble, Ending, Status, Trouble};
 use std::ffi::OsString;
 
 /// The subcommands, in the order of the help.
-const SUBCOMMANDS: [&Subcommand; 7] = [
+const SUBCOMMANDS: &[&Subcommand] = &[
     &check::SUBCOMMAND,
     &search::SUBCOMMAND,
     &evaluate::SUBCOMMAND,

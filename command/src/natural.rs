@@ -8,7 +8,7 @@ use std::cmp::Ordering;
 pub struct Natural(Vec<u32>);
 
 /// The base of the pieces.
-const BASE: u128 = 1_000_000_000;
+const BASE: u64 = 1_000_000_000;
 
 impl Natural {
     /// The number of some ASCII digits.
@@ -29,11 +29,13 @@ impl Natural {
         self.0.is_empty()
     }
 
+    /// The product with a factor of at most 2^33, so that a piece times the factor and what is
+    /// carried fit into 64 bits.
     pub fn times(&self, factor: u64) -> Natural {
         let mut carry = 0;
         let mut pieces = Vec::with_capacity(self.0.len() + 3);
         for &piece in &self.0 {
-            carry += u128::from(piece) * u128::from(factor);
+            carry += u64::from(piece) * factor;
             pieces.push((carry % BASE) as u32);
             carry /= BASE;
         }

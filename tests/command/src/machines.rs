@@ -70,6 +70,7 @@ fn is_searched() -> Outcome {
 
 fn is_evaluated() -> Outcome {
     let value = object(&["evaluate", "examples/G.sheet", "1", "-2"], 0)?;
+    equal("the verdict", &Some("evaluated"), &value.text("verdict"))?;
     equal("the value", &Some(9), &value.number("value"))?;
     let value = object(&["evaluate", "examples/J.sheet", "3"], 1)?;
     equal("number and index", &[Some(21), Some(0)], &numbers(&value, ["number", "index"]))
@@ -85,7 +86,9 @@ fn are_coded() -> Outcome {
     let hex: String = bytes.iter().map(|byte| format!("{byte:02x}")).collect();
     equal("the sheet", &Some(hex.as_str()), &encoded.text("sheet"))?;
     let refused = object(&["decode", "examples/B-masked-past.sheet"], 1)?;
-    equal("the verdict", &Some("refused"), &refused.text("verdict"))
+    equal("the verdict", &Some("refused"), &refused.text("verdict"))?;
+    let why = "refused 2 at 0: n, t, a mask bit at or above n, or byte 3";
+    equal("why it is no claim", &Some(why), &refused.text("as_claim"))
 }
 
 fn is_explained() -> Outcome {
