@@ -75,7 +75,7 @@ fn text(report: &mut Report, contents: &Contents) -> Result<String, Refusal> {
 }
 
 /// The sheets in bytes, by the one kind that fits; none where no kind does.
-pub fn found(file: &str, bytes: &[u8]) -> Result<Option<Contents>, Trouble> {
+fn found(file: &str, bytes: &[u8]) -> Result<Option<Contents>, Trouble> {
     let fitting: Vec<Kind> = Kind::ALL.into_iter().filter(|kind| fits(bytes, *kind)).collect();
     match fitting[..] {
         [] => Ok(None),

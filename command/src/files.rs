@@ -7,7 +7,7 @@ use std::io::{stdin, Error, Read, Write};
 use std::path::{Path, PathBuf};
 
 /// A file that is read has at most so many bytes.
-pub const MOST: u64 = 16 << 20;
+const MOST: u64 = 16 << 20;
 
 /// No two sheets in bytes have more, so that one call reads them.
 const USUAL: usize = 8192;
@@ -35,7 +35,7 @@ impl Inputs {
 }
 
 /// The bytes of a file.
-pub fn read(name: &str) -> Result<Vec<u8>, Trouble> {
+fn read(name: &str) -> Result<Vec<u8>, Trouble> {
     let file = File::open(name).map_err(|error| failed(name, &error))?;
     read_all(file, name)
 }

@@ -13,23 +13,23 @@
 //!   `telling` puts all that into words.
 
 pub mod advice;
-pub mod arguments;
+mod arguments;
 pub mod balance;
 mod batch;
 mod check;
-pub mod decode;
+mod decode;
 pub mod encode;
 mod evaluate;
 mod explain;
-pub mod fault;
-pub mod files;
+mod fault;
+mod files;
 mod fractions;
 pub mod held;
 mod json;
 pub mod library;
 mod list;
 mod natural;
-pub mod output;
+mod output;
 mod profiles;
 mod progress;
 mod report;
@@ -39,7 +39,7 @@ mod search;
 pub mod sheet;
 pub mod status;
 mod telling;
-pub mod text;
+mod text;
 mod words;
 
 use arguments::{Arguments, Subcommand};

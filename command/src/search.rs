@@ -36,11 +36,11 @@ claim with the floor that was found, and how many were tried.
 const MOST_FLOORS: i64 = 4096;
 
 /// A floor that was found, its exact proof, and how many floors were tried.
-pub struct Found {
-    pub floor: i64,
-    pub tried: u64,
-    pub rows: u64,
-    pub exact: Vec<u8>,
+struct Found {
+    floor: i64,
+    tried: u64,
+    rows: u64,
+    exact: Vec<u8>,
 }
 
 fn run(arguments: &Arguments) -> Ending {
@@ -78,7 +78,7 @@ fn end(arguments: &Arguments, name: &str) -> Result<i64, Trouble> {
 
 /// The highest floor, in pieces from the top where there are too many for one call. Before the
 /// pieces the lowest floor is tried, which shows whether range and sheets are right.
-pub fn highest(sheets: &Sheets, profile: Profile, lo: i64, hi: i64) -> Result<Found, Refusal> {
+fn highest(sheets: &Sheets, profile: Profile, lo: i64, hi: i64) -> Result<Found, Refusal> {
     if hi.saturating_sub(lo) < MOST_FLOORS {
         return piece(sheets, profile, lo, hi);
     }
