@@ -3,10 +3,12 @@
 use crate::binary;
 use burmelox_command::encode;
 use burmelox_command::held::{Contents, Kind};
+use burmelox_command::sheet::{Claim, Limit, Limits, Proof};
 use harness::files;
 use harness::report::{equal, Outcome, Report};
 use sheets::random::{Kind as CaseKind, Rng};
 use sheets::Case;
+use std::fmt::Display;
 use std::fs;
 
 /// So many random sheets go there and back.
@@ -99,5 +101,33 @@ fn goes_there_and_back(bytes: &[u8], kind: Kind) -> Result<bool, String> {
     let read = Contents::of_text("", text.as_bytes()).map_err(|trouble| format!("{trouble:?}"))?;
     let back = encode::bytes(&read).map_err(|refusal| format!("{refusal}\n{text}"))?;
     equal("the sheet", &bytes.to_vec(), &back)?;
+    are_worded(bytes, kind, &text)?;
     Ok(true)
+}
+
+/// The command's own words for terms, rows and limits, by which refusals name them, are those of
+/// the library's text.
+fn are_worded(bytes: &[u8], kind: Kind, text: &str) -> Outcome {
+    let worded: Option<Vec<String>> = match kind {
+        Kind::Claim => Claim::read(bytes).map(|claim| numbered("term", &claim.terms)),
+        Kind::Proof => Proof::read(bytes).map(|proof| numbered("row", &proof.rows)),
+        Kind::Limits => Limits::read(bytes).map(|limits| limited(&limits)),
+        Kind::Both => return Ok(()),
+    };
+    let entries = ["term ", "row ", "variable "];
+    let is_entry = |line: &&str| entries.iter().any(|entry| line.starts_with(entry));
+    let lines = text.lines().filter(is_entry).map(str::to_string).collect();
+    equal("the words", &Some(lines), &worded)
+}
+
+fn numbered(name: &str, entries: &[impl Display]) -> Vec<String> {
+    let entries = entries.iter().enumerate();
+    entries.map(|(index, entry)| format!("{name} {index} {entry}")).collect()
+}
+
+/// The limits of limited variables alone.
+fn limited(limits: &Limits) -> Vec<String> {
+    let unlimited = Limit::default().to_string();
+    let all = numbered("variable", &limits.entries);
+    all.into_iter().filter(|words| !words.ends_with(&unlimited)).collect()
 }
