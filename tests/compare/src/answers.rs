@@ -1,7 +1,7 @@
 //! One case, answered by the oracle and by the library or the program.
 
 use crate::program;
-use crate::report::Outcome;
+use harness::report::Outcome;
 use oracle::{Accepted, Found, Integer, Paged, Refusal};
 use refusals::EntryPoint;
 use sheets::random::Rng;

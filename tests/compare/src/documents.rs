@@ -2,8 +2,9 @@
 //! tests share, the header's greatest values and lengths of texts, and the files and names that they
 //! send a reader to.
 
-use crate::report::{equal, Outcome, Report};
-use crate::{answers, files};
+use crate::answers;
+use harness::files;
+use harness::report::{equal, Outcome, Report};
 use refusals::RULES;
 use sheets::listings::{longest, Longest};
 use sheets::random::Rng;

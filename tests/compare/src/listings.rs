@@ -2,7 +2,7 @@
 //! sheet from every other.
 
 use crate::answers;
-use crate::report::{equal, Outcome, Report};
+use harness::report::{equal, Outcome, Report};
 use refusals::{EntryPoint, TEXTS};
 use sheets::listings::{cases, longest, Listed, Longest};
 use sheets::random::{larger, Kind, Rng};

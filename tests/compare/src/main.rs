@@ -12,7 +12,6 @@
 
 mod answers;
 mod documents;
-mod files;
 mod floors;
 mod larger;
 mod limits;
@@ -22,10 +21,9 @@ mod pages;
 mod profiles;
 mod program;
 mod random;
-mod report;
 
+use harness::report::Report;
 use refusals::{EntryPoint::Program, LIBRARY};
-use report::Report;
 use std::process::ExitCode;
 
 fn main() -> ExitCode {
@@ -50,12 +48,7 @@ fn main() -> ExitCode {
     documents::run(&mut report);
     floors::run(&mut report);
     random::run(&mut report, &options);
-    println!("{} passed, {} failed", report.passed, report.failed);
-    if report.failed == 0 {
-        ExitCode::SUCCESS
-    } else {
-        ExitCode::FAILURE
-    }
+    report.end()
 }
 
 /// The options in the arguments: the seed is fixed unless one is given.

@@ -1,8 +1,9 @@
 //! Tests of single sheets: the examples, the table of refusals, masks, searches, the program's
 //! input, C.
 
-use crate::report::{equal, Outcome, Report};
-use crate::{answers, files, program};
+use crate::{answers, program};
+use harness::files;
+use harness::report::{equal, Outcome, Report};
 use oracle::{Refusal, Verdict};
 use refusals::{EntryPoint, TEXTS};
 use sheets::limited::{self, LimitedExample};

@@ -2,7 +2,7 @@
 //! need of it.
 
 use crate::answers;
-use crate::report::{equal, Outcome, Report};
+use harness::report::{equal, Outcome, Report};
 use oracle::Refusal;
 use refusals::{rule, EntryPoint, LIBRARY};
 use sheets::pages::lone_rows;

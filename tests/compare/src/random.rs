@@ -1,7 +1,7 @@
 //! Random cases of every kind, held against the library and the program.
 
 use crate::answers;
-use crate::report::{Outcome, Report};
+use harness::report::{Outcome, Report};
 use refusals::EntryPoint::{self, Check, Evaluation, PageCheck, Program, Search};
 use refusals::{rule, BY_PROFILE, TEXTS};
 use sheets::random::{Kind, Rng};
