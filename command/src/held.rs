@@ -128,7 +128,7 @@ pub fn claim(inputs: &mut Inputs, file: &str) -> Result<Held, Trouble> {
 }
 
 /// The proof that a file holds; of a text with a claim and its proof, the latter.
-fn proof(inputs: &mut Inputs, file: &str) -> Result<Held, Trouble> {
+pub fn proof(inputs: &mut Inputs, file: &str) -> Result<Held, Trouble> {
     needed(file, Contents::read(inputs, file, Kind::Proof)?.proof, "proof")
 }
 
@@ -137,15 +137,20 @@ fn limits(inputs: &mut Inputs, file: &str) -> Result<Held, Trouble> {
     needed(file, Contents::read(inputs, file, Kind::Limits)?.limits, "limits sheet")
 }
 
-/// The claim and the proof that one file holds. A right claim with nothing behind it has none; what
-/// is behind a wrong one does not count.
-fn both(inputs: &mut Inputs, file: &str) -> Result<(Held, Held), Trouble> {
+/// The claim that a file holds, and the proof behind it where there is one. A right claim with
+/// nothing behind it has none; what is behind a wrong one does not count.
+pub fn claim_and_proof(inputs: &mut Inputs, file: &str) -> Result<(Held, Option<Held>), Trouble> {
     let Contents { claim, proof, .. } = Contents::read(inputs, file, Kind::Both)?;
     let claim = needed(file, claim, "claim")?;
     let is_right = || library::claim_text(&claim.bytes).is_ok();
     let proof = proof.filter(|proof| !proof.bytes.is_empty() || !is_right());
-    let proof = needed(file, proof, "proof")?;
     Ok((claim, proof))
+}
+
+/// The claim and the proof that one file holds.
+fn both(inputs: &mut Inputs, file: &str) -> Result<(Held, Held), Trouble> {
+    let (claim, proof) = claim_and_proof(inputs, file)?;
+    Ok((claim, needed(file, proof, "proof")?))
 }
 
 /// A claim and what follows it, parted as the program parts its input: by the claim's own length,

@@ -1,22 +1,25 @@
 //! The command `burmelox`: sheets as text, verdicts in words. It decides nothing itself: what is
 //! accepted and what a sheet says comes from the proved library.
 //!
-//! One module a subcommand: `check`, `search`, `evaluate`, `encode`, `decode`, `explain`, `batch`.
-//! They are called by `arguments`, get their sheets from `held`, and tell in a `report`.
+//! One module a subcommand: `check`, `search`, `evaluate`, `encode`, `decode`, `explain`, `picture`,
+//! `batch`. They are called by `arguments`, get their sheets from `held`, and tell in a `report`.
 //!
 //! - `files` reads and writes, `output` prints, `status` says how a run ends.
 //! - `sheet` has the fields of sheets; `words` and `text` read them from a text, `fractions` and
 //!   `natural` the weights in it.
 //! - `library` has the library's texts and verdicts, `rules` the table of its refusals.
+//! - `points_picture` and `curve_picture` are the pictures, with `axis` and `svg`.
 //! - `list`, `results` and `progress` are those of a batch.
 //! - `fault` names what a refusal blames, `balance` and `advice` say more of 16 to 19, and
 //!   `telling` puts all that into words.
 
 pub mod advice;
 mod arguments;
+mod axis;
 pub mod balance;
 mod batch;
 mod check;
+mod curve_picture;
 mod decode;
 pub mod encode;
 mod evaluate;
@@ -30,6 +33,8 @@ pub mod library;
 mod list;
 mod natural;
 mod output;
+mod picture;
+mod points_picture;
 mod profiles;
 mod progress;
 mod report;
@@ -38,6 +43,7 @@ pub mod rules;
 mod search;
 pub mod sheet;
 pub mod status;
+mod svg;
 mod telling;
 mod text;
 mod words;
@@ -54,6 +60,7 @@ const SUBCOMMANDS: &[&Subcommand] = &[
     &encode::SUBCOMMAND,
     &decode::SUBCOMMAND,
     &explain::SUBCOMMAND,
+    &picture::SUBCOMMAND,
     &batch::SUBCOMMAND,
 ];
 

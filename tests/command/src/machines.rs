@@ -13,6 +13,7 @@ pub fn run(report: &mut Report) {
     report.add("evaluate --json", is_evaluated());
     report.add("encode --json and decode --json", are_coded());
     report.add("explain --json", is_explained());
+    report.add("picture --json", is_drawn());
     report.add("batch --json", is_batched());
 }
 
@@ -95,6 +96,14 @@ fn is_explained() -> Outcome {
     let value = object(&["explain", "0x200130007"], 0)?;
     equal("number and index", &[Some(19), Some(7)], &numbers(&value, ["number", "index"]))?;
     equal("the sheet", &Some("proof"), &value.text("sheet"))
+}
+
+fn is_drawn() -> Outcome {
+    let folder = Folder::new("json");
+    let value = object(&["picture", "examples/G.sheet", "-o", &folder.path("picture.svg")], 0)?;
+    equal("the verdict", &Some("drawn"), &value.text("verdict"))?;
+    let texts = ["claim", "proof"].map(|name| value.text(name).unwrap_or_default()).concat();
+    equal("the texts", &binary::run(&["decode", "examples/G.sheet"]).text(), &texts)
 }
 
 /// Also with file names that JSON has to escape.

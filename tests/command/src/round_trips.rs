@@ -9,27 +9,15 @@ use harness::report::{equal, Outcome, Report};
 use sheets::random::{Kind as CaseKind, Rng};
 use sheets::Case;
 use std::fmt::Display;
-use std::fs;
 
 /// So many random sheets go there and back.
 const SHEETS: usize = 100_000;
 
 pub fn run(report: &mut Report) {
-    for name in example_names() {
+    for name in files::examples(&[".sheet", ".limits"]) {
         report.add(&format!("round trip of {name}"), of_example(&name));
     }
     report.add(&format!("round trips of {SHEETS} random sheets"), of_random_sheets());
-}
-
-/// The sheets and limits among the examples.
-fn example_names() -> Vec<String> {
-    let entries = fs::read_dir(files::path("examples")).expect("the examples are there");
-    let name = |entry: fs::DirEntry| format!("examples/{}", entry.file_name().to_string_lossy());
-    let names = entries.map(|entry| name(entry.expect("the example is there")));
-    let mut names: Vec<String> =
-        names.filter(|name| name.ends_with(".sheet") || name.ends_with(".limits")).collect();
-    names.sort();
-    names
 }
 
 /// An example that passes its own checks is printed as the library does, and comes back from that

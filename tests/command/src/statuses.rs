@@ -112,7 +112,7 @@ fn are_read_from_input() -> Outcome {
 
 fn is_helpful() -> Outcome {
     let all = binary::run(&["--help"]).text();
-    for name in ["check", "search", "evaluate", "encode", "decode", "explain", "batch"] {
+    for name in ["check", "search", "evaluate", "encode", "decode", "explain", "picture", "batch"] {
         equal("the subcommand is listed", &true, &all.contains(&format!("\n  {name} ")))?;
         let help = binary::run(&[name, "--help"]);
         help.ends_with(0)?;
@@ -144,6 +144,8 @@ fn is_directory() -> Outcome {
         &["evaluate", "examples", "1"],
         &["encode", "examples"],
         &["decode", "examples"],
+        &["picture", "examples", "-o", "none"],
+        &["picture", "examples/G.sheet", "-o", "examples"],
         &["batch", "examples"],
     ] {
         binary::run(arguments).is_trouble("examples: Is a directory")?;
