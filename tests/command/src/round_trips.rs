@@ -16,6 +16,7 @@ const SHEETS: usize = 100_000;
 pub fn run(report: &mut Report) {
     for name in files::examples(&[".sheet", ".limits"]) {
         report.add(&format!("round trip of {name}"), of_example(&name));
+        report.add(&format!("text of {name}"), of_example_text(&name));
     }
     report.add(&format!("round trips of {SHEETS} random sheets"), of_random_sheets());
 }
@@ -32,6 +33,17 @@ fn of_example(name: &str) -> Outcome {
     let encoded = binary::run_with(&["encode", "-"], &decoded.out);
     encoded.ends_with(0)?;
     equal("the sheet", &bytes, &encoded.out)
+}
+
+/// The text beside an example is encoded as its bytes; where it has none it is refused.
+fn of_example_text(name: &str) -> Outcome {
+    let text = format!("{name}.txt");
+    if !files::path(&text).exists() {
+        return binary::run(&["decode", name]).ends_with(1);
+    }
+    let encoded = binary::run(&["encode", &text]);
+    encoded.ends_with(0)?;
+    equal("the sheet", &files::read(name)?, &encoded.out)
 }
 
 /// The library's texts of the sheets in a file, by a buffer of its own.

@@ -10,7 +10,7 @@ use sheets::limited::{self, LimitedExample};
 use sheets::random::Rng;
 use sheets::searches::{searches, Found, Search};
 use sheets::worked::{power_claim, square_input, SQUARE_CUTS};
-use sheets::{table, Case, Claim, Example, Profile, Proof, Row};
+use sheets::{table, texts, Case, Claim, Example, Profile, Proof, Row};
 use std::process::Command;
 use std::{env, fs, process};
 
@@ -89,8 +89,13 @@ pub fn run(report: &mut Report) {
     for example in &limited {
         report.add(&format!("example {}", example.example.name), shows_limited(example));
     }
-    report.add("no other examples", are_all("sheet", examples.len() + limited.len()));
+    let sheets = examples.iter().chain(limited.iter().map(|limited| &limited.example));
+    let texts =
+        sheets.filter_map(texts::of_sheet).chain(limited.iter().filter_map(texts::of_limits));
+    let (count, texts) = (examples.len() + limited.len(), texts.count());
+    report.add("no other examples", are_all("sheet", count));
     report.add("no other examples with limits", are_all("limits", limited.len()));
+    report.add("no other texts beside the examples", are_all("txt", count + texts));
     for entry in table::entries() {
         report.add(&format!("table {}", entry.number), refuses(&entry));
     }
@@ -125,6 +130,7 @@ fn shows_limited(limited: &LimitedExample) -> Outcome {
     let (example, case) = (&limited.example, limited.case());
     has_files(example)?;
     equal("the limits' file", &case.limits, &file_of(example, "limits")?)?;
+    has_text(example, "limits.txt", texts::of_limits(limited))?;
     equal("the text", &example.text, &&oracle::printed(&checked(&case)?)[..])?;
     answers::compare(EntryPoint::Program, &case, &mut Rng::new(0)).map(|_| ())
 }
@@ -142,7 +148,14 @@ fn checked(case: &Case) -> Result<Verdict, String> {
 /// The sheet and the text among the files are the example's.
 fn has_files(example: &Example) -> Outcome {
     equal("the sheet's file", &example.input(), &file_of(example, "sheet")?)?;
+    has_text(example, "sheet.txt", texts::of_sheet(example))?;
     equal("the text's file", &example.text.as_bytes(), &&file_of(example, "txt")?[..])
+}
+
+/// The text of a sheet among the files is the one that there is, or there is none.
+fn has_text(example: &Example, extension: &str, text: Option<String>) -> Outcome {
+    let file = file_of(example, extension).ok();
+    equal("the text of a sheet", &text.map(String::into_bytes), &file)
 }
 
 pub fn file_of(example: &Example, extension: &str) -> Result<Vec<u8>, String> {

@@ -3,8 +3,10 @@
 //! `worked`, `masked`, `posts` and `papers` hold sheets with the text the program prints for them,
 //! `limited` those with limits and what a check says of them, `pages` pages of some of them,
 //! `profiles` sheets under profiles, `listings` sheets and profiles as text, `table` the examples of
-//! the table of refusals, `searches` searches with what they find, `random` the generators.
+//! the table of refusals, `searches` searches with what they find, `random` the generators. `texts`
+//! has the examples as text, with the weights of some in `decimals`.
 
+mod decimals;
 pub mod limited;
 pub mod limits;
 pub mod listings;
@@ -16,6 +18,7 @@ pub mod profiles;
 pub mod random;
 pub mod searches;
 pub mod table;
+pub mod texts;
 pub mod worked;
 
 pub use limits::{Limit, Limits};
