@@ -103,19 +103,22 @@ fn lower_floor(balance: &Balance, point: &Point, more: i128) -> Option<i128> {
     (*point == balance.claim.origin() && floor >= LEAST_FLOOR).then_some(floor)
 }
 
+/// What is said of a row that its own proposed weights break.
+const UNHELD: &str = "as it is proposed the row does not hold either: give p or q more";
+
 fn indefinite(balance: &Balance, row: usize) -> String {
     let [p, q, r] = balance.shifted[row];
     let missed = format!("4pq = {} < r² = {}", 4 * p * q, r * r);
     let [p, q, r] = balance.proof.rows[row].weights.map(i128::from);
     let held = p >= 0 && q >= 0 && r * r <= 4 * p * q;
-    let what = if let Some(floor) = floor_for_row(balance, row) {
-        format!("lower the floor: try {floor}")
-    } else if !held {
-        "as it is proposed the row does not hold either: give p or q more".to_string()
-    } else if let Some(scale) = larger_scale(balance.proof.scale.into()) {
-        format!("a larger scale leaves less rounding: try {scale}")
-    } else {
-        "leave room in every row, say r² ≤ 0.99 × 4pq".to_string()
+    let what = match (floor_for_row(balance, row), larger_scale(balance.proof.scale.into()), held) {
+        (Some(floor), ..) => format!("lower the floor: try {floor}"),
+        (None, Some(scale), true) => format!("a larger scale leaves less rounding: try {scale}"),
+        (None, None, true) => "leave room in every row, say r² ≤ 0.99 × 4pq".to_string(),
+        (None, Some(scale), false) => {
+            format!("{UNHELD}, or, if they were rounded, take a larger scale: try {scale}")
+        }
+        (None, None, false) => UNHELD.to_string(),
     };
     format!("{missed}; {what}")
 }

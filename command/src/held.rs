@@ -127,9 +127,16 @@ pub fn claim(inputs: &mut Inputs, file: &str) -> Result<Held, Trouble> {
     Ok(Held::in_bytes(file, claim))
 }
 
-/// The proof that a file holds; of a text with a claim and its proof, the latter.
+/// The proof that a file holds; of a claim and its proof the latter.
 pub fn proof(inputs: &mut Inputs, file: &str) -> Result<Held, Trouble> {
-    needed(file, Contents::read(inputs, file, Kind::Proof)?.proof, "proof")
+    let bytes = inputs.read(file)?;
+    if text::is_text(&bytes) {
+        return needed(file, Contents::of_text(file, &bytes)?.proof, "proof");
+    }
+    let (_, rest) = split(&bytes);
+    let is_proof = |bytes| library::proof_text(bytes).is_ok();
+    let proof = if !is_proof(&bytes) && is_proof(rest) { rest } else { &bytes };
+    Ok(Held::in_bytes(file, proof))
 }
 
 /// The limits that a file holds.

@@ -7,7 +7,7 @@
 //! `manuals` the options against the documents. The others run the command: `statuses` for its exit
 //! status, `mistakes` for what it says of texts that can't be read, `writes` for what it leaves in
 //! files, `machines` for its JSON, read by `json`, `pictures` for its pictures, read by `xml`,
-//! `batches` for its batches. `binary` runs it.
+//! `batches` for its batches, `walk` for what README shows of it. `binary` runs it.
 
 mod advice;
 mod batches;
@@ -20,6 +20,7 @@ mod pictures;
 mod round_trips;
 mod statuses;
 mod table;
+mod walk;
 mod writes;
 mod xml;
 
@@ -42,5 +43,6 @@ fn main() -> ExitCode {
     machines::run(&mut report);
     pictures::run(&mut report);
     batches::run(&mut report);
+    walk::run(&mut report);
     report.end()
 }

@@ -25,6 +25,7 @@ fn are_written() -> Outcome {
     equal("the exact proof", &sheet[32..].to_vec(), &folder.read("exact"))?;
     equal("the page", &files::read("examples/G.page")?, &folder.read("page"))?;
     binary::run(&["check", "examples/G.sheet", &exact]).ends_with(0)?;
+    binary::run(&["check", "examples/G.sheet", "examples/H.sheet"]).ends_with(0)?;
     equal("the files", &names(&["exact", "page"]), &folder.names())
 }
 
