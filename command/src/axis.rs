@@ -67,12 +67,6 @@ impl Axis {
     }
 }
 
-/// A variable, with what the mask says of it.
-pub fn named(variable: usize, mask: u8) -> String {
-    let sign = if mask >> variable & 1 == 1 { ", which is never negative" } else { "" };
-    format!("variable {variable}{sign}")
-}
-
 /// An axis has at most about so many steps.
 const MOST_STEPS: i128 = 10;
 

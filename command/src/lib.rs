@@ -116,6 +116,6 @@ fn help() -> String {
     for subcommand in SUBCOMMANDS {
         help.push_str(&format!("  {:<10}{}\n", subcommand.name, subcommand.summary));
     }
-    help + "\n`burmelox SUBCOMMAND --help` tells more; `burmelox --version` prints the version.\n\
+    help + "\n`burmelox SUBCOMMAND --help` tells more, `burmelox --version` the version.\n\
             Status 0: accepted or done; 1: refused; 2: trouble.\n"
 }

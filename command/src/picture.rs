@@ -1,7 +1,7 @@
 //! `burmelox picture`: a claim in two variables with its proof, or a claim along one variable.
 
 use crate::arguments::{Arguments, Opt, Subcommand};
-use crate::axis::{exact, named};
+use crate::axis::exact;
 use crate::curve_picture::{self, Sample};
 use crate::fault::Blamed;
 use crate::files::{Inputs, Staged};
@@ -18,7 +18,7 @@ pub const SUBCOMMAND: Subcommand = Subcommand {
     name: "picture",
     operands: "CLAIM [PROOF]",
     count: 1..=2,
-    summary: "Draws a claim's points and the rows between them, or its values, as SVG.",
+    summary: "Draws the points of a claim and the rows between them, or its values.",
     about: "\
 Of a claim in two variables: its points with their coefficients, a pair of the
 proof as a line with its midpoint marked, a lone row as a ring. Without PROOF
@@ -30,8 +30,8 @@ the others fixed, as the library evaluates them. A picture is no verdict.
         Opt::new("-o", "FILE", "the picture; it has to be named"),
         Opt::new("--along", "I", "draw the values along variable I, counted from 0"),
         Opt::new("--at", "X0,X1,..", "an offset for each variable; that of I is not used"),
-        Opt::new("--from", "A", "the first offset of I; without it -10, or 0 where I is masked"),
-        Opt::new("--to", "B", "the last offset of I; without it 10"),
+        Opt::new("--from", "A", "the first offset; without it -10, or 0 where I is masked"),
+        Opt::new("--to", "B", "the last offset; without it 10"),
     ],
     run,
 };
@@ -129,12 +129,11 @@ fn values(arguments: &Arguments, contents: &Contents, variable: usize) -> Result
         ));
     }
     let fixed = fixed(arguments, n)?;
-    let is_masked = claim.mask >> variable & 1 == 1;
-    let samples: Vec<Sample> = offsets(arguments, is_masked)?
+    let samples: Vec<Sample> = offsets(arguments, claim.is_masked(variable))?
         .into_iter()
         .map(|offset| (offset, value(&claim, &fixed, variable, offset)))
         .collect();
-    let axis = named(variable, claim.mask);
+    let axis = claim.named(variable);
     Ok(curve_picture::svg(&samples, claim.floor, &axis, &title(&fixed, variable)))
 }
 

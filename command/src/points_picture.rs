@@ -1,6 +1,6 @@
 //! The picture of a claim in two variables: its points, and a proof's rows between them.
 
-use crate::axis::{exact, named, width, Axis};
+use crate::axis::{exact, width, Axis};
 use crate::sheet::{bracketed, Claim, Point, Proof, Row};
 use crate::svg::{Picture, BOTTOM, GREY, INK, LEFT, RED, TOP};
 use std::collections::BTreeMap;
@@ -26,7 +26,7 @@ pub fn svg(claim: &Claim, proof: Option<&Proof>) -> String {
     let plane = Plane::around(claim, rows);
     let mut picture = Picture::new();
     picture.heading(&claim_title(claim), &proof.map_or(String::new(), proof_title));
-    plane.draw_axes(&mut picture, claim.mask);
+    plane.draw_axes(&mut picture, claim);
     plane.draw_pairs(&mut picture, rows);
     plane.draw_points(&mut picture, claim, rows);
     plane.draw_lone_rows(&mut picture, rows);
@@ -123,11 +123,11 @@ impl Plane {
         (self.across.at(point[0].into()), self.up.at(point[1].into()))
     }
 
-    fn draw_axes(&self, picture: &mut Picture, mask: u8) {
+    fn draw_axes(&self, picture: &mut Picture, claim: &Claim) {
         self.across.draw_across(picture);
         self.up.draw_up(picture, RIGHT);
         picture.frame(RIGHT);
-        let name = |variable| format!("exponent of {}", named(variable, mask));
+        let name = |variable| format!("exponent of {}", claim.named(variable));
         picture.axis_names(&name(0), &name(1), RIGHT);
     }
 

@@ -118,11 +118,21 @@ impl Claim {
         term.map_or(0, |term| term.coefficient)
     }
 
+    /// The mask says that the variable is never negative.
+    pub fn is_masked(&self, variable: usize) -> bool {
+        variable < 8 && self.mask >> variable & 1 == 1
+    }
+
+    /// A variable, with what the mask says of it.
+    pub fn named(&self, variable: usize) -> String {
+        let sign = if self.is_masked(variable) { ", which is never negative" } else { "" };
+        format!("variable {variable}{sign}")
+    }
+
     /// The variables with an odd exponent that may be negative.
     pub fn odd_unmasked(&self, point: &Point) -> Vec<usize> {
         let is_odd = |&variable: &usize| point[variable] % 2 == 1;
-        let is_masked = |variable: usize| variable < 8 && self.mask >> variable & 1 == 1;
-        (0..point.len()).filter(is_odd).filter(|&variable| !is_masked(variable)).collect()
+        (0..point.len()).filter(is_odd).filter(|&variable| !self.is_masked(variable)).collect()
     }
 }
 

@@ -13,9 +13,7 @@ pub fn run(report: &mut Report) {
 
 /// The usage lines of each subcommand have its options, and no others.
 fn are_told(document: &str) -> Outcome {
-    let text = files::read(document)?;
-    let text = String::from_utf8(text).map_err(|error| error.to_string())?;
-    let usages = usages(&plain(&text));
+    let usages = usages(&plain(&files::read_text(document)?));
     for name in subcommands() {
         let told = usages.iter().filter(|usage| usage.starts_with(&format!("{name} ")));
         let told: BTreeSet<String> = told.flat_map(|usage| options(usage)).collect();

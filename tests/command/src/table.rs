@@ -23,8 +23,7 @@ fn has_every_number() -> Outcome {
 
 /// Each row of the format's table has the number, the sheet and what is wrong as the command does.
 fn is_in_format() -> Outcome {
-    let text = files::read("docs/FORMAT.md")?;
-    let text = String::from_utf8(text).map_err(|error| error.to_string())?;
+    let text = files::read_text("docs/FORMAT.md")?;
     let is_missing = |rule: &&Rule| {
         let Rule { number, sheet, wrong, .. } = rule;
         !text.contains(&format!("\n| {number} | {sheet} | {wrong} |"))

@@ -14,8 +14,7 @@ pub fn run(report: &mut Report) {
 }
 
 fn is_as_told() -> Outcome {
-    let readme = String::from_utf8(files::read("README.md")?).map_err(|error| error.to_string())?;
-    let blocks = blocks(&readme, "## From decimals to a loaded curve");
+    let blocks = blocks(&files::read_text("README.md")?, "## From decimals to a loaded curve");
     let (text, sessions) = blocks.split_first().ok_or("the walk has no block")?;
     let folder = Folder::new("walk");
     folder.write("curve.txt", text);

@@ -12,6 +12,11 @@ pub fn read(name: &str) -> Result<Vec<u8>, String> {
     fs::read(path(name)).map_err(|error| format!("{name}: {error}"))
 }
 
+/// A file that is a text.
+pub fn read_text(name: &str) -> Result<String, String> {
+    String::from_utf8(read(name)?).map_err(|error| format!("{name}: {error}"))
+}
+
 /// The examples whose names end so, in their order.
 pub fn examples(endings: &[&str]) -> Vec<String> {
     let entries = fs::read_dir(path("examples")).expect("the examples are there");
