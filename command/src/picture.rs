@@ -27,7 +27,7 @@ With --along, of any claim: its values along one variable against the floor,
 the others fixed, as the library evaluates them. A picture is no verdict.
 ",
     options: &[
-        Opt::new("-o", "FILE", "the picture; it has to be named"),
+        Opt::new("-o", "FILE", "the picture, an SVG; it has to be named"),
         Opt::new("--along", "I", "draw the values along variable I, counted from 0"),
         Opt::new("--at", "X0,X1,..", "an offset for each variable; that of I is not used"),
         Opt::new("--from", "A", "the first offset; without it -10, or 0 where I is masked"),
