@@ -1,5 +1,7 @@
-//! Proofs with weights in decimals, as a numeric solver prints them: those from the source papers,
-//! and the posts'. Taken times the scale and rounded, they are the weights of the examples.
+//! Proofs with weights in decimals, in the form in which a numeric solver prints them: of the
+//! polynomials from the source papers, and of the posts. Taken times the scale and rounded, they are
+//! the weights of the examples. No solver's run stands behind them, and the papers print bounds but
+//! no such weights: they were written for the examples.
 
 /// The text of the proof, for the examples that have such a one.
 pub fn proof(name: &str) -> Option<&'static str> {
