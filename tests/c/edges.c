@@ -1,7 +1,7 @@
 /*
  * The header's macros at the edges, null pointers with length 0, as C++ and Python hand them over, a check
- * that its limits let pass, one that the least profile lets pass, checks with a page, and searches and a
- * profile out of range that are refused and store nothing.
+ * that its limits let pass, one that the least profile lets pass, checks with a page, searches and a profile
+ * out of range that are refused and store nothing, and texts in buffers that are long enough and too short.
  */
 #include "burmelox.h"
 #include <inttypes.h>
@@ -34,6 +34,7 @@ static const struct burmelox_profile too_many = {0, 1, BURMELOX_MOST_ROWS + 1};
 
 static uint8_t output[sizeof proof];
 static uint8_t page[BURMELOX_PAGE_LENGTH];
+static uint8_t text[BURMELOX_MOST_LIMITS_TEXT];
 static int64_t found = 8;
 static uint32_t tried = 9;
 
@@ -57,6 +58,35 @@ static uint64_t search(int64_t lo, int64_t hi, struct burmelox_profile profile) 
 
 static void print_found(void) {
     printf("floor %" PRId64 ", tried %" PRIu32 "\n", found, tried);
+}
+
+/* Prints the answer to a text, and the text where there is one. */
+static void print_text(const char *call, uint64_t answer) {
+    print(call, answer);
+    if (BURMELOX_ACCEPTED(answer)) {
+        fwrite(text, 1, (size_t)answer, stdout);
+    }
+}
+
+/* Texts: of nothing, in no buffer, in one that is a byte too short and in one that is just long enough. */
+static void print_texts(void) {
+    const size_t exact = 33;
+
+    print_text("no claim as text", burmelox_claim_text(NULL, 0, NULL, 0));
+    print_text("no proof as text", burmelox_proof_text(NULL, 0, NULL, 0));
+    print_text("no limits as text", burmelox_limits_text(NULL, 0, NULL, 0));
+    print_text("too many rows as text", burmelox_profile_text(too_many, NULL, 0));
+    print_text("no buffer for a claim", burmelox_claim_text(claim, sizeof claim, NULL, 0));
+    print_text("no buffer for a proof", burmelox_proof_text(proof, sizeof proof, NULL, 0));
+    print_text("no buffer for limits", burmelox_limits_text(limits, sizeof limits, NULL, 0));
+    print_text("no buffer for a profile", burmelox_profile_text(least, NULL, 0));
+    print_text("one byte too few", burmelox_claim_text(claim, sizeof claim, text, exact - 1));
+    printf("first byte of the text %d\n", text[0]);
+    print_text("claim", burmelox_claim_text(claim, sizeof claim, text, exact));
+    printf("byte after the text %d\n", text[exact]);
+    print_text("proof", burmelox_proof_text(proof, sizeof proof, text, sizeof text));
+    print_text("limits", burmelox_limits_text(within_3, sizeof within_3, text, sizeof text));
+    print_text("profile", burmelox_profile_text(full, text, BURMELOX_MOST_PROFILE_TEXT));
 }
 
 int main(void) {
@@ -102,8 +132,11 @@ int main(void) {
     print_found();
     print("last floor", search(0, BURMELOX_GREATEST_SPAN, least));
     print_found();
+    print_texts();
     printf("greatest lengths %zu, %zu and %zu\n", BURMELOX_MOST_CLAIM, BURMELOX_MOST_PROOF,
            BURMELOX_MOST_LIMITS);
+    printf("greatest lengths of texts %d, %d, %d and %d\n", BURMELOX_MOST_CLAIM_TEXT,
+           BURMELOX_MOST_PROOF_TEXT, BURMELOX_MOST_LIMITS_TEXT, BURMELOX_MOST_PROFILE_TEXT);
     printf("page of %d lines of %d characters, %d bytes\n", BURMELOX_PAGE_LINES, BURMELOX_PAGE_WIDTH,
            BURMELOX_PAGE_LENGTH);
     print("last row", (uint64_t)BURMELOX_PROOF << 32 | BURMELOX_CROSS_TOO_LARGE << 16 | 255);

@@ -7,8 +7,9 @@
 //! library the full profile, whose numbers the methods in Rust have as constants. `judging` is
 //! common to both checks in Rust, `scanning` and `hashed` find the shifted weights; `searching` and
 //! `evaluation` are the library's methods for floors and values. `timing` takes the CPU time of the
-//! thread.
+//! thread. `batches` times the command's batches, with one job and with all cores, by the clock.
 
+mod batches;
 mod evaluation;
 mod fields;
 mod hashed;
@@ -49,6 +50,7 @@ fn main() {
         "search of 4,096 floors, n 8", "library", "same method", "naive walk"
     );
     SEARCH_LAYOUTS.iter().for_each(time_searches);
+    batches::time(&LAYOUTS[0]);
 }
 
 /// Accepted proofs, judged and written.

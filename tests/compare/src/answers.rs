@@ -1,7 +1,7 @@
 //! One case, answered by the oracle and by the library or the program.
 
 use crate::program;
-use crate::report::Outcome;
+use harness::report::Outcome;
 use oracle::{Accepted, Found, Integer, Paged, Refusal};
 use refusals::EntryPoint;
 use sheets::random::Rng;
@@ -25,7 +25,8 @@ pub fn compare(
         EntryPoint::PageCheck => check_page(case, rng)?.verdict.err(),
         EntryPoint::Evaluation => evaluate(case, rng)?.err(),
         EntryPoint::Search => search(case, rng)?.err(),
-        EntryPoint::Program => text(case)?.err(),
+        EntryPoint::Program => printed(case)?.err(),
+        text => listing(text, case, rng)?.err(),
     })
 }
 
@@ -149,11 +150,46 @@ fn evaluate(case: &Case, rng: &mut Rng) -> Compared<Integer> {
     Ok(exact)
 }
 
-/// Compares the text that the program prints. It is given neither the limits nor the profile.
-fn text(case: &Case) -> Compared<Accepted> {
+/// Compares a text by the library: its answer and every byte of the buffer.
+pub fn listing(entry_point: EntryPoint, case: &Case, rng: &mut Rng) -> Compared<String> {
+    let room = case.text_room(&listed(entry_point, case, usize::MAX));
+    let text = listed(entry_point, case, room);
+    let mut buffer = Buffer::new(rng, room);
+    let answer = list(entry_point, case, buffer.lent());
+
+    same("length of the text", &code(text.as_ref(), |text| text.len() as u64), &answer, case)?;
+    let written = text.as_deref().unwrap_or_default();
+    buffer.compare("text", written.as_bytes(), case)?;
+    Ok(text)
+}
+
+/// The oracle's text of a sheet or of the profile, for a buffer of `room` bytes.
+fn listed(entry_point: EntryPoint, case: &Case, room: usize) -> Result<String, Refusal> {
+    match entry_point {
+        EntryPoint::ClaimText => oracle::claim_text(&case.claim, room),
+        EntryPoint::ProofText => oracle::proof_text(&case.proof, room),
+        EntryPoint::LimitsText => oracle::limits_text(&case.limits, room),
+        EntryPoint::ProfileText => oracle::profile_text(case.profile, room),
+        other => panic!("{other:?} writes no text"),
+    }
+}
+
+/// Has the library write that text.
+pub fn list(entry_point: EntryPoint, case: &Case, buffer: &mut [u8]) -> u64 {
+    match entry_point {
+        EntryPoint::ClaimText => burmelox::claim_text(&case.claim, buffer),
+        EntryPoint::ProofText => burmelox::proof_text(&case.proof, buffer),
+        EntryPoint::LimitsText => burmelox::limits_text(&case.limits, buffer),
+        EntryPoint::ProfileText => burmelox::profile_text(case.profile, buffer),
+        other => panic!("{other:?} writes no text"),
+    }
+}
+
+/// Compares what the program prints. It is given neither the limits nor the profile.
+fn printed(case: &Case) -> Compared<Accepted> {
     let input = case.input();
     let verdict = oracle::verdict(&input);
-    same("text", &oracle::printed(&verdict), &program::print(&input)?, case)?;
+    same("printed text", &oracle::printed(&verdict), &program::print(&input)?, case)?;
     Ok(verdict)
 }
 
@@ -164,7 +200,7 @@ fn same<T: PartialEq + Display>(what: &str, oracle: &T, other: &T, case: &Case) 
     Err(format!(
         "{what} differs\noracle   {oracle}\nanswered {other}\nclaim    {}\nproof    {}\n\
          limits   {}\nprofile  {:?}\noutput   of {} bytes\npage     of {} bytes\n\
-         offsets  {:?}\nfloors   from {} to {}",
+         offsets  {:?}\nfloors   from {} to {}\nbuffers  with {} bytes to spare",
         Hex(&case.claim),
         Hex(&case.proof),
         Hex(&case.limits),
@@ -173,7 +209,8 @@ fn same<T: PartialEq + Display>(what: &str, oracle: &T, other: &T, case: &Case) 
         case.page,
         case.offsets,
         case.lo,
-        case.hi
+        case.hi,
+        case.spare
     ))
 }
 

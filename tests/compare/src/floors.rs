@@ -3,7 +3,7 @@
 //! cannot tell, a masked cube and a limited square what a floor leaves open.
 
 use crate::answers;
-use crate::report::{equal, Outcome, Report};
+use harness::report::{equal, Outcome, Report};
 use oracle::{Integer, Sides};
 use sheets::limited::minus_square;
 use sheets::masked::cube;

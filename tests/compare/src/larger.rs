@@ -1,7 +1,7 @@
 //! Larger profiles: what the library does not refuse under a profile it answers alike under every
 //! larger one in range, and writes the same bytes. No oracle is asked.
 
-use crate::report::{equal, Outcome, Report};
+use harness::report::{equal, Outcome, Report};
 use sheets::random::{larger, Kind, Rng};
 use sheets::{Case, Profile};
 use std::fmt::Debug;

@@ -2,7 +2,7 @@
 //! masked and with all.
 
 use crate::answers;
-use crate::report::{equal, Outcome, Report};
+use harness::report::{equal, Outcome, Report};
 use sheets::random::Rng;
 use sheets::{Case, Claim, Limit, Limits, Proof, Row, MOST};
 

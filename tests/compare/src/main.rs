@@ -5,25 +5,25 @@
 //!
 //! `named` has the tests of single sheets, `limits` those of all fields of limits sheets, `pages`
 //! those of pages, `profiles` those of profiles, `larger` what larger ones leave as it is,
-//! `documents` the tables in other files, `floors` what a floor means, `random` each kind of random
-//! cases, `answers` the comparison itself. The program is the one that `rt check burmelox_check`
-//! writes, or that BURMELOX_PROGRAM names. `--library` leaves it out of the random cases.
+//! `listings` the texts of sheets and profiles, `documents` the tables in other files, `floors` what
+//! a floor means, `random` each kind of random cases, `answers` the comparison itself. The program
+//! is the one that `rt check burmelox_check` writes, or that BURMELOX_PROGRAM names. `--library`
+//! leaves it out of the random cases.
 
 mod answers;
 mod documents;
-mod files;
 mod floors;
 mod larger;
 mod limits;
+mod listings;
 mod named;
 mod pages;
 mod profiles;
 mod program;
 mod random;
-mod report;
 
+use harness::report::Report;
 use refusals::{EntryPoint::Program, LIBRARY};
-use report::Report;
 use std::process::ExitCode;
 
 fn main() -> ExitCode {
@@ -44,15 +44,11 @@ fn main() -> ExitCode {
     pages::run(&mut report);
     profiles::run(&mut report);
     larger::run(&mut report);
+    listings::run(&mut report);
     documents::run(&mut report);
     floors::run(&mut report);
     random::run(&mut report, &options);
-    println!("{} passed, {} failed", report.passed, report.failed);
-    if report.failed == 0 {
-        ExitCode::SUCCESS
-    } else {
-        ExitCode::FAILURE
-    }
+    report.end()
 }
 
 /// The options in the arguments: the seed is fixed unless one is given.

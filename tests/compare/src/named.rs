@@ -1,15 +1,16 @@
 //! Tests of single sheets: the examples, the table of refusals, masks, searches, the program's
 //! input, C.
 
-use crate::report::{equal, Outcome, Report};
-use crate::{answers, files, program};
+use crate::{answers, program};
+use harness::files;
+use harness::report::{equal, Outcome, Report};
 use oracle::{Refusal, Verdict};
-use refusals::EntryPoint;
+use refusals::{EntryPoint, TEXTS};
 use sheets::limited::{self, LimitedExample};
 use sheets::random::Rng;
 use sheets::searches::{searches, Found, Search};
 use sheets::worked::{power_claim, square_input, SQUARE_CUTS};
-use sheets::{table, Case, Claim, Example, Profile, Proof, Row};
+use sheets::{table, texts, Case, Claim, Example, Profile, Proof, Row};
 use std::process::Command;
 use std::{env, fs, process};
 
@@ -52,7 +53,27 @@ const C_PROGRAMS: [(&str, &str); 2] = [
          floor 8, tried 9\n\
          last floor: 0\n\
          floor 0, tried 4096\n\
+         no claim as text: refused 1 at 0, sheet 1\n\
+         no proof as text: refused 8 at 0, sheet 2\n\
+         no limits as text: refused 24 at 0, sheet 6\n\
+         too many rows as text: refused 27 at 0, sheet 8\n\
+         no buffer for a claim: refused 30 at 0, sheet 9\n\
+         no buffer for a proof: refused 30 at 0, sheet 9\n\
+         no buffer for limits: refused 30 at 0, sheet 9\n\
+         no buffer for a profile: refused 30 at 0, sheet 9\n\
+         one byte too few: refused 30 at 0, sheet 9\n\
+         first byte of the text 0\n\
+         claim: 33\n\
+         claim\nvariables 1\nmask 0\nfloor 0\n\
+         byte after the text 0\n\
+         proof: 26\n\
+         proof\nvariables 1\nscale 1\n\
+         limits: 59\n\
+         limits\nvariables 1\nvariable 0 power 2 limit 3 multiplier 1\n\
+         profile: 48\n\
+         profile\nexponent 120\nweight 1073741824\nrows 256\n\
          greatest lengths 776, 7176 and 57\n\
+         greatest lengths of texts 4781, 31520, 395 and 48\n\
          page of 40 lines of 72 characters, 2920 bytes\n\
          last row: refused 19 at 255, sheet 2\n\
          most rows: 256\n",
@@ -68,8 +89,13 @@ pub fn run(report: &mut Report) {
     for example in &limited {
         report.add(&format!("example {}", example.example.name), shows_limited(example));
     }
-    report.add("no other examples", are_all("sheet", examples.len() + limited.len()));
+    let sheets = examples.iter().chain(limited.iter().map(|limited| &limited.example));
+    let texts =
+        sheets.filter_map(texts::of_sheet).chain(limited.iter().filter_map(texts::of_limits));
+    let (count, texts) = (examples.len() + limited.len(), texts.count());
+    report.add("no other examples", are_all("sheet", count));
     report.add("no other examples with limits", are_all("limits", limited.len()));
+    report.add("no other texts beside the examples", are_all("txt", count + texts));
     for entry in table::entries() {
         report.add(&format!("table {}", entry.number), refuses(&entry));
     }
@@ -104,20 +130,32 @@ fn shows_limited(limited: &LimitedExample) -> Outcome {
     let (example, case) = (&limited.example, limited.case());
     has_files(example)?;
     equal("the limits' file", &case.limits, &file_of(example, "limits")?)?;
+    has_text(example, "limits.txt", texts::of_limits(limited))?;
     equal("the text", &example.text, &&oracle::printed(&checked(&case)?)[..])?;
     answers::compare(EntryPoint::Program, &case, &mut Rng::new(0)).map(|_| ())
 }
 
-/// The verdict of the library's check, which is the same with a page.
+/// The verdict of the library's check, which is the same with a page. The texts are the oracle's too.
 fn checked(case: &Case) -> Result<Verdict, String> {
-    answers::check_page(case, &mut Rng::new(0))?;
-    answers::check(case, &mut Rng::new(0))
+    let mut rng = Rng::new(0);
+    for text in TEXTS {
+        answers::compare(text, case, &mut rng)?;
+    }
+    answers::check_page(case, &mut rng)?;
+    answers::check(case, &mut rng)
 }
 
 /// The sheet and the text among the files are the example's.
 fn has_files(example: &Example) -> Outcome {
     equal("the sheet's file", &example.input(), &file_of(example, "sheet")?)?;
+    has_text(example, "sheet.txt", texts::of_sheet(example))?;
     equal("the text's file", &example.text.as_bytes(), &&file_of(example, "txt")?[..])
+}
+
+/// The text of a sheet among the files is the one that there is, or there is none.
+fn has_text(example: &Example, extension: &str, text: Option<String>) -> Outcome {
+    let file = file_of(example, extension).ok();
+    equal("the text of a sheet", &text.map(String::into_bytes), &file)
 }
 
 pub fn file_of(example: &Example, extension: &str) -> Result<Vec<u8>, String> {

@@ -3,7 +3,7 @@
 
 use crate::answers;
 use crate::named::{are_all, file_of};
-use crate::report::{equal, Outcome, Report};
+use harness::report::{equal, Outcome, Report};
 use oracle::Refusal;
 use sheets::pages::{self, lone_rows, PagedExample};
 use sheets::random::Rng;

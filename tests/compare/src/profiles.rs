@@ -2,9 +2,9 @@
 //! need of it.
 
 use crate::answers;
-use crate::report::{equal, Outcome, Report};
+use harness::report::{equal, Outcome, Report};
 use oracle::Refusal;
-use refusals::{EntryPoint, LIBRARY};
+use refusals::{rule, EntryPoint, LIBRARY};
 use sheets::pages::lone_rows;
 use sheets::profiles::{cases, Profiled, OUT_OF_RANGE};
 use sheets::random::Rng;
@@ -43,11 +43,11 @@ fn squares() -> [Case; 2] {
     [square_case(), Case { claim: vec![], ..square_case() }]
 }
 
-/// Every entry point refuses the profile, whatever the claim is.
+/// Every entry point that reads the profile refuses it, whatever the claim is.
 fn is_refused(profile: Profile) -> Outcome {
     for case in squares() {
         let case = case.under(profile);
-        for entry_point in LIBRARY {
+        for &entry_point in rule(27).entry_points {
             let refusal = answers::compare(entry_point, &case, &mut Rng::new(0))?;
             equal(&format!("{entry_point:?}"), &Some(Refusal { number: 27, index: 0 }), &refusal)?;
         }

@@ -1,9 +1,9 @@
 //! Random cases of every kind, held against the library and the program.
 
 use crate::answers;
-use crate::report::{Outcome, Report};
+use harness::report::{Outcome, Report};
 use refusals::EntryPoint::{self, Check, Evaluation, PageCheck, Program, Search};
-use refusals::{BY_PROFILE, LIBRARY};
+use refusals::{rule, BY_PROFILE, TEXTS};
 use sheets::random::{Kind, Rng};
 use sheets::{Case, Profile};
 use std::collections::BTreeMap;
@@ -15,7 +15,7 @@ pub struct Options {
     pub entry_points: Vec<EntryPoint>,
 }
 
-/// An entry point, and the number that it ended with; 0 stands for acceptances and values.
+/// An entry point, and the number that it ended with; 0 stands for acceptances, values and texts.
 type Met = (EntryPoint, u32);
 
 /// How often each entry point ended with each number, and how often it did so by the profile alone.
@@ -66,7 +66,7 @@ fn run_case(
     Ok(())
 }
 
-/// The number that the case comes to, 0 where it is accepted or has a value.
+/// The number that the case comes to, 0 where it is accepted or has a value or a text.
 fn number(entry_point: EntryPoint, case: &Case, rng: &mut Rng) -> Result<u32, String> {
     let refusal = answers::compare(entry_point, case, rng)?;
     Ok(refusal.map_or(0, |refusal| refusal.number))
@@ -111,6 +111,9 @@ impl Counts {
         println!("the same with a page: {}", line(PageCheck));
         println!("the library's evaluations by number, 0 for a value: {}", line(Evaluation));
         println!("the library's searches by number, 0 for a floor: {}", line(Search));
+        for text in TEXTS {
+            println!("its {text:?} by number, 0 for a text: {}", list(&self.all, text));
+        }
         if entry_points.contains(&Program) {
             println!("the program by number, 0 for accepted: {}", list(&self.all, Program));
         } else {
@@ -118,16 +121,17 @@ impl Counts {
         }
     }
 
-    /// Each entry point met every number that it says, and accepted or gave values.
+    /// Each entry point met every number that it says, and accepted or gave values or texts.
     fn are_complete(&self, entry_points: &[EntryPoint]) -> Outcome {
         let numbers = |at| [0].into_iter().chain(refusals::said_by(at)).map(move |n| (at, n));
         are_met(entry_points.iter().flat_map(|&at| numbers(at)), &self.all)
     }
 
-    /// Each of the library's entry points met by the profile alone every number that goes by it.
+    /// What reads a profile met by it alone every number that goes by it.
     fn are_complete_by_profile(&self) -> Outcome {
         let read = |at| refusals::said_by(at).filter(|number| BY_PROFILE.contains(number));
-        let numbers = LIBRARY.into_iter().flat_map(|at| read(at).map(move |n| (at, n)));
+        let readers = rule(27).entry_points;
+        let numbers = readers.iter().flat_map(|&at| read(at).map(move |n| (at, n)));
         are_met(numbers, &self.by_profile)
     }
 }

@@ -7,7 +7,7 @@ use site::Profile;
 /// A claim: the polynomial as its terms, the variables that are never negative, and the floor.
 pub struct Claim {
     pub variables: usize,
-    mask: u8,
+    pub mask: u8,
     pub floor: i32,
     pub terms: Vec<(Point, i32)>,
 }

@@ -4,7 +4,7 @@
 //! number that is computed is an [`Integer`]. One module a section: `claim`, `proof`, `check`
 //! (targets, sharing, judging), `evaluate`, `text` (what the program prints). Of document 02,
 //! note 1 is `search`, note 4 `limits`, note 5 `fractions`, note 6 `page`, note 7 `profile`, and
-//! the mask of note 3 is in `claim`.
+//! the mask of note 3 is in `claim`. `listing` has the sheets as text.
 
 mod check;
 mod claim;
@@ -12,6 +12,7 @@ mod evaluate;
 mod fractions;
 mod integer;
 mod limits;
+mod listing;
 mod page;
 mod profile;
 mod proof;
@@ -23,6 +24,7 @@ pub use check::{check, check_unlimited};
 pub use evaluate::evaluate;
 pub use fractions::{sides, Sides};
 pub use integer::Integer;
+pub use listing::{claim_text, limits_text, profile_text, proof_text};
 pub use page::{check_page, Paged};
 pub use search::{search, Found};
 pub use text::{printed, text, verdict};

@@ -5,10 +5,10 @@ use crate::verdict::{refuse_at, refuse_if, Refusal};
 use crate::{words, Integer, Point};
 
 /// What the sheet says of a variable; with power 0 the variable is unlimited.
-struct Limit {
-    power: u8,
-    limit: u16,
-    multiplier: u32,
+pub struct Limit {
+    pub power: u8,
+    pub limit: u16,
+    pub multiplier: u32,
 }
 
 /// The limits of a claim's variables, in their order. Without any, no variable is limited.
@@ -37,10 +37,14 @@ impl Limit {
 }
 
 impl Limits {
+    /// The variables that are limited, with their limits.
+    pub fn limited(&self) -> impl Iterator<Item = (usize, &Limit)> {
+        self.0.iter().enumerate().filter(|(_, limit)| limit.power > 0)
+    }
+
     /// What each limited variable's limit does to the targets.
     pub fn added(&self) -> impl Iterator<Item = Added> + '_ {
-        let variables = self.0.iter().enumerate().filter(|(_, limit)| limit.power > 0);
-        variables.map(|(variable, limit)| {
+        self.limited().map(|(variable, limit)| {
             let mut pure_power = vec![0; self.0.len()];
             pure_power[variable] = limit.power;
             let rise = Integer::from(limit.multiplier);

@@ -6,8 +6,8 @@ use site::Profile;
 
 /// A row: two points and the weights p, q, r proposed for it.
 pub struct Row {
-    v: Point,
-    w: Point,
+    pub v: Point,
+    pub w: Point,
     pub weights: [i32; 3],
 }
 
@@ -18,7 +18,7 @@ impl Row {
         self.v.iter().zip(&self.w).map(half).collect()
     }
 
-    fn is_lone(&self) -> bool {
+    pub fn is_lone(&self) -> bool {
         self.v == self.w
     }
 

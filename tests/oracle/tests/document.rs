@@ -54,6 +54,7 @@ fn refusals_blame_a_sheet() {
         (Sheet::Limits, vec![24, 25]),
         (Sheet::Page, vec![26]),
         (Sheet::Profile, vec![27]),
+        (Sheet::Buffer, vec![30]),
     ];
     for (sheet, numbers) in blamed {
         for number in numbers {
@@ -75,6 +76,10 @@ fn entry_points_say_their_numbers_in_the_order_of_checks() {
     assert!(said(EntryPoint::Evaluation).eq([27].into_iter().chain(1..=7).chain([20, 21])));
     assert!(said(EntryPoint::Search).eq(to_15().chain([22, 23])));
     assert!(said(EntryPoint::Program).eq((1..=10).chain(12..=19)));
+    assert!(said_by(EntryPoint::ClaimText).eq((1..=7).chain([30])));
+    assert!(said_by(EntryPoint::ProofText).eq((8..=10).chain(12..=15).chain([30])));
+    assert!(said_by(EntryPoint::LimitsText).eq([24, 25, 30]));
+    assert!(said_by(EntryPoint::ProfileText).eq([27, 30]));
 }
 
 #[test]

@@ -2,7 +2,8 @@
 //! the order of checks. A request that adds a number adds a row here.
 
 use EntryPoint::{Check, Evaluation, PageCheck, Program, Search};
-use Sheet::{Claim, Limits, Offsets, Output, Page, Profile, Proof, Range};
+use EntryPoint::{ClaimText, LimitsText, ProfileText, ProofText};
+use Sheet::{Buffer, Claim, Limits, Offsets, Output, Page, Profile, Proof, Range};
 
 /// The sheet at fault, numbered as the library's answers have it.
 #[derive(Clone, Copy, Debug, PartialEq, Eq)]
@@ -21,18 +22,26 @@ pub enum Sheet {
 }
 
 /// Where refusals are said: the library's check, the same with a page, its evaluation, its search,
-/// and the program.
+/// its texts of the sheets and of a profile, and the program.
 #[derive(Clone, Copy, Debug, PartialEq, Eq, PartialOrd, Ord)]
 pub enum EntryPoint {
     Check,
     PageCheck,
     Evaluation,
     Search,
+    ClaimText,
+    ProofText,
+    LimitsText,
+    ProfileText,
     Program,
 }
 
 /// The library's entry points.
-pub const LIBRARY: [EntryPoint; 4] = [Check, PageCheck, Evaluation, Search];
+pub const LIBRARY: [EntryPoint; 8] =
+    [Check, PageCheck, Evaluation, Search, ClaimText, ProofText, LimitsText, ProfileText];
+
+/// Those that write a text. They read one sheet each, under the full profile.
+pub const TEXTS: [EntryPoint; 4] = [ClaimText, ProofText, LimitsText, ProfileText];
 
 /// A row of the table.
 pub struct Rule {
@@ -52,12 +61,18 @@ impl Rule {
 }
 
 /// What reads a claim.
-const CLAIM_READERS: &[EntryPoint] = &[Check, PageCheck, Evaluation, Search, Program];
+const CLAIM_READERS: &[EntryPoint] = &[Check, PageCheck, Evaluation, Search, ClaimText, Program];
 
 /// What reads a proof.
-const PROOF_READERS: &[EntryPoint] = &[Check, PageCheck, Search, Program];
+const PROOF_READERS: &[EntryPoint] = &[Check, PageCheck, Search, ProofText, Program];
 
-/// What is handed limits and an output too: the library's checks, of one floor or of several.
+/// What reads limits.
+const LIMITS_READERS: &[EntryPoint] = &[Check, PageCheck, Search, LimitsText];
+
+/// What reads a profile.
+const PROFILE_READERS: &[EntryPoint] = &[Check, PageCheck, Evaluation, Search, ProfileText];
+
+/// What is handed an output: the library's checks, of one floor or of several.
 const LIBRARY_CHECKS: &[EntryPoint] = &[Check, PageCheck, Search];
 
 /// What judges a proof of one floor. A search says none of why a floor is refused.
@@ -65,12 +80,13 @@ const JUDGES: &[EntryPoint] = &[Check, PageCheck, Program];
 
 /// The rules in the order of their checks: the place in this list is the place in that order, and
 /// the number says nothing of it: 26 and 27 stand before 1, 24 and 25 after 10, and 22 after 15.
-/// Later requests put 38 before 26, 39 between 10 and 24, and 34 between 12 and 13. The program
-/// never says 11, since its output is as long as the proof, nor 24 and 25, since it limits no
-/// variable, nor 27, since its profile is the full one.
+/// Later requests put 38 before 26, 39 between 10 and 24, and 34 between 12 and 13. A text goes
+/// through the numbers of its own sheet, and then 30. The program never says 11, since its output
+/// is as long as the proof, nor 24 and 25, since it limits no variable, nor 27, since its profile
+/// is the full one.
 pub const RULES: &[Rule] = &[
     Rule::new(26, Page, &[PageCheck]),
-    Rule::new(27, Profile, &LIBRARY),
+    Rule::new(27, Profile, PROFILE_READERS),
     Rule::new(1, Claim, CLAIM_READERS),
     Rule::new(2, Claim, CLAIM_READERS),
     Rule::new(3, Claim, CLAIM_READERS),
@@ -81,8 +97,8 @@ pub const RULES: &[Rule] = &[
     Rule::new(8, Proof, PROOF_READERS),
     Rule::new(9, Proof, PROOF_READERS),
     Rule::new(10, Proof, PROOF_READERS),
-    Rule::new(24, Limits, LIBRARY_CHECKS),
-    Rule::new(25, Limits, LIBRARY_CHECKS),
+    Rule::new(24, Limits, LIMITS_READERS),
+    Rule::new(25, Limits, LIMITS_READERS),
     Rule::new(11, Output, LIBRARY_CHECKS),
     Rule::new(12, Proof, PROOF_READERS),
     Rule::new(13, Proof, PROOF_READERS),
@@ -96,6 +112,7 @@ pub const RULES: &[Rule] = &[
     Rule::new(20, Offsets, &[Evaluation]),
     Rule::new(21, Claim, &[Evaluation]),
     Rule::new(23, Range, &[Search]),
+    Rule::new(30, Buffer, &TEXTS),
 ];
 
 /// The numbers of the checks that read the profile.

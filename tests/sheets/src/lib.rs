@@ -2,11 +2,14 @@
 //!
 //! `worked`, `masked`, `posts` and `papers` hold sheets with the text the program prints for them,
 //! `limited` those with limits and what a check says of them, `pages` pages of some of them,
-//! `profiles` sheets under profiles, `table` the examples of the table of refusals, `searches`
-//! searches with what they find, `random` the generators.
+//! `profiles` sheets under profiles, `listings` sheets and profiles as text, `table` the examples of
+//! the table of refusals, `searches` searches with what they find, `random` the generators. `texts`
+//! has the examples as text, with the weights of some in `decimals`.
 
+mod decimals;
 pub mod limited;
 pub mod limits;
+pub mod listings;
 pub mod masked;
 pub mod pages;
 pub mod papers;
@@ -15,6 +18,7 @@ pub mod profiles;
 pub mod random;
 pub mod searches;
 pub mod table;
+pub mod texts;
 pub mod worked;
 
 pub use limits::{Limit, Limits};
@@ -78,8 +82,9 @@ pub struct Example {
 
 /// What one test hands to the check (three sheets, a profile and an output of `room` bytes), to the
 /// check with a page (the same, and a page buffer of `page` bytes), to an evaluation (the claim,
-/// the profile and the offsets) and to a search (as to the check, and floors from `lo` to `hi`).
-/// The program is given the claim and the proof alone.
+/// the profile and the offsets), to a search (as to the check, and floors from `lo` to `hi`) and to
+/// the texts (a sheet or the profile, and a buffer with `spare` bytes more than the text has, or
+/// with fewer where that is negative). The program is given the claim and the proof alone.
 #[derive(Clone, Debug)]
 pub struct Case {
     pub claim: Vec<u8>,
@@ -91,6 +96,7 @@ pub struct Case {
     pub offsets: Vec<i32>,
     pub lo: i64,
     pub hi: i64,
+    pub spare: isize,
 }
 
 impl Claim {
@@ -178,14 +184,15 @@ impl Example {
 
 impl Case {
     /// A check with no variable limited, the full profile, an output as long as the proof and a
-    /// page of the right length, an evaluation at zeros, and a search among the claim's own floor
-    /// alone.
+    /// page of the right length, an evaluation at zeros, a search among the claim's own floor
+    /// alone, and buffers as long as their texts.
     pub fn new(claim: &Claim, proof: &Proof) -> Case {
         let (floor, offsets) = (claim.floor.into(), vec![0; claim.n.into()]);
         let limits = Limits::none(claim.n).bytes();
         let (claim, proof) = (claim.bytes(), proof.bytes());
         let (profile, room, page) = (Profile::FULL, proof.len(), PAGE_LENGTH);
-        Case { claim, proof, limits, profile, room, page, offsets, lo: floor, hi: floor }
+        let (lo, hi, spare) = (floor, floor, 0);
+        Case { claim, proof, limits, profile, room, page, offsets, lo, hi, spare }
     }
 
     /// The case with limits.
@@ -201,5 +208,10 @@ impl Case {
     /// The program's input: the claim and directly after it the proof.
     pub fn input(&self) -> Vec<u8> {
         [&self.claim[..], &self.proof].concat()
+    }
+
+    /// The length of the buffer for a text; one that is refused counts as 100 bytes.
+    pub fn text_room<Refusal>(&self, text: &Result<String, Refusal>) -> usize {
+        text.as_ref().map_or(100, String::len).saturating_add_signed(self.spare)
     }
 }

@@ -82,6 +82,7 @@ pub fn entries() -> Vec<Entry> {
         (25, 0, Case { room: 21, ..square_case().limited(&third_power) }),
         (26, 0, Case { claim: vec![], page: PAGE_LENGTH - 1, ..square_case().under(no_weight) }),
         (27, 0, Case { claim: vec![], ..square_case().under(no_weight) }),
+        (30, 0, Case { spare: -1, ..square_case() }),
     ];
     cases.into_iter().map(|(number, index, case)| Entry { number, index, case }).collect()
 }

@@ -1,5 +1,6 @@
 //! Faults put into well-formed sheets, one for each number that the bytes of a single sheet, the
-//! length of output or page, the profile, the ends of a range or the count of offsets can break.
+//! length of output, page or text buffer, the profile, the ends of a range or the count of offsets
+//! can break.
 
 use super::{limits, profiles, ranges, Rng};
 use crate::{Case, Profile, MOST, PAGE_LENGTH};
@@ -37,6 +38,7 @@ const BREAKS: &[(u32, Break)] = &[
     (22, |rng, case| (case.lo, case.hi) = ranges::wrong(rng)),
     (26, |rng, case| case.page = wrong_page_length(rng)),
     (27, |rng, case| case.profile = profiles::wrong(rng, case.profile)),
+    (30, |rng, case| case.spare = too_short(rng)),
 ];
 
 /// The fault of a number, where it has one of this sort.
@@ -163,7 +165,7 @@ fn spoil_proof_header(rng: &mut Rng, proof: &mut [u8], profile: &Profile) {
     let rows = past(rng, profile.rows as u16 + 1..=65_535);
     let scale = (1 << 20) + 1 + rng.below(1 << 20) as i32;
     match rng.below(6) {
-        0 => proof[0] = proof[0] % 8 + 1,
+        0 => proof[0] = rng.pick(&[0, proof[0] % 8 + 1]),
         1 => proof[0] = past_byte(rng, 9),
         2 => proof[1] = past_byte(rng, 1),
         3 => proof[2..4].copy_from_slice(&rows.to_le_bytes()),
@@ -241,6 +243,12 @@ fn spoil_count(rng: &mut Rng, offsets: &mut Vec<i32>) {
     } else {
         offsets.push(0);
     }
+}
+
+/// So many bytes fewer than a text has: one, some or all.
+pub fn too_short(rng: &mut Rng) -> isize {
+    let some = -1 - rng.below(400) as isize;
+    rng.pick(&[-1, some, isize::MIN])
 }
 
 /// A length that is not a page's: none, one byte less or more, the lines without their line feeds,

@@ -10,7 +10,12 @@ use super::shape::mask;
 use super::{Plan, Rng, Shape};
 use crate::{Case, Claim, Limit, Limits, Point, Profile, Proof, MOST_TERMS, PAGE_LENGTH};
 use refusals::EntryPoint::{self, Check, Evaluation, PageCheck, Program, Search};
+use refusals::TEXTS;
 use std::fmt;
+
+/// What breaks one of these may be right, or broken otherwise, where a sheet has neither a claim
+/// beside it nor the case's profile.
+const NOT_ALONE: [u32; 5] = [6, 9, 12, 15, 24];
 
 /// A kind of random cases.
 #[derive(Clone, Copy, Debug, PartialEq, Eq)]
@@ -49,11 +54,25 @@ impl Kind {
     pub fn expected(self, entry_point: EntryPoint) -> Option<u32> {
         match (self, entry_point) {
             (_, Program) => None,
+            (_, text) if TEXTS.contains(&text) => self.expected_text(text),
             (Kind::Accepted | Kind::Extreme | Kind::Found, Check | PageCheck) => Some(0),
             (Kind::Found, Search) => Some(0),
             (Kind::Largest, Evaluation) => Some(0),
             (Kind::Refused(number) | Kind::Tight(number), _) => {
                 refusals::rule(number).is_said_by(entry_point).then_some(number)
+            }
+            _ => None,
+        }
+    }
+
+    /// The same of a text.
+    fn expected_text(self, text: EntryPoint) -> Option<u32> {
+        match self {
+            Kind::Accepted | Kind::Extreme | Kind::Found | Kind::Largest | Kind::Tight(_) => {
+                Some(0)
+            }
+            Kind::Refused(number) if !NOT_ALONE.contains(&number) => {
+                refusals::rule(number).is_said_by(text).then_some(number)
             }
             _ => None,
         }
@@ -121,7 +140,8 @@ fn tight(rng: &mut Rng, number: u32) -> Case {
     }
 }
 
-/// A case under the full profile with an output as long as the proof or longer.
+/// A case under the full profile with an output as long as the proof or longer, and buffers as long
+/// as their texts or longer.
 fn sheets_case(
     rng: &mut Rng,
     claim: &Claim,
@@ -130,10 +150,11 @@ fn sheets_case(
     floors: Floors,
 ) -> Case {
     let case = Case::new(claim, proof).limited(limits);
-    let longer = if rng.once_in(2) { 0 } else { rng.below(40) };
+    let mut longer = || if rng.once_in(2) { 0 } else { rng.below(40) };
+    let (room, spare) = (case.room + longer(), longer() as isize);
     let offsets = offsets(rng, claim.n.into());
     let (lo, hi) = floors.into_inner();
-    Case { room: case.room + longer, offsets, lo, hi, ..case }
+    Case { room, offsets, lo, hi, spare, ..case }
 }
 
 /// A case for an evaluation, with a proof of no rows.
@@ -263,7 +284,8 @@ fn with_terms_and_rows(rng: &mut Rng, number: u32) -> Case {
 }
 
 /// A case of another kind, with one to three damages, an output of any length, and sometimes other
-/// limits, another profile, one out of range, a wrong range or a page of wrong length.
+/// limits, another profile, one out of range, a wrong range, a page of wrong length or buffers that
+/// are too short.
 fn damaged(rng: &mut Rng) -> Case {
     let kind = rng.pick(&[Kind::Accepted, Kind::Accepted, Kind::Extreme, Kind::Largest]);
     let mut case = kind.case(rng);
@@ -293,6 +315,9 @@ fn damaged(rng: &mut Rng) -> Case {
     }
     if rng.once_in(8) {
         case.profile = profiles::wrong(rng, case.profile);
+    }
+    if rng.once_in(8) {
+        case.spare = breaks::too_short(rng);
     }
     case.room = if rng.once_in(8) { rng.below(9000) } else { case.proof.len() };
     case
@@ -336,6 +361,6 @@ fn noise(rng: &mut Rng) -> Case {
     let offsets = offsets(rng, n);
     let (lo, hi) = around(rng, &(0..=0), k).into_inner();
     let profile = profiles::right(rng);
-    let (room, page) = (proof.len(), PAGE_LENGTH);
-    Case { claim, proof, limits, profile, room, page, offsets, lo, hi }
+    let (room, page, spare) = (proof.len(), PAGE_LENGTH, rng.below(3) as isize - 1);
+    Case { claim, proof, limits, profile, room, page, offsets, lo, hi, spare }
 }

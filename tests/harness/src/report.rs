@@ -1,6 +1,7 @@
 //! What tests find, and the count of them.
 
 use std::fmt::Debug;
+use std::process::ExitCode;
 
 /// What a test found: nothing, or a difference in words.
 pub type Outcome = Result<(), String>;
@@ -8,8 +9,8 @@ pub type Outcome = Result<(), String>;
 /// The count of passed and failed tests; each is printed as it ends.
 #[derive(Default)]
 pub struct Report {
-    pub passed: usize,
-    pub failed: usize,
+    passed: usize,
+    failed: usize,
 }
 
 impl Report {
@@ -23,6 +24,16 @@ impl Report {
                 println!("FAILED {name}\n{difference}");
                 self.failed += 1;
             }
+        }
+    }
+
+    /// Prints the count, which is the last line, and says how the program ends.
+    pub fn end(&self) -> ExitCode {
+        println!("{} passed, {} failed", self.passed, self.failed);
+        if self.failed == 0 {
+            ExitCode::SUCCESS
+        } else {
+            ExitCode::FAILURE
         }
     }
 }

@@ -1,0 +1,104 @@
+//! Texts that can't be read or are refused, by file, line and column; and weights as decimals.
+
+use crate::binary;
+use harness::folder::Folder;
+use harness::report::{equal, Outcome, Report};
+
+const CLAIM: &str = "claim\nvariables 1\nfloor 0\nterm coefficient 1 exponents 0\n";
+
+pub fn run(report: &mut Report) {
+    report.add("mistakes with file, line and column", are_placed());
+    report.add("refusals of texts with file and line", are_refused_by_line());
+    report.add("weights as decimals", are_rounded());
+    report.add("a solver's text from decimals to a verdict", is_accepted());
+    report.add("what a file does not hold", is_lacking());
+}
+
+fn are_placed() -> Outcome {
+    let folder = Folder::new("mistakes");
+    for (text, told) in [
+        ("claim\nvariables x\n".to_string(), ":2:11: expected a whole number, found \"x\""),
+        (
+            format!("{CLAIM}term coefficient 9999999999 exponents 1"),
+            ":5:18: expected a number from",
+        ),
+        (format!("{CLAIM}turm coefficient 1 exponents 1"), ":5:1: expected \"term\", \"proof\" or"),
+        (format!("{CLAIM}proof\nvariables 1\nrow"), ":7:1: expected \"scale\", found \"row\""),
+        (
+            format!("{CLAIM}\u{e4}\n"),
+            ":5:1: expected \"term\", \"proof\" or the text's end, found \"\u{e4}\"",
+        ),
+    ] {
+        let file = folder.write("wrong.text", text);
+        let told = format!("burmelox: {file}{told}");
+        for arguments in [&["encode", &file][..], &["check", &file], &["decode", &file]] {
+            binary::run(arguments).is_trouble(&told[10..])?;
+        }
+    }
+    Ok(())
+}
+
+fn are_refused_by_line() -> Outcome {
+    let folder = Folder::new("refused");
+    for (text, told) in [
+        (format!("{CLAIM}term coefficient 0 exponents 3"), "refused 5 at 1\n"),
+        (format!("{CLAIM}term coefficient 1 exponents 121"), "refused 6 at 1\n"),
+    ] {
+        let file = folder.write("refused.text", text);
+        let run = binary::run(&["encode", &file, "-o", &folder.path("sheet")]);
+        run.ends_with(1)?;
+        equal("the refusal", &true, &run.err.starts_with(told))?;
+        let line = format!("\nat fault: {file}:5: term 1 coefficient ");
+        equal("the line at fault is told", &true, &run.err.contains(&line))?;
+    }
+    equal("nothing is written", &vec!["refused.text".to_string()], &folder.names())
+}
+
+fn are_rounded() -> Outcome {
+    let proof = |scale: u32, p: &str| {
+        let text = format!("proof\nvariables 1\nscale {scale}\nrow lone v 2 p {p}\n");
+        let sheet = binary::run_with(&["encode", "-"], text.as_bytes());
+        let read = binary::run_with(&["decode", "-"], &sheet.out).text();
+        read.trim_end().rsplit(' ').next().unwrap_or_default().to_string()
+    };
+    for (scale, written, read) in [
+        (1000, "0.333", "333"),
+        (1000, "0.0005", "1"),
+        (1000, "-0.0005", "-1"),
+        (1000, "0.00049999999999999999999999999999", "0"),
+        (3, "1/3", "1"),
+        (1 << 20, "1/3", "349525"),
+        (1 << 20, "1.5e-3", "1573"),
+        (1000, "7", "7"),
+    ] {
+        equal(&format!("{written} at scale {scale}"), &read.to_string(), &proof(scale, written))?;
+    }
+    Ok(())
+}
+
+/// Terms in any order, no indices, weights of the polynomial itself.
+fn is_accepted() -> Outcome {
+    let text = "# Motzkin's polynomial\nclaim\nvariables 2\nfloor 0\n\
+        term coefficient 1 exponents 4 2\nterm coefficient -3 exponents 2 2\n\
+        term coefficient 1 exponents 0 0\nterm coefficient 1 exponents 2 4\n\
+        proof\nvariables 2\nscale 1000\n\
+        row pair v 0 0 w 2 4 p 1.0 q 1.0 r -2.0\nrow pair v 1 2 w 3 2 p 2.0 q 2e0 r -4/1\n\
+        row pair v 2 2 w 4 2 p 1.0 q 1.0 r -2.0\n";
+    let run = binary::run_with(&["check", "-"], text.as_bytes());
+    run.ends_with(0)?;
+    let claim = binary::run(&["check", "examples/G.sheet"]).text();
+    let claim = claim.split("accepted").next().unwrap_or_default();
+    let expected = format!("{claim}accepted rows 3 scale 1000 floor 0\n");
+    equal("the text", &expected, &run.text())
+}
+
+fn is_lacking() -> Outcome {
+    let folder = Folder::new("lacking");
+    let claim = folder.write("claim.text", CLAIM);
+    binary::run(&["check", &claim]).is_trouble("there is no proof in this file")?;
+    binary::run(&["check", "examples/G.sheet", &claim]).is_trouble("there is no proof")?;
+    binary::run(&["check", "examples/G.sheet", "--limits", &claim])
+        .is_trouble("no limits sheet")?;
+    let proof = folder.write("proof.text", "proof\nvariables 1\nscale 1\n");
+    binary::run(&["evaluate", &proof, "1"]).is_trouble("there is no claim in this file")
+}
