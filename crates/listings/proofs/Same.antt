@@ -1,17 +1,16 @@
 -- The same bytes in a part of two lists, from the same fields there.
-use mathlib.Core.Path.{_≡_, refl, sym, _∙_, ap}
+use mathlib.Core.Path.{_≡_, sym, _∙_, ap}
 use mathlib.Core.List.{List}
-use Prim.Native.Nat.{ℕ, zero, suc, _+_, _-_, _*_, _<_, _≤_}
-use native.Mathlib.Nat.{add-zero}
+use Prim.Native.Nat.{ℕ, zero, suc, _+_, _-_, _*_, _<_}
 use native.Mathlib.Decide.{decLt}
 use native.Mathlib.Omega.{arith}
 use lib.ListN.{length, getD}
 use lib.Seq.{ext-getD}
 use mir.Syntax.{w32}
-use mir.Val.{toZ, ofZ}
+use mir.Val.{ofZ}
 use mir.Facts.{ofZ-toZ}
 use Rattle.integers.specs.Words.{Bytes, u16At, u32At, i32At}
-use Rattle.integers.proofs.words.Laws.{u32-bytes, u32-bound}
+use Rattle.integers.proofs.words.Laws.{u32-bound}
 use Rattle.points.specs.Points.{bytesAt}
 use Rattle.points.proofs.Lists.{table-get}
 

@@ -4,3 +4,4 @@ pub mod Judging
 pub mod Evaluations
 pub mod Fractions
 pub mod Reports
+pub mod Listings

@@ -8,3 +8,4 @@ pub mod Fractions
 pub mod Reports
 pub mod Pages
 pub mod Profiles
+pub mod Listings

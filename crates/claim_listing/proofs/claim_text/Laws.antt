@@ -1,13 +1,9 @@
 -- Laws of a claim's text: its labels, how long it is, and that its fields tell the claim.
 use mathlib.Core.Path.{_≡_, refl, sym, _∙_, ap}
-use mathlib.Core.Bool.{true, false, and-eq-true-iff}
-use mathlib.Core.List.{List, [], _∷_, _++_, append-assoc}
-use Prim.Native.Nat.{ℕ, _+_, _*_, _^_, _<_, _≤_}
+use mathlib.Core.List.{List, [], _++_, append-assoc}
+use Prim.Native.Nat.{ℕ, _+_, _*_, _<_, _≤_}
 use native.Mathlib.Omega.{arith}
-use lib.IntN.{ℤ, pos}
 use lib.ListN.{length, getD, length-append}
-use mir.Syntax.{w32}
-use mir.Val.{SFits}
 use Rattle.integers.specs.Words.{Bytes}
 use Rattle.integers.proofs.words.Laws.{i32-fits}
 use Rattle.integers.proofs.Tests.{never}
@@ -15,17 +11,16 @@ use Rattle.bounds.specs.Bounds.{mostTerms}
 use Rattle.bounds.specs.Profiles.{fullProfile}
 use Rattle.answers.specs.Answers.{says, Short}
 use Rattle.answers.specs.declared.answers.Verdict.{Verdict}
-use Rattle.points.specs.Lists.{table, All}
-use Rattle.points.proofs.Lists.{all-append}
+use Rattle.points.specs.Lists.{table}
 use Rattle.sheets.specs.Layout.{variables, termCount, maskOf, pointAt, coefficientAt, claimLength}
 use Rattle.sheets.specs.ClaimSheet.{floorOf, termPoint, coefficientOf}
 use Rattle.sheets.proofs.claim_sheet.Laws.{floor-fits, point-length}
 use Rattle.claims.specs.ClaimChecks.{claimAnswer, ClaimFacts}
 use Rattle.claims.proofs.claim_checks.Laws.{unused-zero, claim-facts, claim-short as claim-answer-short}
-use Rattle.text.specs.Text.{ascii, natural, integer, counted, numbered, textsTo}
+use Rattle.text.specs.Text.{ascii}
 use Rattle.text.proofs.text.Laws.{texts-short}
 use Rattle.text.proofs.lines.Laws.{counted-short, word-short}
-use Rattle.listings.specs.Fields.{Field, number, count, exponentFields, together, fieldsText, listing, ofNumbers, Labelled}
+use Rattle.listings.specs.Fields.{Field, together, fieldsText, listing, ofNumbers, Labelled}
 use Rattle.listings.proofs.Fields.{is-label, split-number, split-count, fields-none, fields-more, fields-append, fields-table, all-together}
 use Rattle.listings.proofs.Putting.{count-put}
 use Rattle.listings.specs.Listings.{listingAnswer}

@@ -1,5 +1,5 @@
 -- The steps of the functions that put a claim's text.
-use mathlib.Core.Path.{_≡_, refl, sym, _∙_}
+use mathlib.Core.Path.{_≡_, refl}
 use mathlib.Core.List.{List, [], _∷_, _++_}
 use Prim.Native.Nat.{ℕ, _+_, _*_, _<_, _≤_}
 use native.Mathlib.Nat.{mul-le-mul-right}
@@ -17,7 +17,7 @@ use Rattle.sheets.specs.ClaimSheet.{floorOf, termPoint}
 use Rattle.claims.specs.ClaimChecks.{claimAnswer}
 use Rattle.claims.proofs.claim_checks.Laws.{claim-facts}
 use Rattle.text.specs.Text.{ascii, counted, numbered, textsTo, Room, Written}
-use Rattle.text.proofs.text.Laws.{room-first, room-then, written-then, texts-start, texts-room, texts-next}
+use Rattle.text.proofs.text.Laws.{room-first, room-then, written-then, texts-start, texts-room}
 use Rattle.listings.specs.Fields.{exponentFields, fieldsText, listing}
 use Rattle.listings.specs.Listings.{listingAnswer, listingAfter, ListingPromises}
 use Rattle.listings.proofs.Listings.{listing-promises}

@@ -7,7 +7,7 @@ use lib.ListN.{length}
 use borrow.Author.Tests.{lt-ltb, le-ltb, not-false}
 use Rattle.bounds.specs.Bounds.{mostRows, mostVariables}
 use Rattle.bounds.specs.Profiles.{fullProfile}
-use Rattle.answers.specs.Answers.{says, Passes}
+use Rattle.answers.specs.Answers.{says}
 use Rattle.answers.specs.declared.answers.Sheet.{Sheet}
 use Rattle.answers.specs.declared.answers.Sheet.the-variants.{Proof}
 use Rattle.answers.specs.declared.answers.Verdict.{Verdict}
@@ -19,7 +19,7 @@ use Rattle.checks.specs.ProofChecks.{headerAnswer, rowsAnswer}
 use Rattle.listings.specs.Variables.{variablesRight}
 use Rattle.listings.proofs.variables.Laws.{right-variables}
 use Rattle.proof_listing.specs.OwnChecks.{sizedAnswer, ownAnswer}
-use Rattle.proof_listing.proofs.own_checks.Laws.{full-in-range, sized-facts}
+use Rattle.proof_listing.proofs.own_checks.Laws.{sized-facts}
 
 -- ---- check_sized: n is what was read, v the verdict on 8 to 10
 

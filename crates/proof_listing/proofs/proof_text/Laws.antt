@@ -21,15 +21,15 @@ use Rattle.rows.specs.ProofSheet.{scaleOf, vOf, wOf, wordsAt, tripleOf}
 use Rattle.rows.specs.declared.proof_sheet.Triple.{Triple}
 use Rattle.rows.proofs.proof_sheet.Laws.{triple-narrow}
 use Rattle.checks.specs.ProofChecks.{HeaderFacts, ProofFacts}
-use Rattle.text.specs.Text.{ascii, counted, numbered, textsTo}
+use Rattle.text.specs.Text.{ascii}
 use Rattle.text.specs.Lines.{laterText, weightsText}
 use Rattle.text.proofs.text.Laws.{texts-short}
 use Rattle.text.proofs.lines.Laws.{counted-short, word-short}
-use Rattle.listings.specs.Fields.{Field, number, count, exponentFields, together, fieldsText, listing, ofNumbers, Labelled}
+use Rattle.listings.specs.Fields.{Field, exponentFields, together, fieldsText, listing, ofNumbers, Labelled}
 use Rattle.listings.proofs.Fields.{is-label, split-number, split-count, fields-none, fields-more, fields-append, fields-table, all-together}
 use Rattle.listings.specs.Listings.{listingAnswer}
 use Rattle.listings.proofs.Listings.{listing-short}
-use Rattle.listings.proofs.Lines.{startsLine, Line, entry-apart, as-many}
+use Rattle.listings.proofs.Lines.{Line, entry-apart, as-many}
 use Rattle.listings.proofs.Putting.{count-put}
 use Rattle.listings.proofs.Same.{Same, same-byte, same-then, same-entries, same-exponents, same-short, same-count, same-word, same-whole}
 use Rattle.listings.proofs.exponents.Laws.{exponents-apart, exponents-labelled, exponents-inline, exponents-short}

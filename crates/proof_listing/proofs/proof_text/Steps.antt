@@ -1,5 +1,5 @@
 -- The steps of the functions that put a proof's text.
-use mathlib.Core.Path.{_≡_, refl, sym, _∙_}
+use mathlib.Core.Path.{_≡_, refl}
 use mathlib.Core.Bool.{Bool, true, false}
 use mathlib.Core.List.{List, [], _∷_, _++_}
 use Prim.Native.Nat.{ℕ, _+_, _*_, _<_, _≤_}
@@ -26,7 +26,7 @@ use Rattle.listings.specs.Listings.{listingAnswer, listingAfter, ListingPromise
 use Rattle.listings.proofs.Listings.{listing-promises}
 use Rattle.listings.proofs.Putting.{after-count, count-written, second-room, both-written, last-number, last-count}
 use Rattle.proof_listing.specs.OwnChecks.{ownAnswer}
-use Rattle.proof_listing.specs.ProofText.{headFields, secondFields, endFields, weightFields, pairFields, loneFields, kindFields, rowFields, rowsText, proofFields, FormedProof}
+use Rattle.proof_listing.specs.ProofText.{headFields, secondFields, endFields, pairFields, loneFields, kindFields, rowFields, rowsText, proofFields, FormedProof}
 use Rattle.proof_listing.proofs.own_checks.Laws.{own-facts}
 use Rattle.proof_listing.proofs.proof_text.Laws.{weights-put, proof-pieces, proof-labelled, proof-short, proof-apart}
 

@@ -1,4 +1,3 @@
-use borrow.Author.Needs.{needs}
 use Rattle.claim_listing.proofs.claim_text.Steps.{header-there, terms-there, some-there, head-room, terms-room, feed-room, whole-written}
 use Rattle.claim_listing.proofs.claim_text.whole_text.Statement.{statement}
 use Rattle.claim_listing.proofs.claim_text.whole_text.Tie as tie

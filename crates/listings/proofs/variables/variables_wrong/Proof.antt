@@ -1,4 +1,3 @@
-use borrow.Author.Needs.{needs}
 use Rattle.listings.proofs.variables.Laws.{none-wrong, many-wrong}
 use Rattle.listings.proofs.variables.variables_wrong.Statement.{statement}
 use Rattle.listings.proofs.variables.variables_wrong.Tie as tie

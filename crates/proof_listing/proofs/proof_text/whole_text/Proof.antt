@@ -1,4 +1,3 @@
-use borrow.Author.Needs.{needs}
 use Rattle.proof_listing.proofs.proof_text.Steps.{header-there, rows-there, some-there, head-room, rows-room, feed-room, whole-written}
 use Rattle.proof_listing.proofs.proof_text.whole_text.Statement.{statement}
 use Rattle.proof_listing.proofs.proof_text.whole_text.Tie as tie
