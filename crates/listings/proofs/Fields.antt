@@ -12,8 +12,8 @@ use borrow.Author.Tests.{le-leb, ltb-true}
 use Rattle.integers.proofs.Tests.{never}
 use Rattle.points.specs.Lists.{table, All}
 use Rattle.points.proofs.Lists.{all-append, all-map, table-none, table-more}
-use Rattle.text.specs.Text.{natural, integer, numbered, textsTo}
-use Rattle.text.proofs.text.Laws.{natural-last, natural-before}
+use Rattle.text.specs.Text.{ascii, natural, integer, numbered, textsTo}
+use Rattle.text.proofs.text.Laws.{natural-last, natural-before, integer-count, integer-minus, numbered-is, texts-none, texts-more}
 use Rattle.listings.specs.Fields.{Field, number, count, together, fieldsText, listing, ofNumbers, IsLabel, Labelled, UniqueReading}
 
 -- ---- runs: where a run of one kind ends, whatever follows does not go on with it
@@ -90,35 +90,41 @@ natural-some n =
 -- ---- numbers of either sign
 
 integer-some : (z : ℤ) → 0 < length (integer z)
-unfolding integer
-integer-some (pos n) = natural-some n
-integer-some (negsuc n) = omega arith
+integer-some (pos n) = rw (integer-count n) (natural-some n)
+integer-some (negsuc n) = rw (integer-minus n) (omega arith)
 
 digit-numeral : (code : ℕ) → IsDigit code → ofNumbers code ≡ true
-unfolding ofNumbers
 digit-numeral code h = rw (le-leb 48 code (h .0), le-leb code 57 (h .1)) (or-true (eqb code 45))
   where
     or-true : (b : Bool) → b || true ≡ true
     or-true true = refl
     or-true false = refl
 
+natural-numerals : (n : ℕ) → Run ofNumbers (natural n)
+natural-numerals n = all-map IsDigit (λ c. ofNumbers c ≡ true) (natural n) digit-numeral (natural-digits n)
+
 integer-numerals : (z : ℤ) → Run ofNumbers (integer z)
-unfolding integer ofNumbers
-integer-numerals (pos n) = all-map _ _ (natural n) digit-numeral (natural-digits n)
-integer-numerals (negsuc n) = (refl, all-map _ _ (natural (suc n)) digit-numeral (natural-digits (suc n)))
+integer-numerals (pos n) = rw (integer-count n) (natural-numerals n)
+integer-numerals (negsuc n) = rw (integer-minus n) (refl, natural-numerals (suc n))
+
+natural-unique : (m n : ℕ) → natural m ≡ natural n → m ≡ n
+natural-unique m n e = sym (natural-value m) ∙ ap (valueOf 0) e ∙ natural-value n
+
+-- a minus sign is no digit
+sign-apart : (m : ℕ) (l : List ℕ) → natural m ≡ 45 ∷ l → ⊥
+sign-apart m l e = let d : All IsDigit (45 ∷ l) = rw e at (natural-digits m) in omega (arith, d .0 .0)
 
 integer-unique : (z w : ℤ) → integer z ≡ integer w → z ≡ w
-unfolding integer
-integer-unique (pos m) (pos n) e = ap pos (sym (natural-value m) ∙ ap (valueOf 0) e ∙ natural-value n)
+integer-unique (pos m) (pos n) e =
+    ap pos (natural-unique m n (sym (integer-count m) ∙ e ∙ integer-count n))
 integer-unique (pos m) (negsuc n) e =
-    let d : All IsDigit (45 ∷ natural (suc n)) = rw e at (natural-digits m) in
-    absurd (omega (arith, d .0 .0))
+    absurd (sign-apart m (natural (suc n)) (sym (integer-count m) ∙ e ∙ integer-minus n))
 integer-unique (negsuc m) (pos n) e =
-    let d : All IsDigit (45 ∷ natural (suc m)) = rw (sym e) at (natural-digits n) in
-    absurd (omega (arith, d .0 .0))
+    absurd (sign-apart n (natural (suc m)) (sym (integer-count n) ∙ sym e ∙ integer-minus m))
 integer-unique (negsuc m) (negsuc n) e =
+    let both : 45 ∷ natural (suc m) ≡ 45 ∷ natural (suc n) = sym (integer-minus m) ∙ e ∙ integer-minus n in
     let r : natural (suc m) ≡ natural (suc n) = cc in
-    let s : suc m ≡ suc n = sym (natural-value (suc m)) ∙ ap (valueOf 0) r ∙ natural-value (suc n) in
+    let s : suc m ≡ suc n = natural-unique (suc m) (suc n) r in
     let t : m ≡ n = omega arith in
     ap negsuc t
 
@@ -138,8 +144,8 @@ module _ (f : Field) (fields : List Field) where
   after-label = integer (f .number) ++ listing fields
 
   listing-more : listing (f ∷ fields) ≡ f .label ++ after-label
-  unfolding listing fieldsText numbered
-  listing-more = simp append-assoc
+  unfolding listing fieldsText
+  listing-more = simp (numbered-is, append-assoc)
 
   number-stops : Stops ofLabels after-label
   number-stops =
@@ -158,7 +164,6 @@ module _ (f : Field) (fields : List Field) where
         omega (arith, simp length-append at l, p .some, integer-some (f .number))
 
 listing-stops : (fields : List Field) → Labelled fields → Stops ofNumbers (listing fields)
-unfolding ofNumbers
 listing-stops [] p = rw listing-none refl
 listing-stops (f ∷ fields) p =
     rw (listing-more f fields) (stops ofNumbers (f .label) (after-label f fields) (p .0 .some) (p .0 .plain))
@@ -225,6 +230,11 @@ pub fields-none : fieldsText [] ≡ []
 unfolding fieldsText
 fields-none = refl
 
+-- a sheet's text is that of its fields, and the line feed
+pub listing-is : (fields : List Field) → listing fields ≡ fieldsText fields ++ ascii "\n"
+unfolding listing
+listing-is fields = refl
+
 pub fields-more : (f : Field) (fields : List Field)
     → fieldsText (f ∷ fields) ≡ numbered (f .label) (f .number) ++ fieldsText fields
 unfolding fieldsText
@@ -257,8 +267,7 @@ all-together P f (suc k) h =
     (all-append P (together (table f k)) (f k) (all-together P f k (λ i l. h i (omega arith))) (h k (omega arith)))
 
 pub fields-table : (f : ℕ → List Field) (k : ℕ) → fieldsText (together (table f k)) ≡ textsTo (λ i. fieldsText (f i)) k
-unfolding textsTo
-fields-table f zero = rw (table-none f, together-none, fields-none)
+fields-table f zero = rw (table-none f, together-none, fields-none) (sym (texts-none _))
 fields-table f (suc k) =
     rw (
       table-more f k,
@@ -266,4 +275,5 @@ fields-table f (suc k) =
       together-one (f k),
       fields-append (together (table f k)) (f k),
       fields-table f k,
+      texts-more _ k,
     )

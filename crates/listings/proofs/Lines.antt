@@ -132,6 +132,8 @@ module _ (f g : ℕ → List Field) (m n : ℕ) (h : (i : ℕ) → i < m → Lin
   as-many some others = go (decLt m n) (decLt n m)
     where
       go : Dec (m < n) → Dec (n < m) → m ≡ n
-      go (yes l) q = absurd (others m (sym (table-get g [] n m l) ∙ sym (entries-apart m) ∙ table-past f [] m m (omega arith)))
-      go (no p) (yes l) = absurd (some n (sym (table-get f [] m n l) ∙ entries-apart n ∙ table-past g [] n n (omega arith)))
+      go (yes l) q =
+          absurd (others m (sym (table-get g [] n m l) ∙ sym (entries-apart m) ∙ table-past f [] m m (omega arith)))
+      go (no p) (yes l) =
+          absurd (some n (sym (table-get f [] m n l) ∙ entries-apart n ∙ table-past g [] n n (omega arith)))
       go (no p) (no q) = omega arith

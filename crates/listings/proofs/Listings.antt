@@ -7,11 +7,11 @@ use native.Mathlib.Omega.{arith}
 use lib.ListN.{length, take, drop}
 use lib.Seq.{length-take-le, sets-eq, take-append-seam, drop-append-seam}
 use borrow.Author.Tests.{lt-ltb, le-ltb, ltb-false}
-use Rattle.answers.specs.Answers.{Answer, accepted, andThen, says, Passes, Short}
+use Rattle.answers.specs.Answers.{Answer, accepted, says, Passes, Short}
 use Rattle.answers.specs.declared.answers.Sheet.{Sheet}
 use Rattle.answers.specs.declared.answers.Verdict.{Verdict}
 use Rattle.answers.specs.declared.answers.Verdict.the-variants.{Accepted, Refused}
-use Rattle.answers.proofs.answers.Laws.{failed, passed, then-refused, then-passed, passes-then, passes-if, passes-or-fails, if-on, then-on, accepted-passes, accepted-numbers, short-accepted, short-if, short-then}
+use Rattle.answers.proofs.answers.Laws.{failed, passed, then-refused, then-passed, passes-then, passes-if, passes-or-fails, if-on, then-on, then-off, accepted-passes, accepted-numbers, short-accepted, short-if, short-then}
 use Rattle.text.specs.Text.{Written}
 use Rattle.listings.specs.Fields.{Field, listing, Labelled}
 use Rattle.listings.specs.Handing.{handedAnswer, handed}
@@ -45,11 +45,11 @@ module _ (checked : Answer) (fields : List Field) where
     -- a text of less than 2^16 characters
     pub listing-short : {limit : ℕ} → 30 < limit → Short limit checked → (Passes checked → long < 65536)
         → Short limit (listingAnswer checked fields room)
-    unfolding listingAnswer handedAnswer andThen
+    unfolding listingAnswer handedAnswer
     listing-short {limit} n s h =
         passes-or-fails checked
         (λ p. short-then checked _ s (short-if 30 _ n (short-accepted long (omega arith) (h p)) _))
-        (λ e. rw e s)
+        (λ e. rw (then-off checked _ e) s)
 
   module _ (buffer : List ℕ) where
     given-after : Passes checked → long ≤ length buffer
@@ -92,7 +92,8 @@ module _ (checked : Answer) (fields : List Field) (buffer : List ℕ) where
       unfolding listingAnswer
       handed-answer r er = then-passed v checked e k h r _ (rw taken at er)
 
-      pub handed-after : (after : List ℕ) → after ≡ handed (take end o) buffer → after ≡ listingAfter checked fields buffer
+      pub handed-after : (after : List ℕ) → after ≡ handed (take end o) buffer
+          → after ≡ listingAfter checked fields buffer
       unfolding listingAfter
       handed-after after ea = rw (← e, passed v _ refl k h) (rw taken at ea)
 

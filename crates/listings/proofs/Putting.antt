@@ -3,15 +3,14 @@ use mathlib.Core.Path.{_≡_, refl, _∙_, ap}
 use mathlib.Core.List.{List, [], _∷_, _++_, append-nil}
 use Prim.Native.Nat.{ℕ}
 use lib.IntN.{ℤ, pos}
-use Rattle.text.specs.Text.{integer, counted, numbered, Room, Written}
-use Rattle.text.proofs.text.Laws.{room-first, room-then, written-then}
+use Rattle.text.specs.Text.{counted, numbered, Room, Written}
+use Rattle.text.proofs.text.Laws.{counted-is, numbered-is, integer-count, room-first, room-then, written-then}
 use Rattle.listings.specs.Fields.{Field, number, count, fieldsText}
 use Rattle.listings.proofs.Fields.{fields-none, fields-more, fields-append}
 
 -- a count is put as it is
 pub count-put : (label : List ℕ) (n : ℕ) → numbered label (pos n) ≡ counted label n
-unfolding numbered counted integer
-count-put label n = refl
+count-put label n = rw (numbered-is label (pos n), integer-count n, counted-is label n)
 
 -- a number z, which was read as x and which the machine has as z′
 module _ {l : List ℕ} {at : ℕ} (label : List ℕ) (z x z′ : ℤ) (rest : List Field) (ex : x ≡ z) (back : z′ ≡ x) where
@@ -37,7 +36,8 @@ module _ {l : List ℕ} {at : ℕ} (label : List ℕ) (n n′ : ℕ) (rest : Lis
 
     pub count-written : {o : List ℕ} {end : ℕ} → Written m mid (fieldsText rest) o end
         → Written l at (fieldsText (count label n ∷ rest)) o end
-    count-written u = number-written label (pos n) (pos n′) (pos n′) rest (ap pos e) refl (rw (← count-put label n′) at w) u
+    count-written u =
+        number-written label (pos n) (pos n′) (pos n′) rest (ap pos e) refl (rw (← count-put label n′) at w) u
 
 -- some fields, and then others
 module _ {l : List ℕ} {at : ℕ} (a b : List Field) where

@@ -41,7 +41,7 @@ listing fields = fieldsText fields ++ ascii "\n"
 -- ---- what tells fields apart
 
 -- a digit, or the minus sign
-unfoldable pub ofNumbers : ℕ → Bool
+abbrev pub ofNumbers : ℕ → Bool
 ofNumbers code = eqb code 45 || (leb 48 code && leb code 57)
 
 -- a label has some character, and none of a number's

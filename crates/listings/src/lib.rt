@@ -1,4 +1,4 @@
-// Texts of sheets: exponents behind labels, the variables of a sheet by itself, and a text handed over in a lent buffer.
+// Texts of sheets: exponents behind labels, a sheet's own number of variables, and a text handed over in a lent buffer.
 pub mod exponents;
 pub mod handing;
 pub mod variables;

@@ -56,6 +56,10 @@ pub then-on : (a later : Answer) → Passes a → andThen a later ≡ later
 unfolding andThen
 then-on a later h = rw h
 
+pub then-off : (a later : Answer) → blameless a ≡ false → andThen a later ≡ a
+unfolding andThen
+then-off a later h = rw h
+
 pub if-on : (b : Bool) (number : ℕ) (later : Answer) → b ≡ false → refuseIf b number later ≡ later
 unfolding refuseIf
 if-on b number later h = rw h

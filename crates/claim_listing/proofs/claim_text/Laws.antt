@@ -5,7 +5,6 @@ use Prim.Native.Nat.{ℕ, _+_, _*_, _<_, _≤_}
 use native.Mathlib.Omega.{arith}
 use lib.ListN.{length, getD, length-append}
 use Rattle.integers.specs.Words.{Bytes}
-use Rattle.integers.proofs.words.Laws.{i32-fits}
 use Rattle.integers.proofs.Tests.{never}
 use Rattle.bounds.specs.Bounds.{mostTerms}
 use Rattle.bounds.specs.Profiles.{fullProfile}
@@ -14,14 +13,14 @@ use Rattle.answers.specs.declared.answers.Verdict.{Verdict}
 use Rattle.points.specs.Lists.{table}
 use Rattle.sheets.specs.Layout.{variables, termCount, maskOf, pointAt, coefficientAt, claimLength}
 use Rattle.sheets.specs.ClaimSheet.{floorOf, termPoint, coefficientOf}
-use Rattle.sheets.proofs.claim_sheet.Laws.{floor-fits, point-length}
+use Rattle.sheets.proofs.claim_sheet.Laws.{floor-word, coefficient-word, point-bytes, floor-fits, coefficient-fits, point-length}
 use Rattle.claims.specs.ClaimChecks.{claimAnswer, ClaimFacts}
 use Rattle.claims.proofs.claim_checks.Laws.{unused-zero, claim-facts, claim-short as claim-answer-short}
 use Rattle.text.specs.Text.{ascii}
 use Rattle.text.proofs.text.Laws.{texts-short}
 use Rattle.text.proofs.lines.Laws.{counted-short, word-short}
-use Rattle.listings.specs.Fields.{Field, together, fieldsText, listing, ofNumbers, Labelled}
-use Rattle.listings.proofs.Fields.{is-label, split-number, split-count, fields-none, fields-more, fields-append, fields-table, all-together}
+use Rattle.listings.specs.Fields.{Field, together, fieldsText, listing, Labelled}
+use Rattle.listings.proofs.Fields.{listing-is, is-label, split-number, split-count, fields-none, fields-more, fields-append, fields-table, all-together}
 use Rattle.listings.proofs.Putting.{count-put}
 use Rattle.listings.specs.Listings.{listingAnswer}
 use Rattle.listings.proofs.Listings.{listing-short}
@@ -34,17 +33,21 @@ use Rattle.claim_listing.specs.ClaimText.{floorFields, headFields, point
 
 pub claim-pieces : (c : List ℕ) → listing (claimFields c)
     ≡ fieldsText (headFields c) ++ (termsText c (variables c) (termCount c) ++ ascii "\n")
-unfolding listing claimFields termsText
+unfolding claimFields termsText
 claim-pieces c =
     let f = termFields c (variables c) (termCount c) in
-    rw (fields-append (headFields c) (together (table f (termCount c))), fields-table f (termCount c))
+    rw (
+      listing-is (claimFields c),
+      fields-append (headFields c) (together (table f (termCount c))),
+      fields-table f (termCount c),
+    )
     (append-assoc (fieldsText (headFields c)) _ (ascii "\n"))
 
 -- ---- labels, and lines
 
 module _ (c : List ℕ) (n t i : ℕ) where
   term-labelled : Labelled (termFields c n t i)
-  unfolding termFields monomialFields pointFields ofNumbers
+  unfolding termFields monomialFields pointFields
   term-labelled = (
     is-label _ refl,
     (
@@ -62,7 +65,7 @@ module _ (c : List ℕ) (n t i : ℕ) where
   term-some e = never (cc)
 
 pub claim-labelled : (c : List ℕ) → Labelled (claimFields c)
-unfolding claimFields headFields floorFields ofNumbers
+unfolding claimFields headFields floorFields
 claim-labelled c = (
   is-label _ refl,
   (
@@ -79,14 +82,14 @@ claim-labelled c = (
 
 module _ (c : List ℕ) (n t : ℕ) (f : ClaimFacts c n t) (b : Bytes c) where
   term-short : (i : ℕ) → i < t → length (fieldsText (termFields c n t i)) ≤ 74
-  unfolding termFields monomialFields pointFields coefficientOf termPoint
+  unfolding termFields monomialFields pointFields
   term-short i l =
-      simp (fields-more, count-put, length-append) (omega (
+      simp (fields-more, count-put, length-append, point-bytes) (omega (
         arith,
         f .room .terms,
         f .room .few,
         counted-short (ascii "\nterm ") 1 i (omega (arith, f .room .terms)),
-        word-short (ascii " coefficient ") (coefficientOf c n t i) (i32-fits c (coefficientAt n t i) b),
+        word-short (ascii " coefficient ") (coefficientOf c n t i) (coefficient-fits c n t i b),
         exponents-short (ascii " exponents") c (pointAt n i) n b (f .some),
       ))
 
@@ -139,24 +142,24 @@ module _ (c d : List ℕ) (n t : ℕ) (bc : Bytes c) (bd : Bytes d) (nc : variab
     (tc : termCount c ≡ t) (td : termCount d ≡ t) (mask : maskOf c ≡ maskOf d) (zero : getD c 3 0 ≡ getD d 3 0)
     (floor : floorOf c ≡ floorOf d) (terms : (i : ℕ) → i < t → termFields c n t i ≡ termFields d n t i) where
   points-same : Same c d 8 (t * n)
-  unfolding termPoint
   points-same =
       same-entries c d 8 n t
-      (λ i l. same-exponents c d (pointAt n i) n (term-same c d n t i (terms i l) .1))
+      (λ i l. same-exponents c d (pointAt n i) n
+      (sym (point-bytes c n i) ∙ term-same c d n t i (terms i l) .1 ∙ point-bytes d n i))
 
   coefficients-same : Same c d (8 + t * n) (t * 4)
-  unfolding coefficientOf
   coefficients-same =
       same-entries c d (8 + t * n) 4 t
-      (λ i l. same-word c d bc bd (coefficientAt n t i) (term-same c d n t i (terms i l) .0))
+      (λ i l. same-word c d bc bd (coefficientAt n t i)
+      (sym (coefficient-word c n t i) ∙ term-same c d n t i (terms i l) .0 ∙ coefficient-word d n t i))
 
   header-same : Same c d 0 8
-  unfolding floorOf
   header-same =
       same-then c d 0 4 4
       (same-then c d 0 3 1
       (same-then c d 0 2 1 (same-then c d 0 1 1 (same-byte c d 0 (nc ∙ sym nd)) (same-byte c d 1 (tc ∙ sym td)))
-      (same-byte c d 2 mask)) (same-byte c d 3 zero)) (same-word c d bc bd 4 floor)
+      (same-byte c d 2 mask)) (same-byte c d 3 zero))
+      (same-word c d bc bd 4 (sym (floor-word c) ∙ floor ∙ floor-word d))
 
   claim-same : length c ≡ claimLength n t → length d ≡ claimLength n t → c ≡ d
   claim-same lc ld =
@@ -178,7 +181,8 @@ module _ (c d : List ℕ) (fc : FormedClaim c) (fd : FormedClaim d) (e : claimFi
     variables-same : n ≡ variables d
     mask-same : maskOf c ≡ maskOf d
     floor-same : floorOf c ≡ floorOf d
-    lines-same : together (table (termFields c n t) t) ≡ together (table (termFields d (variables d) (termCount d)) (termCount d))
+    lines-same : together (table (termFields c n t) t)
+        ≡ together (table (termFields d (variables d) (termCount d)) (termCount d))
 
   heads : Heads
   unfolding claimFields headFields floorFields

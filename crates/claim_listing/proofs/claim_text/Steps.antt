@@ -13,7 +13,8 @@ use Rattle.answers.specs.Answers.{says, Passes}
 use Rattle.answers.specs.declared.answers.Verdict.{Verdict}
 use Rattle.points.specs.Points.{bytesAt}
 use Rattle.sheets.specs.Layout.{variables, termCount, maskOf, place, ClaimRoom}
-use Rattle.sheets.specs.ClaimSheet.{floorOf, termPoint}
+use Rattle.sheets.specs.ClaimSheet.{floorOf}
+use Rattle.sheets.proofs.claim_sheet.Laws.{point-bytes}
 use Rattle.claims.specs.ClaimChecks.{claimAnswer}
 use Rattle.claims.proofs.claim_checks.Laws.{claim-facts}
 use Rattle.text.specs.Text.{ascii, counted, numbered, textsTo, Room, Written}
@@ -49,14 +50,14 @@ module _ (c : List ℕ) (n i at : ℕ) (ea : at ≡ place 8 i n) where
   module _ (l : List ℕ) (from : ℕ) where
     pub point-room : Room l from (fieldsText (pointFields c n i))
         → Room l from (fieldsText (exponentFields (ascii " exponents") (bytesAt c at n)))
-    unfolding pointFields termPoint
-    point-room r = rw ea r
+    unfolding pointFields
+    point-room r = rw (ea, ← point-bytes c n i) r
 
     pub point-written : (o : List ℕ) (end : ℕ)
         → Written l from (fieldsText (exponentFields (ascii " exponents") (bytesAt c at n))) o end
         → Written l from (fieldsText (pointFields c n i)) o end
-    unfolding pointFields termPoint
-    point-written o end w = rw ea at w
+    unfolding pointFields
+    point-written o end w = rw (point-bytes c n i, ← ea) w
 
 -- ---- terms_text
 

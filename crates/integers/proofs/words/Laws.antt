@@ -1,5 +1,5 @@
 -- Laws of words: what is written reads back, what was read and written again is the same bytes, no other byte changes.
-use mathlib.Core.Path.{_≡_, refl, _∙_, ap}
+use mathlib.Core.Path.{_≡_, refl, sym, _∙_, ap}
 use mathlib.Core.List.{List, [], _∷_, _++_}
 use Prim.Native.Nat.{ℕ, zero, suc, _+_, _*_, _/_, _%_, _<_, _≤_}
 use native.Mathlib.Nat.{add-zero}
@@ -11,7 +11,7 @@ use lib.Seq.{sets, length-sets, set-append-left, getD-set-same, getD-set-other, 
 use mir.Syntax.{w32}
 use mir.Val.{SFits, toZ, ofZ}
 use mir.Facts.{toZ-ofZ, ofZ-toZ, sfits-toZ, fits-ofZ}
-use Rattle.integers.specs.Words.{Bytes, u32At, i32At, bytesOf, withBits, withI32}
+use Rattle.integers.specs.Words.{Bytes, u16At, u32At, i32At, bytesOf, withBits, withI32}
 
 -- a word is its bytes, the lowest first
 pub u32-bytes : (s : List ℕ) (at : ℕ)
@@ -66,6 +66,47 @@ unfolding u32At
 same-bits s t p e =
     let e0 : getD s p 0 ≡ getD t p 0 = rw add-zero at (e 0 (omega arith)) in
     rw (e0, e 1 (omega arith), e 2 (omega arith), e 3 (omega arith))
+
+-- and the other way: a number's lowest byte, and what stands above it
+lowest : (a x c y : ℕ) → a < 256 → c < 256 → a + x * 256 ≡ c + y * 256 → (a ≡ c) × (x ≡ y)
+lowest a x c y h k e = (omega arith, omega arith)
+
+pub record SameBytes (s t : List ℕ) (p : ℕ) : Type 0 where
+  pub first : getD s p 0 ≡ getD t p 0
+  pub second : getD s (p + 1) 0 ≡ getD t (p + 1) 0
+  pub third : getD s (p + 2) 0 ≡ getD t (p + 2) 0
+  pub fourth : getD s (p + 3) 0 ≡ getD t (p + 3) 0
+
+module _ (s t : List ℕ) (b : Bytes s) (c : Bytes t) (p : ℕ) where
+  pub short-bytes : u16At s p ≡ u16At t p → (getD s p 0 ≡ getD t p 0) × (getD s (p + 1) 0 ≡ getD t (p + 1) 0)
+  short-bytes e = lowest (getD s p 0) (getD s (p + 1) 0) (getD t p 0) (getD t (p + 1) 0) (b p .fits) (c p .fits) e
+
+  pub word-bytes : u32At s p ≡ u32At t p → SameBytes s t p
+  unfolding u32At
+  word-bytes e =
+      let f = lowest (getD s p 0) (upper s) (getD t p 0) (upper t) (b p .fits) (c p .fits) (omega arith) in
+      let g =
+      lowest (getD s (p + 1) 0) (high s) (getD t (p + 1) 0) (high t) (b (p + 1) .fits) (c (p + 1) .fits)
+      (omega (arith, f .1))
+      in
+      let h =
+      lowest (getD s (p + 2) 0) (getD s (p + 3) 0) (getD t (p + 2) 0) (getD t (p + 3) 0) (b (p + 2) .fits)
+      (c (p + 2) .fits) (omega (arith, g .1))
+      in
+      record { first = f .0; second = g .0; third = h .0; fourth = h .1 }
+    where
+      high : List ℕ → ℕ
+      high l = getD l (p + 2) 0 + getD l (p + 3) 0 * 256
+
+      upper : List ℕ → ℕ
+      upper l = getD l (p + 1) 0 + high l * 256
+
+  pub signed-bytes : i32At s p ≡ i32At t p → SameBytes s t p
+  unfolding i32At
+  signed-bytes e =
+      word-bytes
+      (sym (ofZ-toZ {w = w32} {n = u32At s p} (record { fits = u32-bound s p b })) ∙ ap (ofZ w32) e
+      ∙ ofZ-toZ {w = w32} {n = u32At t p} (record { fits = u32-bound t p c }))
 
 module _ (s : List ℕ) (at : ℕ) (v : ℤ) where
   pub written-length : length (withI32 s at v) ≡ length s

@@ -6,14 +6,28 @@ use Prim.Native.Nat.{ℕ, zero, suc, _+_, _*_, _<_, _≤_}
 use native.Mathlib.Decide.{decLt}
 use native.Mathlib.Omega.{arith}
 use lib.ListN.{length, getD, replicate, length-replicate}
+use Rattle.integers.specs.Words.{u16At, u32At}
 use Rattle.integers.proofs.words.Laws.{u32-bytes}
 use Rattle.points.proofs.points.Laws.{zeros-get, padded-get, padded-past}
 use Rattle.squares.specs.Domains.{Unlimited}
-use Rattle.sheets.specs.Layout.{variables, boundAt, multiplierAt, limitsLength}
+use Rattle.sheets.specs.Layout.{variables, powerAt, boundAt, multiplierAt, limitsLength}
 use Rattle.limits.specs.LimitsSheet.{limitOf, limitsOf, limitIn, noLimits}
 use Rattle.limits.specs.LimitChecks.{IsUnlimited}
 
 module _ (l : List ℕ) (n i : ℕ) where
+  -- its fields, where they stand
+  pub power-byte : limitOf l n i .power ≡ getD l (powerAt i) 0
+  unfolding limitOf
+  power-byte = refl
+
+  pub bound-word : limitOf l n i .bound ≡ u16At l (boundAt i)
+  unfolding limitOf
+  bound-word = refl
+
+  pub multiplier-word : limitOf l n i .multiplier ≡ u32At l (multiplierAt n i)
+  unfolding limitOf
+  multiplier-word = refl
+
   pub limit-read : i < n → limitIn (limitsOf l n) i ≡ limitOf l n i
   unfolding limitIn limitsOf
   limit-read k = rw (padded-get _ n i k, padded-get _ n i k, padded-get _ n i k)

@@ -17,13 +17,14 @@ use Rattle.points.specs.Lists.{table}
 use Rattle.squares.specs.declared.limits.Limit.{Limit}
 use Rattle.sheets.specs.Layout.{variables, powerAt, boundAt, multiplierAt, limitsLength}
 use Rattle.limits.specs.LimitsSheet.{limitOf}
+use Rattle.limits.proofs.limits_sheet.Laws.{power-byte, bound-word, multiplier-word}
 use Rattle.limits.specs.LimitChecks.{IsLimited, RightLimit}
 use Rattle.limits.proofs.limit_checks.Laws.{power-some}
 use Rattle.text.specs.Text.{ascii, counted}
 use Rattle.text.proofs.text.Laws.{texts-short}
 use Rattle.text.proofs.lines.Laws.{counted-short}
-use Rattle.listings.specs.Fields.{Field, count, together, fieldsText, listing, ofNumbers, Labelled}
-use Rattle.listings.proofs.Fields.{is-label, split-count, fields-none, fields-more, fields-table, all-together}
+use Rattle.listings.specs.Fields.{Field, count, together, fieldsText, listing, Labelled}
+use Rattle.listings.proofs.Fields.{listing-is, is-label, split-count, fields-none, fields-more, fields-table, all-together}
 use Rattle.listings.proofs.Putting.{count-put}
 use Rattle.listings.specs.Listings.{listingAnswer}
 use Rattle.listings.proofs.Listings.{listing-short}
@@ -37,10 +38,11 @@ use Rattle.limits_listing.proofs.own_checks.Laws.{LimitsFacts, own-fact
 
 pub limits-pieces : (l : List ℕ) → listing (limitsFields l)
     ≡ counted (ascii "limits\nvariables ") (variables l) ++ (linesText l (variables l) (variables l) ++ ascii "\n")
-unfolding listing limitsFields linesText
+unfolding limitsFields linesText
 limits-pieces l =
     let n = variables l in
     rw (
+      listing-is (limitsFields l),
       fields-more (count (ascii "limits\nvariables ") n) (together (table (limitFields l n) n)),
       count-put (ascii "limits\nvariables ") n,
       fields-table (limitFields l n) n,
@@ -86,7 +88,7 @@ module _ (i : ℕ) (a : Limit) where
   -- ---- labels, and lines
 
   variable-labelled : Labelled (variableFields i a)
-  unfolding limitedFields powerFields boundFields ofNumbers
+  unfolding limitedFields powerFields boundFields
   variable-labelled =
       either (λ fields. Labelled fields) tt
       (is-label _ refl, (is-label _ refl, (is-label _ refl, (is-label _ refl, tt))))
@@ -141,7 +143,7 @@ module _ (i : ℕ) (a b : Limit) where
       limited-apart (sym (limited-some i a (limited-power a h)) ∙ e ∙ limited-some i b (limited-power b k))
 
 pub limits-labelled : (l : List ℕ) → Labelled (limitsFields l)
-unfolding limitsFields limitFields ofNumbers
+unfolding limitsFields limitFields
 limits-labelled l = (
   is-label _ refl,
   all-together _ (limitFields l (variables l)) (variables l)
@@ -178,17 +180,17 @@ text-short l room v e b =
 module _ (l m : List ℕ) (n : ℕ) (bl : Bytes l) (bm : Bytes m) (nl : variables l ≡ n) (nm : variables m ≡ n)
     (limits : (i : ℕ) → i < n → SameLimit (limitOf l n i) (limitOf m n i)) where
   bounds-same : Same l m 1 (n * 3)
-  unfolding limitOf
   bounds-same =
       same-entries l m 1 3 n
-      (λ i k. same-then l m (powerAt i) 1 2 (same-byte l m (powerAt i) (limits i k .power-same))
-      (same-short l m bl bm (boundAt i) (limits i k .bound-same)))
+      (λ i k. same-then l m (powerAt i) 1 2
+      (same-byte l m (powerAt i) (sym (power-byte l n i) ∙ limits i k .power-same ∙ power-byte m n i))
+      (same-short l m bl bm (boundAt i) (sym (bound-word l n i) ∙ limits i k .bound-same ∙ bound-word m n i)))
 
   multipliers-same : Same l m (1 + n * 3) (n * 4)
-  unfolding limitOf
   multipliers-same =
       same-entries l m (1 + n * 3) 4 n
-      (λ i k. same-count l m bl bm (multiplierAt n i) (limits i k .multiplier-same))
+      (λ i k. same-count l m bl bm (multiplierAt n i)
+      (sym (multiplier-word l n i) ∙ limits i k .multiplier-same ∙ multiplier-word m n i))
 
   limits-same : length l ≡ limitsLength n → length m ≡ limitsLength n → l ≡ m
   limits-same ll lm =

@@ -9,23 +9,23 @@ use Rattle.answers.specs.Answers.{says, Short}
 use Rattle.answers.specs.declared.answers.Verdict.{Verdict}
 use Rattle.text.specs.Text.{ascii}
 use Rattle.text.proofs.lines.Laws.{counted-short}
-use Rattle.listings.specs.Fields.{listing, ofNumbers, Labelled}
+use Rattle.listings.specs.Fields.{listing, Labelled}
 use Rattle.listings.specs.Listings.{listingAnswer}
 use Rattle.listings.proofs.Listings.{listing-short}
-use Rattle.listings.proofs.Fields.{is-label, split-count, fields-none, fields-more}
+use Rattle.listings.proofs.Fields.{listing-is, is-label, split-count, fields-none, fields-more}
 use Rattle.listings.proofs.Putting.{count-put}
 use Rattle.limits_listing.specs.OwnChecks.{profileAnswer}
 use Rattle.limits_listing.specs.ProfileText.{weightFields, boundsFields, profileFields}
 use Rattle.limits_listing.proofs.own_checks.Laws.{passes-range, profile-answer-short}
 
 pub profile-labelled : (π : Profile) → Labelled (profileFields π)
-unfolding profileFields boundsFields weightFields ofNumbers
+unfolding profileFields boundsFields weightFields
 profile-labelled π = (is-label _ refl, (is-label _ refl, (is-label _ refl, tt)))
 
 pub profile-short : (π : Profile) → InRange π → length (listing (profileFields π)) ≤ 48
-unfolding listing profileFields boundsFields weightFields
+unfolding profileFields boundsFields weightFields
 profile-short π f =
-    simp (fields-more, fields-none, count-put, length-append) (omega (
+    simp (listing-is, fields-more, fields-none, count-put, length-append) (omega (
       arith,
       counted-short (ascii "profile\nexponent ") 2 (π .exponent) (omega (arith, f .exponent-within)),
       counted-short (ascii "\nweight ") 9 (π .weight) (omega (arith, f .weight-within)),

@@ -12,6 +12,7 @@ use Rattle.text.specs.Text.{ascii, Room, Written}
 use Rattle.text.proofs.text.Laws.{room-first, room-then, written-then}
 use Rattle.listings.specs.Fields.{fieldsText, listing}
 use Rattle.listings.specs.Listings.{listingAnswer, listingAfter, ListingPromises}
+use Rattle.listings.proofs.Fields.{listing-is}
 use Rattle.listings.proofs.Listings.{listing-promises}
 use Rattle.limits_listing.specs.OwnChecks.{profileAnswer}
 use Rattle.limits_listing.specs.ProfileText.{boundsFields, profileFields}
@@ -24,9 +25,12 @@ module _ (π : Profile) (h : Passes (profileAnswer π)) (l : List ℕ) (el : len
   abbrev bounds : List ℕ
   bounds = fieldsText (boundsFields (π .exponent) (π .weight) (π .rows))
 
+  listed : listing (profileFields π) ≡ bounds ++ ascii "\n"
+  unfolding profileFields
+  listed = listing-is (profileFields π)
+
   whole : Room l 0 (bounds ++ ascii "\n")
-  unfolding listing profileFields
-  whole = record { room = omega (arith, el, profile-short π (passes-range π h)) }
+  whole = record { room = rw (← listed) (omega (arith, el, profile-short π (passes-range π h))) }
 
   pub bounds-room : Room l 0 bounds
   bounds-room = room-first _ (ascii "\n") whole
@@ -37,8 +41,7 @@ module _ (π : Profile) (h : Passes (profileAnswer π)) (l : List ℕ) (el : len
 
     pub whole-written : (o : List ℕ) (end : ℕ) → Written k mid (10 ∷ []) o end
         → Written l 0 (listing (profileFields π)) o end
-    unfolding listing profileFields
-    whole-written o end u = written-then _ (ascii "\n") w u
+    whole-written o end u = rw listed (written-then _ (ascii "\n") w u)
 
 -- ---- profile_text: r is the verdict, and `after` the buffer then
 

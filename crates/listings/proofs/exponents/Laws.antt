@@ -1,7 +1,7 @@
--- Laws of exponents: their fields one after another, that these tell the exponents, their labels, and how long they are.
-use mathlib.Core.Path.{_≡_, refl, _∙_, ap, ap₂}
+-- Laws of exponents: their fields one after another, that these tell the exponents, their labels, and their lengths.
+use mathlib.Core.Path.{_≡_, refl, sym, _∙_, ap, ap₂}
 use mathlib.Core.Bool.{false}
-use mathlib.Core.List.{List, [], _∷_, _++_, append-assoc, append-nil}
+use mathlib.Core.List.{List, [], _∷_, _++_, append-assoc}
 use Prim.Native.Nat.{ℕ, zero, suc, _+_, _*_, _<_, _≤_}
 use native.Mathlib.Omega.{arith}
 use lib.Dec.{eqb}
@@ -10,12 +10,14 @@ use Rattle.integers.specs.Words.{Bytes}
 use Rattle.points.specs.Lists.{table, All}
 use Rattle.points.specs.Points.{bytesAt}
 use Rattle.points.proofs.Lists.{all-append, table-none, table-more, table-length}
-use Rattle.text.specs.Text.{ascii, integer, counted, numbered, textsTo}
-use Rattle.text.proofs.text.Laws.{texts-short}
+use Rattle.points.proofs.points.Laws.{bytes-table}
+use Rattle.text.specs.Text.{ascii, counted, textsTo}
+use Rattle.text.proofs.text.Laws.{numbered-is, texts-none, texts-more, texts-short}
 use Rattle.text.proofs.lines.Laws.{counted-short}
 use Rattle.listings.specs.Fields.{Field, exponentFields, fieldsText, ofNumbers, IsLabel, Labelled}
 use Rattle.listings.specs.Exponents.{spacedAt, spacedText}
-use Rattle.listings.proofs.Fields.{split-count, fields-append}
+use Rattle.listings.proofs.Fields.{split-count, fields-none, fields-more, fields-append}
+use Rattle.listings.proofs.Putting.{last-count}
 use Rattle.listings.proofs.Lines.{startsLine}
 
 spaced-append : (α β : List ℕ) → exponentFields [] (α ++ β) ≡ exponentFields [] α ++ exponentFields [] β
@@ -24,17 +26,16 @@ spaced-append [] β = refl
 spaced-append (e ∷ α) β = rw (spaced-append α β)
 
 spaced-none : fieldsText (exponentFields [] []) ≡ []
-unfolding exponentFields fieldsText
-spaced-none = refl
+unfolding exponentFields
+spaced-none = fields-none
 
 spaced-one : (e : ℕ) → fieldsText (exponentFields [] (e ∷ [])) ≡ counted (ascii " ") e
-unfolding exponentFields fieldsText numbered integer counted
-spaced-one e = append-nil _
+unfolding exponentFields
+spaced-one e = last-count (ascii " ") e
 
 spaced-table : (g : ℕ → ℕ) (n : ℕ)
     → fieldsText (exponentFields [] (table g n)) ≡ textsTo (λ j. counted (ascii " ") (g j)) n
-unfolding textsTo
-spaced-table g zero = rw (table-none g, spaced-none)
+spaced-table g zero = rw (table-none g, spaced-none) (sym (texts-none _))
 spaced-table g (suc n) =
     rw (
       table-more g n,
@@ -42,19 +43,21 @@ spaced-table g (suc n) =
       fields-append (exponentFields [] (table g n)),
       spaced-one,
       spaced-table g n,
+      texts-more _ n,
     )
 
 labelled : (label α : List ℕ) → 0 < length α
     → fieldsText (exponentFields label α) ≡ label ++ fieldsText (exponentFields [] α)
-unfolding exponentFields fieldsText numbered
+unfolding exponentFields
 labelled label [] h = absurd (omega arith)
-labelled label (e ∷ α) h = simp append-assoc
+labelled label (e ∷ α) h = simp (fields-more, numbered-is, append-assoc)
 
 pub exponents-spaced : (label s : List ℕ) (at n : ℕ) → 1 ≤ n
     → fieldsText (exponentFields label (bytesAt s at n)) ≡ label ++ spacedText s at n
-unfolding bytesAt spacedText
+unfolding spacedText
 exponents-spaced label s at n h =
-    labelled label (table g n) (rw (table-length g n) h) ∙ ap (λ (l : List ℕ). label ++ l) (spaced-table g n)
+    rw (bytes-table s at n)
+    (labelled label (table g n) (rw (table-length g n) h) ∙ ap (λ (l : List ℕ). label ++ l) (spaced-table g n))
   where
     g : ℕ → ℕ
     g j = getD s (at + j) 0
@@ -71,10 +74,20 @@ exponents-apart label (a ∷ α) (b ∷ β) x y l e =
     let t = exponents-apart [] α β x y (omega arith) (h .1) in
     (ap₂ _∷_ (h .0) (t .0), t .1)
 
+-- the label that they begin with
+pub firstLabel : List Field → List ℕ
+firstLabel [] = []
+firstLabel (f ∷ fields) = f .label
+
+pub exponents-first : (label α : List ℕ) (rest : List Field) → 0 < length α
+    → firstLabel (exponentFields label α ++ rest) ≡ label ++ ascii " "
+unfolding firstLabel exponentFields
+exponents-first label [] rest h = absurd (omega arith)
+exponents-first label (e ∷ α) rest h = refl
+
 -- ---- they have labels, of which none starts a line where the first does not
 
 plain-label : (label : List ℕ) → All (λ code. ofNumbers code ≡ false) label → IsLabel (label ++ ascii " ")
-unfolding ofNumbers
 plain-label label p = record {
   some = rw (length-append label (ascii " ")) (omega arith);
   plain = all-append _ label (ascii " ") p (refl, tt);

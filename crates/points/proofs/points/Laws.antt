@@ -105,6 +105,10 @@ pub bytes-length : (s : List ℕ) (at n : ℕ) → length (bytesAt s at n) ≡ n
 unfolding bytesAt
 bytes-length s at n = table-length (λ i. getD s (at + i) 0) n
 
+pub bytes-table : (s : List ℕ) (at n : ℕ) → bytesAt s at n ≡ table (λ i. getD s (at + i) 0) n
+unfolding bytesAt
+bytes-table s at n = refl
+
 pub bytes-get : (s : List ℕ) (at n i : ℕ) → i < n → getD (bytesAt s at n) i 0 ≡ getD s (at + i) 0
 unfolding bytesAt
 bytes-get s at n i h = table-get (λ j. getD s (at + j) 0) 0 n i h

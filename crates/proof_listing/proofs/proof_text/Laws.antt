@@ -17,22 +17,22 @@ use Rattle.points.proofs.Lists.{all-append}
 use Rattle.points.proofs.points.Laws.{bytes-length, same-eq}
 use Rattle.sheets.specs.Layout.{variables, rowCount, shapeOf, vAt, wAt, tripleAt, proofLength}
 use Rattle.sheets.specs.declared.layout.Shape.{Shape}
-use Rattle.rows.specs.ProofSheet.{scaleOf, vOf, wOf, wordsAt, tripleOf}
+use Rattle.rows.specs.ProofSheet.{scaleOf, vOf, wOf, tripleOf}
 use Rattle.rows.specs.declared.proof_sheet.Triple.{Triple}
-use Rattle.rows.proofs.proof_sheet.Laws.{triple-narrow}
+use Rattle.rows.proofs.proof_sheet.Laws.{scale-word, v-bytes, w-bytes, p-there, q-there, r-there, triple-narrow}
 use Rattle.checks.specs.ProofChecks.{HeaderFacts, ProofFacts}
 use Rattle.text.specs.Text.{ascii}
-use Rattle.text.specs.Lines.{laterText, weightsText}
+use Rattle.text.specs.Lines.{weightsText}
 use Rattle.text.proofs.text.Laws.{texts-short}
-use Rattle.text.proofs.lines.Laws.{counted-short, word-short}
-use Rattle.listings.specs.Fields.{Field, exponentFields, together, fieldsText, listing, ofNumbers, Labelled}
-use Rattle.listings.proofs.Fields.{is-label, split-number, split-count, fields-none, fields-more, fields-append, fields-table, all-together}
+use Rattle.text.proofs.lines.Laws.{weights-are, counted-short, word-short}
+use Rattle.listings.specs.Fields.{Field, exponentFields, together, fieldsText, listing, Labelled}
+use Rattle.listings.proofs.Fields.{listing-is, is-label, split-number, split-count, fields-none, fields-more, fields-append, fields-table, all-together}
 use Rattle.listings.specs.Listings.{listingAnswer}
 use Rattle.listings.proofs.Listings.{listing-short}
 use Rattle.listings.proofs.Lines.{Line, entry-apart, as-many}
 use Rattle.listings.proofs.Putting.{count-put}
 use Rattle.listings.proofs.Same.{Same, same-byte, same-then, same-entries, same-exponents, same-short, same-count, same-word, same-whole}
-use Rattle.listings.proofs.exponents.Laws.{exponents-apart, exponents-labelled, exponents-inline, exponents-short}
+use Rattle.listings.proofs.exponents.Laws.{firstLabel, exponents-first, exponents-apart, exponents-labelled, exponents-inline, exponents-short}
 use Rattle.proof_listing.specs.OwnChecks.{ownAnswer}
 use Rattle.proof_listing.specs.ProofText.{headFields, secondFields, endFields, weightFields, pairFields, loneFields, kindFields, rowFields, rowsText, proofFields, FormedProof}
 use Rattle.proof_listing.proofs.own_checks.Laws.{own-facts, own-unused, own-short}
@@ -40,15 +40,19 @@ use Rattle.proof_listing.proofs.own_checks.Laws.{own-facts, own-unused,
 -- ---- what is put after what
 
 pub weights-put : (x : Triple) → fieldsText (weightFields x) ≡ weightsText x
-unfolding weightFields weightsText laterText
-weights-put x = simp (fields-more, fields-none, append-nil)
+unfolding weightFields
+weights-put x = simp (fields-more, fields-none, append-nil) (sym (weights-are x))
 
 pub proof-pieces : (s : List ℕ) → listing (proofFields s)
     ≡ fieldsText (headFields s) ++ (rowsText s (shapeOf s) ++ ascii "\n")
-unfolding listing proofFields rowsText
+unfolding proofFields rowsText
 proof-pieces s =
     let f = rowFields s (shapeOf s) in
-    rw (fields-append (headFields s) (together (table f (rowCount s))), fields-table f (rowCount s))
+    rw (
+      listing-is (proofFields s),
+      fields-append (headFields s) (together (table f (rowCount s))),
+      fields-table f (rowCount s),
+    )
     (append-assoc (fieldsText (headFields s)) _ (ascii "\n"))
 
 -- ---- labels, and lines
@@ -75,7 +79,7 @@ module _ (s : List ℕ) (sh : Shape) (i : ℕ) where
       (all-append P (endFields s sh i) _ (all-append P (exponentFields (ascii " pair v") (vOf s sh i)) _ v w) x)
 
   row-labelled : Labelled (rowFields s sh i)
-  unfolding rowFields weightFields ofNumbers
+  unfolding rowFields weightFields
   row-labelled = (
     is-label _ refl,
     kind-all _ (exponents-labelled _ (vOf s sh i) (is-label (ascii " lone v") refl .plain))
@@ -98,7 +102,7 @@ module _ (s : List ℕ) (sh : Shape) (i : ℕ) where
   row-some e = never (cc)
 
 pub proof-labelled : (s : List ℕ) → Labelled (proofFields s)
-unfolding proofFields headFields ofNumbers
+unfolding proofFields headFields
 proof-labelled s = (
   is-label _ refl,
   (
@@ -111,7 +115,7 @@ proof-labelled s = (
 
 module _ (s : List ℕ) (sh : Shape) (f : HeaderFacts s sh) (b : Bytes s) (i : ℕ) where
   kind-short : length (fieldsText (kindFields s sh i)) ≤ 115
-  unfolding loneFields pairFields endFields secondFields weightFields vOf wOf
+  unfolding loneFields pairFields endFields secondFields weightFields
   kind-short =
       let x = triple-narrow s sh i b in
       let u = exponents-short (ascii " lone v") s (vAt sh i) (sh .n) b (f .some) in
@@ -121,9 +125,9 @@ module _ (s : List ℕ) (sh : Shape) (f : HeaderFacts s sh) (b : Bytes s) (i : �
       let q = word-short (ascii " q ") (tripleOf s sh i .q) (x .q-fits) in
       let r = word-short (ascii " r ") (tripleOf s sh i .r) (x .r-fits) in
       either (λ fields. length (fieldsText fields) ≤ 115) s sh i
-      (simp (fields-append, fields-more, fields-none, length-append)
+      (simp (fields-append, fields-more, fields-none, length-append, v-bytes, w-bytes)
       (omega (arith, f .room .few, u, p)))
-      (simp (fields-append, fields-more, fields-none, length-append)
+      (simp (fields-append, fields-more, fields-none, length-append, v-bytes, w-bytes)
       (omega (arith, f .room .few, v, w, p, q, r)))
 
   row-short : i < sh .k → length (fieldsText (rowFields s sh i)) ≤ 123
@@ -171,15 +175,8 @@ text-short s room v e b =
 -- ---- the fields tell the proof
 
 -- the second character of the first label: l of a lone row, p of a pair
-letter : List Field → ℕ
-letter [] = 0
-letter (f ∷ fields) = getD (f .label) 1 0
-
-letter-is : (label α : List ℕ) (rest : List Field) → 0 < length α
-    → letter (exponentFields label α ++ rest) ≡ getD (label ++ ascii " ") 1 0
-unfolding letter exponentFields
-letter-is label [] rest h = absurd (omega arith)
-letter-is label (e ∷ α) rest h = refl
+abbrev letter : List Field → ℕ
+letter fields = getD (firstLabel fields) 1 0
 
 -- row i of two proofs of one shape
 record RowSame (s z : List ℕ) (sh : Shape) (i : ℕ) : Type 0 where
@@ -197,17 +194,18 @@ module _ (s z : List ℕ) (sh : Shape) (i : ℕ) (some : 1 ≤ sh .n) where
   Unused l = lone? l ≡ true → (tripleOf l sh i .q ≡ pos 0) × (tripleOf l sh i .r ≡ pos 0)
 
   v-counts : (l : List ℕ) → length (vOf l sh i) ≡ sh .n
-  unfolding vOf
-  v-counts l = bytes-length l (vAt sh i) (sh .n)
+  v-counts l = rw (v-bytes l sh i) (bytes-length l (vAt sh i) (sh .n))
 
   v-long : length (vOf s sh i) ≡ length (vOf z sh i)
   v-long = v-counts s ∙ sym (v-counts z)
 
   w-long : length (wOf s sh i) ≡ length (wOf z sh i)
-  unfolding wOf
-  w-long = bytes-length s (wAt sh i) (sh .n) ∙ sym (bytes-length z (wAt sh i) (sh .n))
+  w-long =
+      rw (w-bytes s sh i, w-bytes z sh i)
+      (bytes-length s (wAt sh i) (sh .n) ∙ sym (bytes-length z (wAt sh i) (sh .n)))
 
-  lone-same : lone? s ≡ true → lone? z ≡ true → Unused s → Unused z → loneFields s sh i ≡ loneFields z sh i → RowSame s z sh i
+  lone-same : lone? s ≡ true → lone? z ≡ true → Unused s → Unused z → loneFields s sh i ≡ loneFields z sh i
+      → RowSame s z sh i
   unfolding loneFields
   lone-same t u us uz e =
       let both = exponents-apart (ascii " lone v") (vOf s sh i) (vOf z sh i) _ _ v-long e in
@@ -231,20 +229,24 @@ module _ (s z : List ℕ) (sh : Shape) (i : ℕ) (some : 1 ≤ sh .n) where
 
   lone-letter : (l : List ℕ) → letter (loneFields l sh i) ≡ 108
   unfolding loneFields
-  lone-letter l = letter-is (ascii " lone v") (vOf l sh i) _ (rw (v-counts l) some)
+  lone-letter l =
+      ap (λ (label : List ℕ). getD label 1 0)
+      (exponents-first (ascii " lone v") (vOf l sh i) _ (rw (v-counts l) some))
 
   pair-letter : (l : List ℕ) → letter (pairFields l sh i) ≡ 112
   unfolding pairFields endFields
   pair-letter l =
       ap letter (append-assoc (exponentFields (ascii " pair v") (vOf l sh i)) _ _)
-      ∙ letter-is (ascii " pair v") (vOf l sh i) _ (rw (v-counts l) some)
+      ∙ ap (λ (label : List ℕ). getD label 1 0)
+      (exponents-first (ascii " pair v") (vOf l sh i) _ (rw (v-counts l) some))
 
   row-same : Unused s → Unused z → rowFields s sh i ≡ rowFields z sh i → RowSame s z sh i
   unfolding rowFields kindFields
   row-same us uz e = go (lone? s) (lone? z) refl refl (split-count e .1)
     where
       go : (a b : Bool) → lone? s ≡ a → lone? z ≡ b
-          → cond a (loneFields s sh i) (pairFields s sh i) ≡ cond b (loneFields z sh i) (pairFields z sh i) → RowSame s z sh i
+          → cond a (loneFields s sh i) (pairFields s sh i) ≡ cond b (loneFields z sh i) (pairFields z sh i)
+          → RowSame s z sh i
       go true true t u e = lone-same t u us uz e
       go false false t u e = pair-same e
       go true false t u e = absurd (omega (arith, sym (lone-letter s) ∙ ap letter e ∙ pair-letter z))
@@ -253,33 +255,34 @@ module _ (s z : List ℕ) (sh : Shape) (i : ℕ) (some : 1 ≤ sh .n) where
 -- the bytes of row i
 module _ (s z : List ℕ) (bs : Bytes s) (bz : Bytes z) (sh : Shape) (i : ℕ) (r : RowSame s z sh i) where
   points-same : Same s z (vAt sh i) (2 * sh .n)
-  unfolding vOf wOf
   points-same =
       let e : sh .n + sh .n ≡ 2 * sh .n = omega arith in
       subst (λ (m : ℕ). Same s z (vAt sh i) m) e
-      (same-then s z (vAt sh i) (sh .n) (sh .n) (same-exponents s z (vAt sh i) (sh .n) (r .v-same))
-      (same-exponents s z (wAt sh i) (sh .n) (r .w-same)))
+      (same-then s z (vAt sh i) (sh .n) (sh .n)
+      (same-exponents s z (vAt sh i) (sh .n) (sym (v-bytes s sh i) ∙ r .v-same ∙ v-bytes z sh i))
+      (same-exponents s z (wAt sh i) (sh .n) (sym (w-bytes s sh i) ∙ r .w-same ∙ w-bytes z sh i)))
 
   triple-same : Same s z (tripleAt sh i) 12
-  unfolding tripleOf wordsAt
   triple-same =
       let at = tripleAt sh i in
+      let p = p-there s sh i at refl ∙ r .p-same ∙ sym (p-there z sh i at refl) in
+      let q = q-there s sh i at refl ∙ r .q-same ∙ sym (q-there z sh i at refl) in
+      let t = r-there s sh i at refl ∙ r .r-same ∙ sym (r-there z sh i at refl) in
       same-then s z at 8 4
-      (same-then s z at 4 4 (same-word s z bs bz at (r .p-same)) (same-word s z bs bz (at + 4) (r .q-same)))
-      (same-word s z bs bz (at + 8) (r .r-same))
+      (same-then s z at 4 4 (same-word s z bs bz at p) (same-word s z bs bz (at + 4) q))
+      (same-word s z bs bz (at + 8) t)
 
 -- n, k and S are the same in both, and so is every row
 module _ (s z : List ℕ) (bs : Bytes s) (bz : Bytes z) (sh : Shape) (es : shapeOf s ≡ sh) (ez : shapeOf z ≡ sh)
     (unused : getD s 1 0 ≡ getD z 1 0) (scale : scaleOf s ≡ scaleOf z)
     (rows : (i : ℕ) → i < sh .k → RowSame s z sh i) where
   header-same : Same s z 0 8
-  unfolding scaleOf
   header-same =
       let n : variables s ≡ variables z = ap (λ (sh : Shape). sh .n) (es ∙ sym ez) in
       let k : rowCount s ≡ rowCount z = ap (λ (sh : Shape). sh .k) (es ∙ sym ez) in
       same-then s z 0 4 4
       (same-then s z 0 2 2 (same-then s z 0 1 1 (same-byte s z 0 n) (same-byte s z 1 unused))
-      (same-short s z bs bz 2 k)) (same-count s z bs bz 4 scale)
+      (same-short s z bs bz 2 k)) (same-count s z bs bz 4 (sym (scale-word s) ∙ scale ∙ scale-word z))
 
   proof-same : length s ≡ proofLength sh → length z ≡ proofLength sh → s ≡ z
   proof-same ls lz =
@@ -325,7 +328,8 @@ module _ (s z : List ℕ) (fs : FormedProof s) (fz : FormedProof z) (e : proofFi
   proof-apart =
       let f = own-facts s (fs .passes) in
       let g = subst (λ (x : Shape). ProofFacts z x) shapes (own-facts z (fz .passes)) in
-      proof-same s z (fs .bytes) (fz .bytes) sh refl shapes (own-unused s (fs .passes) ∙ sym (own-unused z (fz .passes)))
+      proof-same s z (fs .bytes) (fz .bytes) sh refl shapes
+      (own-unused s (fs .passes) ∙ sym (own-unused z (fz .passes)))
       (heads .scale-same)
       (λ i l. row-same s z sh i (f .header .some) (f .unused i l) (g .unused i l)
       (entry-apart (rowFields s sh) (rowFields z sh) (sh .k) (sh .k) (λ i l. row-line s sh i)

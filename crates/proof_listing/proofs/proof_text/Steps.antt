@@ -18,6 +18,7 @@ use Rattle.sheets.specs.Layout.{variables, shapeOf, vAt, ProofRoom}
 use Rattle.sheets.specs.declared.layout.Shape.{Shape}
 use Rattle.rows.specs.ProofSheet.{scaleOf, vOf, wOf, tripleOf}
 use Rattle.rows.specs.declared.proof_sheet.Triple.{Triple}
+use Rattle.rows.proofs.proof_sheet.Laws.{v-bytes, w-bytes}
 use Rattle.text.specs.Text.{ascii, counted, numbered, textsTo, Room, Written}
 use Rattle.text.specs.Lines.{weightsText}
 use Rattle.text.proofs.text.Laws.{room-first, room-then, written-then, texts-start, texts-room}
@@ -58,25 +59,23 @@ module _ (s : List ℕ) (sh : Shape) (i at : ℕ) (e : at ≡ vAt sh i) where
     module _ (label : List ℕ) where
       pub v-room : Room l from (fieldsText (exponentFields label (vOf s sh i)))
           → Room l from (fieldsText (exponentFields label (bytesAt s at (sh .n))))
-      unfolding vOf
-      v-room r = rw e r
+      v-room r = rw (e, ← v-bytes s sh i) r
 
       pub v-written : (o : List ℕ) (end : ℕ)
           → Written l from (fieldsText (exponentFields label (bytesAt s at (sh .n)))) o end
           → Written l from (fieldsText (exponentFields label (vOf s sh i))) o end
-      unfolding vOf
-      v-written o end w = rw e at w
+      v-written o end w = rw (v-bytes s sh i, ← e) w
 
     pub w-room : Room l from (fieldsText (secondFields s sh i))
         → Room l from (fieldsText (exponentFields (ascii " w") (bytesAt s (at + sh .n) (sh .n))))
-    unfolding secondFields wOf
-    w-room r = rw e r
+    unfolding secondFields
+    w-room r = rw (e, ← w-bytes s sh i) r
 
     pub w-written : (o : List ℕ) (end : ℕ)
         → Written l from (fieldsText (exponentFields (ascii " w") (bytesAt s (at + sh .n) (sh .n)))) o end
         → Written l from (fieldsText (secondFields s sh i)) o end
-    unfolding secondFields wOf
-    w-written o end w = rw e at w
+    unfolding secondFields
+    w-written o end w = rw (w-bytes s sh i, ← e) w
 
 -- ---- pair_text: x is the triple that was read
 

@@ -7,11 +7,11 @@ use native.Mathlib.Nat.{mul-le-mul-right}
 use native.Mathlib.Omega.{arith}
 use lib.IntN.{ℤ, pos}
 use lib.ListN.{length, getD}
-use Rattle.integers.specs.Words.{Bytes, i32At}
+use Rattle.integers.specs.Words.{Bytes, u32At, i32At}
 use Rattle.integers.proofs.words.Laws.{same-bits, u32-bound, i32-fits}
 use Rattle.integers.proofs.Tests.{never}
 use Rattle.points.specs.Lists.{table}
-use Rattle.points.specs.Points.{pointOf, samePoint, hasMidpoint}
+use Rattle.points.specs.Points.{bytesAt, pointOf, samePoint, hasMidpoint}
 use Rattle.points.specs.declared.points.Point.{Point}
 use Rattle.points.proofs.points.Laws.{bytes-length, bytes-same}
 use Rattle.squares.specs.Rows as Formal
@@ -53,6 +53,20 @@ pub lone-again : (lone : Bool) (x : Triple) → (lone ≡ true → (x .q ≡ pos
 unfolding weightsOf tripleFor
 lone-again true x h = let z = h refl in sym (ap₂ (λ (q r : ℤ). record { p = x .p; q = q; r = r }) (z .0) (z .1))
 lone-again false x h = refl
+
+-- ---- fields, where they stand
+
+pub scale-word : (s : List ℕ) → scaleOf s ≡ u32At s 4
+unfolding scaleOf
+scale-word s = refl
+
+pub v-bytes : (s : List ℕ) (sh : Shape) (i : ℕ) → vOf s sh i ≡ bytesAt s (vAt sh i) (sh .n)
+unfolding vOf
+v-bytes s sh i = refl
+
+pub w-bytes : (s : List ℕ) (sh : Shape) (i : ℕ) → wOf s sh i ≡ bytesAt s (wAt sh i) (sh .n)
+unfolding wOf
+w-bytes s sh i = refl
 
 -- a scale and a row's numbers have 32 bits
 pub scale-bound : (s : List ℕ) → Bytes s → scaleOf s < 4294967296

@@ -22,6 +22,11 @@ pub refused-begins : (number index : ℕ) (rest : List ℕ) → take 8 (refusedL
 unfolding refusedLine counted
 refused-begins number index rest = refl
 
+pub weights-are : (x : Triple) → weightsText x
+    ≡ numbered (ascii " p ") (x .p) ++ (numbered (ascii " q ") (x .q) ++ numbered (ascii " r ") (x .r))
+unfolding weightsText laterText
+weights-are x = refl
+
 -- ---- how long they are, with numbers of 32 bits
 
 pub counted-short : (label : List ℕ) (k n : ℕ) → n < 10 ^ suc k → length (counted label n) ≤ length label + suc k

@@ -12,7 +12,7 @@ use lib.ListN.{length, getD, set, length-append, drop-of-length-le, List·getD-a
 use lib.Seq.{sets, sets-eq, getD-append-add}
 use lib.Signed.{ltZ}
 use borrow.Author.Tests.{lt-ltb, le-ltb, ltb-true}
-use Rattle.text.specs.Text.{digits, natural, integer, numbered, textsTo, Room, Written}
+use Rattle.text.specs.Text.{digits, natural, integer, counted, numbered, textsTo, Room, Written}
 
 -- ---- one text after another
 
@@ -51,7 +51,7 @@ pub texts-none : (text : ℕ → List ℕ) → textsTo text 0 ≡ []
 unfolding textsTo
 texts-none text = refl
 
-texts-more : (text : ℕ → List ℕ) (i : ℕ) → textsTo text (suc i) ≡ textsTo text i ++ text i
+pub texts-more : (text : ℕ → List ℕ) (i : ℕ) → textsTo text (suc i) ≡ textsTo text i ++ text i
 unfolding textsTo
 texts-more text i = refl
 
@@ -107,6 +107,24 @@ texts-byte text n (suc k) i m h l b = rw (texts-more text k) (go (decLt i k) (te
     go (no q) before =
         let e : i ≡ k = omega arith in
         rw (e, ← long) (getD-append-add (textsTo text k) (text k) m 0)
+
+-- ---- a label and a number
+
+pub counted-is : (label : List ℕ) (n : ℕ) → counted label n ≡ label ++ natural n
+unfolding counted
+counted-is label n = refl
+
+pub numbered-is : (label : List ℕ) (z : ℤ) → numbered label z ≡ label ++ integer z
+unfolding numbered
+numbered-is label z = refl
+
+pub integer-count : (n : ℕ) → integer (pos n) ≡ natural n
+unfolding integer
+integer-count n = refl
+
+pub integer-minus : (n : ℕ) → integer (negsuc n) ≡ 45 ∷ natural (suc n)
+unfolding integer
+integer-minus n = refl
 
 -- ---- the digits of a number
 

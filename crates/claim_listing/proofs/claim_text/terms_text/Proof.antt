@@ -12,7 +12,8 @@ use Rattle.claim_listing.proofs.claim_text.terms_text.Lts as lts
 use Rattle.claim_listing.proofs.claim_text.term_text.Reads as term-text-reads
 
 abbrev Inv-loop : tie.InvT-loop
-Inv-loop claim n t out₀ from end₀ i₀ out end i = (i ≤ t) × (Written out₀ from (textsTo (λ j. fieldsText (termFields claim n t j)) i) out end)
+Inv-loop claim n t out₀ from end₀ i₀ out end i =
+    (i ≤ t) × (Written out₀ from (textsTo (λ j. fieldsText (termFields claim n t j)) i) out end)
 
 abbrev μ-loop : tie.MeasureT-loop
 μ-loop claim n t out₀ from end₀ i₀ out end i = t - i

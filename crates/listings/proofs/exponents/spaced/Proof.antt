@@ -11,7 +11,8 @@ use Rattle.integers.proofs.words.wide.Reads as wide-reads
 use Rattle.text.proofs.text.counted.Reads as counted-reads
 
 abbrev Inv-loop : tie.InvT-loop
-Inv-loop sheet at n out₀ from end₀ i₀ t8 out end i = (i ≤ n) × (Written out₀ from (textsTo (spacedAt sheet at) i) out end)
+Inv-loop sheet at n out₀ from end₀ i₀ t8 out end i =
+    (i ≤ n) × (Written out₀ from (textsTo (spacedAt sheet at) i) out end)
 
 abbrev μ-loop : tie.MeasureT-loop
 μ-loop sheet at n out₀ from end₀ i₀ t8 out end i = n - i

@@ -12,7 +12,8 @@ use Rattle.proof_listing.proofs.proof_text.rows_text.Lts as lts
 use Rattle.proof_listing.proofs.proof_text.row_text.Reads as row-text-reads
 
 abbrev Inv-loop : tie.InvT-loop
-Inv-loop proof shape out₀ from end₀ i₀ out end i = (i ≤ shape .k) × (Written out₀ from (textsTo (λ j. fieldsText (rowFields proof shape j)) i) out end)
+Inv-loop proof shape out₀ from end₀ i₀ out end i =
+    (i ≤ shape .k) × (Written out₀ from (textsTo (λ j. fieldsText (rowFields proof shape j)) i) out end)
 
 abbrev μ-loop : tie.MeasureT-loop
 μ-loop proof shape out₀ from end₀ i₀ out end i = shape .k - i
