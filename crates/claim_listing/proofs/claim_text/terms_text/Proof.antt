@@ -1,5 +1,5 @@
-use borrow.Author.Needs.{needs}
 use Prim.Native.Nat.{_-_, _≤_}
+use borrow.Author.Needs.{needs}
 use Rattle.text.specs.Text.{textsTo, Written}
 use Rattle.text.proofs.text.Laws.{texts-next}
 use Rattle.listings.specs.Fields.{fieldsText}
@@ -7,9 +7,6 @@ use Rattle.claim_listing.specs.ClaimText.{termFields}
 use Rattle.claim_listing.proofs.claim_text.Steps.{terms-start, term-room, terms-end}
 use Rattle.claim_listing.proofs.claim_text.terms_text.Statement.{statement}
 use Rattle.claim_listing.proofs.claim_text.terms_text.Tie as tie
-use Rattle.claim_listing.proofs.claim_text.terms_text.Reads as reads
-use Rattle.claim_listing.proofs.claim_text.terms_text.Lts as lts
-use Rattle.claim_listing.proofs.claim_text.term_text.Reads as term-text-reads
 
 abbrev Inv-loop : tie.InvT-loop
 Inv-loop claim n t out₀ from end₀ i₀ out end i =
@@ -24,17 +21,8 @@ loop-holds c = search (needs, terms-start)
 term-text-requires : tie.Need-term-text-requires Inv-loop μ-loop
 term-text-requires c κs = (search needs, search needs, search needs, search term-room)
 
-add-i : tie.Need-add-i Inv-loop μ-loop
-add-i c = search needs
-
-loop-less : tie.Need-loop-less Inv-loop μ-loop
-loop-less c = search needs
-
 loop-again : tie.Need-loop-again Inv-loop μ-loop
 loop-again c = search (needs, texts-next)
-
-same-length : tie.Need-same-length Inv-loop μ-loop
-same-length c = search needs
 
 returns : tie.Need-returns Inv-loop μ-loop
 returns c = search terms-end
@@ -42,13 +30,5 @@ returns c = search terms-end
 pub terms-text-spec : {M : Type 1} → statement M
 terms-text-spec =
     tie.close
-    (tie.spec
-    Inv-loop
-    μ-loop
-    loop-holds
-    term-text-requires
-    add-i
-    loop-less
-    loop-again
-    same-length
-    returns)
+    (tie.spec Inv-loop μ-loop loop-holds term-text-requires (λ c. search needs) (λ c. search needs) loop-again
+    (λ c. search needs) returns)

@@ -1,13 +1,6 @@
 use Rattle.claim_listing.proofs.claim_text.Steps.{header-there, terms-there, some-there, head-room, terms-room, feed-room, whole-written}
 use Rattle.claim_listing.proofs.claim_text.whole_text.Statement.{statement}
 use Rattle.claim_listing.proofs.claim_text.whole_text.Tie as tie
-use Rattle.claim_listing.proofs.claim_text.whole_text.Reads as reads
-use Rattle.claim_listing.proofs.claim_text.whole_text.Lts as lts
-use Rattle.claim_listing.proofs.claim_text.head_text.Reads as head-text-reads
-use Rattle.claim_listing.proofs.claim_text.terms_text.Reads as terms-text-reads
-use Rattle.sheets.proofs.claim_sheet.term_count.Reads as term-count-reads
-use Rattle.sheets.proofs.layout.variables.Reads as variables-reads
-use Rattle.text.proofs.text.put_byte.Reads as put-byte-reads
 
 head-text-requires : tie.Need-head-text-requires
 head-text-requires c κs = (search header-there, search head-room)
@@ -30,10 +23,4 @@ returns c = search whole-written
 pub whole-text-spec : {M : Type 1} → statement M
 whole-text-spec =
     tie.close
-    (tie.spec
-    head-text-requires
-    variables-requires
-    term-count-requires
-    terms-text-requires
-    put-byte-requires
-    returns)
+    (tie.spec head-text-requires variables-requires term-count-requires terms-text-requires put-byte-requires returns)

@@ -1,19 +1,7 @@
-use Rattle.limits_listing.proofs.limits_text.Steps.{lines-there, head-room, lines-room, feed-room, whole-written}
 use borrow.Author.Needs.{needs}
+use Rattle.limits_listing.proofs.limits_text.Steps.{lines-there, head-room, lines-room, feed-room, whole-written}
 use Rattle.limits_listing.proofs.limits_text.whole_text.Statement.{statement}
 use Rattle.limits_listing.proofs.limits_text.whole_text.Tie as tie
-use Rattle.limits_listing.proofs.limits_text.whole_text.Reads as reads
-use Rattle.limits_listing.proofs.limits_text.whole_text.Lts as lts
-use Rattle.limits_listing.proofs.limits_text.lines_text.Reads as lines-text-reads
-use Rattle.limits_listing.proofs.own_checks.own_variables.Reads as own-variables-reads
-use Rattle.text.proofs.text.counted.Reads as counted-reads
-use Rattle.text.proofs.text.put_byte.Reads as put-byte-reads
-
-own-variables-requires : tie.Need-own-variables-requires
-own-variables-requires c κs = search needs
-
-slice-aggregate-counted : tie.Need-slice-aggregate-counted
-slice-aggregate-counted c = search needs
 
 counted-requires : tie.Need-counted-requires
 counted-requires c κs = search head-room
@@ -30,10 +18,5 @@ returns c = search whole-written
 pub whole-text-spec : {M : Type 1} → statement M
 whole-text-spec =
     tie.close
-    (tie.spec
-    own-variables-requires
-    slice-aggregate-counted
-    counted-requires
-    lines-text-requires
-    put-byte-requires
+    (tie.spec (λ c κs. search needs) (λ c. search needs) counted-requires lines-text-requires put-byte-requires
     returns)

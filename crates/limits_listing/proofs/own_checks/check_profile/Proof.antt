@@ -1,13 +1,7 @@
-use Rattle.limits_listing.proofs.own_checks.Steps.{profile-refused, profile-accepted}
 use borrow.Author.Needs.{needs}
+use Rattle.limits_listing.proofs.own_checks.Steps.{profile-refused, profile-accepted}
 use Rattle.limits_listing.proofs.own_checks.check_profile.Statement.{statement}
 use Rattle.limits_listing.proofs.own_checks.check_profile.Tie as tie
-use Rattle.limits_listing.proofs.own_checks.check_profile.Reads as reads
-use Rattle.limits_listing.proofs.own_checks.check_profile.Lts as lts
-use Rattle.bounds.proofs.profiles.profile_wrong.Reads as profile-wrong-reads
-
-profile-wrong-requires : tie.Need-profile-wrong-requires
-profile-wrong-requires c κs = search needs
 
 returns : tie.Need-returns
 returns c = search profile-refused
@@ -16,4 +10,4 @@ returns-2 : tie.Need-returns-2
 returns-2 c = search profile-accepted
 
 pub check-profile-spec : {M : Type 1} → statement M
-check-profile-spec = tie.close (tie.spec profile-wrong-requires returns returns-2)
+check-profile-spec = tie.close (tie.spec (λ c κs. search needs) returns returns-2)

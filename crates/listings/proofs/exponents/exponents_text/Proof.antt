@@ -1,11 +1,7 @@
-use Rattle.listings.proofs.exponents.Steps.{label-room, exponents-room, exponents-written}
 use borrow.Author.Needs.{needs}
+use Rattle.listings.proofs.exponents.Steps.{label-room, exponents-room, exponents-written}
 use Rattle.listings.proofs.exponents.exponents_text.Statement.{statement}
 use Rattle.listings.proofs.exponents.exponents_text.Tie as tie
-use Rattle.listings.proofs.exponents.exponents_text.Reads as reads
-use Rattle.listings.proofs.exponents.exponents_text.Lts as lts
-use Rattle.listings.proofs.exponents.spaced.Reads as spaced-reads
-use Rattle.text.proofs.text.put_text.Reads as put-text-reads
 
 put-text-requires : tie.Need-put-text-requires
 put-text-requires c κs = search label-room
@@ -13,11 +9,8 @@ put-text-requires c κs = search label-room
 spaced-requires : tie.Need-spaced-requires
 spaced-requires c κs = (search needs, search exponents-room)
 
-same-length : tie.Need-same-length
-same-length c = search needs
-
 returns : tie.Need-returns
 returns c = search exponents-written
 
 pub exponents-text-spec : {M : Type 1} → statement M
-exponents-text-spec = tie.close (tie.spec put-text-requires spaced-requires same-length returns)
+exponents-text-spec = tie.close (tie.spec put-text-requires spaced-requires (λ c. search needs) returns)

@@ -1,10 +1,7 @@
-use Rattle.listings.proofs.handing.Steps.{short-refused, short-kept, whole-room, whole-accepted, whole-written}
 use borrow.Author.Needs.{needs}
+use Rattle.listings.proofs.handing.Steps.{short-refused, short-kept, whole-room, whole-accepted, whole-written}
 use Rattle.listings.proofs.handing.hand_over.Statement.{statement}
 use Rattle.listings.proofs.handing.hand_over.Tie as tie
-use Rattle.listings.proofs.handing.hand_over.Reads as reads
-use Rattle.listings.proofs.handing.hand_over.Lts as lts
-use Rattle.text.proofs.text.put_text.Reads as put-text-reads
 
 returns : tie.Need-returns
 returns c = (search short-refused, search short-kept)
@@ -12,11 +9,8 @@ returns c = (search short-refused, search short-kept)
 put-text-requires : tie.Need-put-text-requires
 put-text-requires c κs = search whole-room
 
-same-length : tie.Need-same-length
-same-length c = search needs
-
 returns-2 : tie.Need-returns-2
 returns-2 c = (search whole-accepted, search whole-written)
 
 pub hand-over-spec : {M : Type 1} → statement M
-hand-over-spec = tie.close (tie.spec returns put-text-requires same-length returns-2)
+hand-over-spec = tie.close (tie.spec returns put-text-requires (λ c. search needs) returns-2)

@@ -1,8 +1,6 @@
 use Rattle.listings.proofs.variables.Laws.{none-wrong, many-wrong}
 use Rattle.listings.proofs.variables.variables_wrong.Statement.{statement}
 use Rattle.listings.proofs.variables.variables_wrong.Tie as tie
-use Rattle.listings.proofs.variables.variables_wrong.Reads as reads
-use Rattle.listings.proofs.variables.variables_wrong.Lts as lts
 
 returns : tie.Need-returns
 returns c = search none-wrong

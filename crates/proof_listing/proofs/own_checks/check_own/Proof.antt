@@ -1,21 +1,10 @@
-use Rattle.proof_listing.proofs.own_checks.Steps.{short-refused, variables-refused, some-there, few-there, sized-checked}
 use borrow.Author.Needs.{needs}
+use Rattle.proof_listing.proofs.own_checks.Steps.{short-refused, variables-refused, some-there, few-there, sized-checked}
 use Rattle.proof_listing.proofs.own_checks.check_own.Statement.{statement}
 use Rattle.proof_listing.proofs.own_checks.check_own.Tie as tie
-use Rattle.proof_listing.proofs.own_checks.check_own.Reads as reads
-use Rattle.proof_listing.proofs.own_checks.check_own.Lts as lts
-use Rattle.listings.proofs.variables.variables_wrong.Reads as variables-wrong-reads
-use Rattle.proof_listing.proofs.own_checks.check_sized.Reads as check-sized-reads
-use Rattle.sheets.proofs.layout.variables.Reads as variables-reads
 
 returns : tie.Need-returns
 returns c = search short-refused
-
-variables-requires : tie.Need-variables-requires
-variables-requires c κs = search needs
-
-variables-wrong-requires : tie.Need-variables-wrong-requires
-variables-wrong-requires c κs = search needs
 
 returns-2 : tie.Need-returns-2
 returns-2 c = search variables-refused
@@ -29,10 +18,4 @@ returns-3 c = search sized-checked
 pub check-own-spec : {M : Type 1} → statement M
 check-own-spec =
     tie.close
-    (tie.spec
-    returns
-    variables-requires
-    variables-wrong-requires
-    returns-2
-    check-sized-requires
-    returns-3)
+    (tie.spec returns (λ c κs. search needs) (λ c κs. search needs) returns-2 check-sized-requires returns-3)

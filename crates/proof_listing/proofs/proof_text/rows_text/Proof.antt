@@ -1,5 +1,5 @@
-use borrow.Author.Needs.{needs}
 use Prim.Native.Nat.{_-_, _≤_}
+use borrow.Author.Needs.{needs}
 use Rattle.text.specs.Text.{textsTo, Written}
 use Rattle.text.proofs.text.Laws.{texts-next}
 use Rattle.listings.specs.Fields.{fieldsText}
@@ -7,9 +7,6 @@ use Rattle.proof_listing.specs.ProofText.{rowFields}
 use Rattle.proof_listing.proofs.proof_text.Steps.{rows-start, row-room, rows-end}
 use Rattle.proof_listing.proofs.proof_text.rows_text.Statement.{statement}
 use Rattle.proof_listing.proofs.proof_text.rows_text.Tie as tie
-use Rattle.proof_listing.proofs.proof_text.rows_text.Reads as reads
-use Rattle.proof_listing.proofs.proof_text.rows_text.Lts as lts
-use Rattle.proof_listing.proofs.proof_text.row_text.Reads as row-text-reads
 
 abbrev Inv-loop : tie.InvT-loop
 Inv-loop proof shape out₀ from end₀ i₀ out end i =
@@ -24,17 +21,8 @@ loop-holds c = search (needs, rows-start)
 row-text-requires : tie.Need-row-text-requires Inv-loop μ-loop
 row-text-requires c κs = (search needs, search needs, search needs, search row-room)
 
-add-i : tie.Need-add-i Inv-loop μ-loop
-add-i c = search needs
-
-loop-less : tie.Need-loop-less Inv-loop μ-loop
-loop-less c = search needs
-
 loop-again : tie.Need-loop-again Inv-loop μ-loop
 loop-again c = search (needs, texts-next)
-
-same-length : tie.Need-same-length Inv-loop μ-loop
-same-length c = search needs
 
 returns : tie.Need-returns Inv-loop μ-loop
 returns c = search rows-end
@@ -42,13 +30,5 @@ returns c = search rows-end
 pub rows-text-spec : {M : Type 1} → statement M
 rows-text-spec =
     tie.close
-    (tie.spec
-    Inv-loop
-    μ-loop
-    loop-holds
-    row-text-requires
-    add-i
-    loop-less
-    loop-again
-    same-length
-    returns)
+    (tie.spec Inv-loop μ-loop loop-holds row-text-requires (λ c. search needs) (λ c. search needs) loop-again
+    (λ c. search needs) returns)

@@ -1,12 +1,6 @@
 use Rattle.proof_listing.proofs.proof_text.Steps.{header-there, rows-there, some-there, head-room, rows-room, feed-room, whole-written}
 use Rattle.proof_listing.proofs.proof_text.whole_text.Statement.{statement}
 use Rattle.proof_listing.proofs.proof_text.whole_text.Tie as tie
-use Rattle.proof_listing.proofs.proof_text.whole_text.Reads as reads
-use Rattle.proof_listing.proofs.proof_text.whole_text.Lts as lts
-use Rattle.proof_listing.proofs.proof_text.head_text.Reads as head-text-reads
-use Rattle.proof_listing.proofs.proof_text.rows_text.Reads as rows-text-reads
-use Rattle.rows.proofs.proof_sheet.shape_of.Reads as shape-of-reads
-use Rattle.text.proofs.text.put_byte.Reads as put-byte-reads
 
 head-text-requires : tie.Need-head-text-requires
 head-text-requires c κs = (search header-there, search head-room)
@@ -24,6 +18,4 @@ returns : tie.Need-returns
 returns c = search whole-written
 
 pub whole-text-spec : {M : Type 1} → statement M
-whole-text-spec =
-    tie.close
-    (tie.spec head-text-requires shape-of-requires rows-text-requires put-byte-requires returns)
+whole-text-spec = tie.close (tie.spec head-text-requires shape-of-requires rows-text-requires put-byte-requires returns)
