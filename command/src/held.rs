@@ -3,9 +3,11 @@
 use crate::arguments::Arguments;
 use crate::files::{Inputs, STANDARD_INPUT};
 use crate::library::{self, Text};
+use crate::output::complain;
 use crate::sheet::{Claim, Limits};
 use crate::status::Trouble;
 use crate::text::{self, Part, Parts};
+use crate::words::Mistake;
 
 /// A sheet with the file that holds it, and in a text the lines of its terms, rows or variables.
 pub struct Held {
@@ -19,7 +21,8 @@ impl Held {
         Held { bytes: bytes.to_vec(), file: shown(file), lines: Vec::new() }
     }
 
-    fn in_text(file: &str, Part { bytes, lines }: Part) -> Held {
+    fn in_text(file: &str, Part { bytes, lines, unscaled }: Part) -> Held {
+        warn(&shown(file), &unscaled);
         Held { bytes, file: shown(file), lines }
     }
 
@@ -27,6 +30,18 @@ impl Held {
     pub fn place(&self, index: usize) -> Option<String> {
         let line = self.lines.get(index).filter(|&&line| line > 0)?;
         Some(format!("{}:{line}", self.file))
+    }
+}
+
+/// Tells the first weights of a text that may be meant otherwise, and how many more there are.
+fn warn(file: &str, unscaled: &[Mistake]) {
+    const MOST_TOLD: usize = 3;
+    for weight in unscaled.iter().take(MOST_TOLD) {
+        complain(&format!("burmelox: {file}:{weight}\n"));
+    }
+    if unscaled.len() > MOST_TOLD {
+        let more = unscaled.len() - MOST_TOLD;
+        complain(&format!("burmelox: {file}: and {more} more whole numbers among the weights\n"));
     }
 }
 

@@ -11,6 +11,7 @@ pub fn run(report: &mut Report) {
     report.add("refusals of texts with file and line", are_refused_by_line());
     report.add("weights as decimals", are_rounded());
     report.add("a solver's text from decimals to a verdict", is_accepted());
+    report.add("whole numbers among scaled weights", are_warned_of());
     report.add("what a file does not hold", is_lacking());
 }
 
@@ -90,6 +91,22 @@ fn is_accepted() -> Outcome {
     let claim = claim.split("accepted").next().unwrap_or_default();
     let expected = format!("{claim}accepted rows 3 scale 1000 floor 0\n");
     equal("the text", &expected, &run.text())
+}
+
+/// The first three are told and how many more there are, and the status is as without.
+fn are_warned_of() -> Outcome {
+    let proof = "proof\nvariables 1\nscale 10\nrow pair v 0 w 2 p 5 q 0.5 r 0\n";
+    let run = binary::run_with(&["decode", "-"], proof.as_bytes());
+    run.ends_with(0)?;
+    let told = "burmelox: standard input:4:20: 5 stands as it is, the other weights are taken \
+                times 10: write 5.0 if it is one of them\n";
+    equal("one is told", &told.to_string(), &run.err)?;
+    let more = "row lone v 2 p 1\n".repeat(4);
+    let run = binary::run_with(&["encode", "-"], (proof.to_string() + &more).as_bytes());
+    run.ends_with(0)?;
+    let last = "burmelox: standard input: and 2 more whole numbers among the weights\n";
+    equal("the rest is counted", &true, &run.err.ends_with(last))?;
+    equal("the lines", &4, &run.err.lines().count())
 }
 
 fn is_lacking() -> Outcome {
