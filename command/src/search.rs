@@ -62,7 +62,9 @@ fn run(arguments: &Arguments) -> Ending {
         }
         Err(refusal) => {
             tell_sheets(&mut report, &sheets.claim.bytes, &sheets, given);
-            tell_refusal(&mut report, refusal, Blamed::from(&sheets));
+            let range = Some((lo, hi));
+            let blamed = Blamed { range, ..Blamed::sheets(&sheets, profile) };
+            tell_refusal(&mut report, refusal, blamed);
             tell_lowest(&mut report, &sheets, profile, lo, refusal);
             (Status::Refused, Vec::new())
         }

@@ -11,6 +11,8 @@ use std::ops::RangeInclusive;
 pub struct Part {
     pub bytes: Vec<u8>,
     pub lines: Vec<usize>,
+    /// The line that the sheet begins with.
+    pub start: usize,
     /// Of a proof, weights that stand as they are among others that do not.
     pub unscaled: Vec<Mistake>,
 }
@@ -37,19 +39,16 @@ pub fn is_text(bytes: &[u8]) -> bool {
 pub fn read(text: &[u8]) -> Result<Parts, Mistake> {
     let mut lines = Lines::new(text);
     let mut parts = Parts::default();
-    if let Some(line) = lines.take_if("limits") {
-        line.end()?;
-        parts.limits = Some(limits(&mut lines)?);
+    if let Some(start) = start(&mut lines, "limits")? {
+        parts.limits = Some(limits(&mut lines, start)?);
         lines.end("\"variable\"")?;
         return Ok(parts);
     }
-    if let Some(line) = lines.take_if("claim") {
-        line.end()?;
-        parts.claim = Some(claim(&mut lines)?);
+    if let Some(start) = start(&mut lines, "claim")? {
+        parts.claim = Some(claim(&mut lines, start)?);
     }
-    if let Some(line) = lines.take_if("proof") {
-        line.end()?;
-        parts.proof = Some(proof(&mut lines)?);
+    if let Some(start) = start(&mut lines, "proof")? {
+        parts.proof = Some(proof(&mut lines, start)?);
         lines.end("\"row\"")?;
     }
     if parts.claim.is_none() && parts.proof.is_none() {
@@ -57,6 +56,14 @@ pub fn read(text: &[u8]) -> Result<Parts, Mistake> {
     }
     lines.end("\"term\", \"proof\"")?;
     Ok(parts)
+}
+
+/// The line where a sheet begins, with its name alone.
+fn start(lines: &mut Lines, name: &str) -> Result<Option<usize>, Mistake> {
+    let Some(line) = lines.take_if(name) else { return Ok(None) };
+    let number = line.number;
+    line.end()?;
+    Ok(Some(number))
 }
 
 /// The number on a line of its own, behind its keyword.
@@ -104,7 +111,7 @@ struct Written<'a> {
     index: Option<Word<'a>>,
 }
 
-fn claim(lines: &mut Lines) -> Result<Part, Mistake> {
+fn claim(lines: &mut Lines, start: usize) -> Result<Part, Mistake> {
     let n = field(lines.take("variables")?, BYTE)? as u8;
     let mask = lines.take_if("mask").map_or(Ok(0), |line| field(line, BYTE))? as u8;
     let mut line = lines.take("floor")?;
@@ -121,7 +128,7 @@ fn claim(lines: &mut Lines) -> Result<Part, Mistake> {
     are_sorted(&written)?;
     let lines = written.iter().map(|written| written.line).collect();
     let terms = written.into_iter().map(|written| written.term).collect();
-    Ok(Part { bytes: Claim { n, mask, floor, terms }.bytes(), lines, unscaled: Vec::new() })
+    Ok(Part { bytes: Claim { n, mask, floor, terms }.bytes(), lines, start, unscaled: Vec::new() })
 }
 
 /// There is one more than the sheet's count can say.
@@ -164,7 +171,7 @@ fn is_index(given: Word, index: usize, why: &str) -> Result<(), Mistake> {
     Err(given.mistake(&format!("{index}{why}")))
 }
 
-fn proof(lines: &mut Lines) -> Result<Part, Mistake> {
+fn proof(lines: &mut Lines, start: usize) -> Result<Part, Mistake> {
     let n = field(lines.take("variables")?, BYTE)? as u8;
     let scale = field(lines.take("scale")?, WORD)? as u32;
     let mut weights = Weights { scale, whole: Vec::new(), scaled: 0 };
@@ -177,7 +184,7 @@ fn proof(lines: &mut Lines) -> Result<Part, Mistake> {
         rows.push(row(line, rows.len(), n, &mut weights)?);
     }
     let unscaled = weights.unscaled();
-    Ok(Part { bytes: Proof { n, scale, rows }.bytes(), lines: places, unscaled })
+    Ok(Part { bytes: Proof { n, scale, rows }.bytes(), lines: places, start, unscaled })
 }
 
 fn row<'a>(
@@ -189,10 +196,14 @@ fn row<'a>(
     if let Some(given) = line.whole() {
         is_index(given, index, "")?;
     }
-    let is_pair = line.keyword(&["pair", "lone"])?.text() == "pair";
+    let kind = line.keyword(&["pair", "lone"])?;
+    let is_pair = kind.text() == "pair";
     line.keyword(&["v"])?;
     let v = point(&mut line, n)?;
     let w = if is_pair { end(&mut line, n)? } else { v.clone() };
+    if is_pair && v == w {
+        return Err(kind.wrong("v and w are one point: write lone, with p alone".to_string()));
+    }
     let mut weights = [0; 3];
     let names = if is_pair { &["p", "q", "r"][..] } else { &["p"] };
     for (weight, name) in weights.iter_mut().zip(names) {
@@ -256,7 +267,7 @@ fn no_weight(word: Word) -> Mistake {
     mistake
 }
 
-fn limits(lines: &mut Lines) -> Result<Part, Mistake> {
+fn limits(lines: &mut Lines, start: usize) -> Result<Part, Mistake> {
     let n = field(lines.take("variables")?, BYTE)? as u8;
     let mut limits = Limits::none(n);
     let mut places = vec![0; n.into()];
@@ -271,7 +282,7 @@ fn limits(lines: &mut Lines) -> Result<Part, Mistake> {
         places[variable] = number;
         limits.entries[variable] = limit(line)?;
     }
-    Ok(Part { bytes: limits.bytes(), lines: places, unscaled: Vec::new() })
+    Ok(Part { bytes: limits.bytes(), lines: places, start, unscaled: Vec::new() })
 }
 
 fn limit(mut line: Line) -> Result<Limit, Mistake> {
@@ -388,6 +399,10 @@ mod tests {
         let row = |line: &str| mistake(&format!("proof\nvariables 1\nscale 4\n{line}"));
         assert_eq!(row("row 1 lone v 0 p 1"), "4:5: expected 0, found \"1\"");
         assert_eq!(row("row both v 0 p 1"), "4:5: expected \"pair\" or \"lone\", found \"both\"");
+        assert_eq!(
+            row("row pair v 2 w 2 p 1 q 0 r 0"),
+            "4:5: v and w are one point: write lone, with p alone"
+        );
         assert_eq!(row("row lone v 0 p 1/0"), "4:16: expected a number, found \"1/0\"");
         assert_eq!(
             row("row lone v 0 p 0,5"),
