@@ -62,14 +62,15 @@ impl<'a> Balance<'a> {
         std::array::from_fn(|place| self.shifted[row][place] - i128::from(proposed[place]))
     }
 
-    /// Ends of a pair whose midpoint is this one, with positive targets at both where there are
-    /// such; else the constant and twice the point, where its exponents are not too large.
+    /// Ends of a pair whose midpoint is this one: where there are such, both of which can have
+    /// weights over 0; else the constant and twice the point, if its exponents are not too large.
     pub fn ends_around(&self, midpoint: &Point) -> Option<(Point, Point)> {
-        let positive = self.targets.iter().filter(|(_, target)| **target > 0);
-        let pairs = positive.filter_map(|(v, _)| Some((v.clone(), opposite(v, midpoint)?)));
-        let held = pairs.into_iter().find(|(v, w)| v < w && self.target(w) > 0);
-        let origin = self.claim.origin();
-        held.or_else(|| Some((origin.clone(), opposite(&origin, midpoint)?)))
+        let with_opposite = |v: &Point| Some((v.clone(), opposite(v, midpoint)?));
+        let bears = |point: &Point| self.target(point) > 0 || self.is_midpoint(point);
+        let points = self.targets.keys().chain(self.slots.keys());
+        let mut pairs = points.filter_map(with_opposite);
+        let borne = pairs.find(|(v, w)| v < w && bears(v) && bears(w));
+        borne.or_else(|| with_opposite(&self.claim.origin()))
     }
 }
 

@@ -150,7 +150,7 @@ impl Plane {
             let ((x0, y0), (x1, y1)) = (self.at(&row.v), self.at(&row.w));
             let length = (x1 - x0).hypot(y1 - y0);
             let turn = STEEPNESS * bend / length;
-            let (aside_x, aside_y) = (turn * (y1 - y0), turn * (x0 - x1));
+            let (aside_x, aside_y) = (turn * (y0 - y1), turn * (x1 - x0));
             let (x, y) = ((x0 + x1) / 2.0, (y0 + y1) / 2.0);
             let (from_x, from_y) = ((x0 + x) / 2.0 + aside_x, (y0 + y) / 2.0 + aside_y);
             let (to_x, to_y) = ((x1 + x) / 2.0 - aside_x, (y1 + y) / 2.0 - aside_y);

@@ -24,6 +24,7 @@ pub fn run(report: &mut Report) {
     }
     report.add("advice on 17 by the profile", each(&[Kind::Tight(17)], is_advised));
     report.add("advice where only ends stand", is_told_of_ends());
+    report.add("advice with ends that other rows bear", is_told_of_borne_ends());
     report.add("advice on the constant without a slot", is_told_of_constant());
 }
 
@@ -47,6 +48,20 @@ fn is_told_of_ends() -> Outcome {
     let added =
         "row pair v 0 0 w 0 4 p 0.9 q 0.2 r -0.8\nrow pair v 0 0 w 4 0 p 0.9 q 0.2 r -0.8\n";
     binary::run_with(&["check", "-"], (BARE.to_string() + added).as_bytes()).ends_with(0)
+}
+
+/// Motzkin's polynomial without the last row of its proof: that row is proposed, whose end (2,2) is
+/// another row's midpoint.
+fn is_told_of_borne_ends() -> Outcome {
+    let text = binary::run(&["decode", "examples/G.sheet"]).text();
+    let text: String = text
+        .lines()
+        .filter(|line| !line.starts_with("row 2 "))
+        .map(|line| format!("{line}\n"))
+        .collect();
+    let run = binary::run_with(&["check", "-"], (text + "row lone v 4 2 p 1\n").as_bytes()).text();
+    let told = "whose midpoint is (3,2), as (2,2)(4,2)\n";
+    equal("the pair", &true, &run.ends_with(told))
 }
 
 /// The floor is to be lowered for a negative target alone, and never to be raised.
