@@ -91,7 +91,7 @@ fn sign_colour(is_negative: bool) -> &'static str {
 }
 
 /// How far the line of each row is bent: a pair that lies on an earlier one goes around it, the next
-/// one on the other side.
+/// one with the sides exchanged. A bent line looks the same from both ends.
 fn bends(rows: &[Row]) -> Vec<f64> {
     let mut turns: Vec<usize> = Vec::new();
     for (index, row) in rows.iter().enumerate() {
@@ -99,15 +99,15 @@ fn bends(rows: &[Row]) -> Vec<f64> {
         let taken: Vec<usize> = earlier.map(|(_, turn)| *turn).collect();
         turns.push((0..index).find(|turn| !taken.contains(turn)).unwrap_or(index));
     }
-    let bend = |(turn, row): (&usize, &Row)| {
+    let bend = |turn: &usize| {
         let bend = 18.0 * turn.div_ceil(2).min(5) as f64;
-        if (turn % 2 == 1) == (row.v < row.w) {
+        if turn % 2 == 1 {
             bend
         } else {
             -bend
         }
     };
-    turns.iter().zip(rows).map(bend).collect()
+    turns.iter().map(bend).collect()
 }
 
 /// The plane of the exponents.
@@ -390,7 +390,7 @@ mod tests {
     fn pairs_that_lie_on_others_are_bent() {
         assert_eq!(bends(&proof(&ENDS).rows), [0.0, 0.0, 18.0]);
         let same = [([0, 0], [2, 2]), ([0, 0], [2, 2]), ([2, 2], [0, 0]), ([2, 2], [4, 4])];
-        assert_eq!(bends(&proof(&same).rows), [0.0, 18.0, 18.0, 0.0]);
+        assert_eq!(bends(&proof(&same).rows), [0.0, 18.0, -18.0, 0.0]);
     }
 
     #[test]
