@@ -33,10 +33,10 @@ fn shifted_words(balance: &Balance, row: usize, rest: String) -> String {
 fn unheld(balance: &Balance, index: usize) -> String {
     let point = balance.point(index);
     let target = balance.target(&point);
-    let what = if point == balance.claim.origin() {
-        unheld_constant(balance, target)
-    } else if target > 0 {
+    let what = if target > 0 {
         "add a lone row there, or a pair with an end there".to_string()
+    } else if point == balance.claim.origin() {
+        unheld_constant(balance, target)
     } else {
         "add a pair whose midpoint it is".to_string()
     };
@@ -47,11 +47,10 @@ fn unheld(balance: &Balance, index: usize) -> String {
 fn unheld_constant(balance: &Balance, target: i128) -> String {
     let scale = i128::from(balance.proof.scale);
     let floor = i128::from(balance.claim.floor) + target.div_euclid(scale);
-    match (target > 0, target % scale == 0 && floor >= LEAST_FLOOR) {
-        (true, true) => format!("add a lone row there, or raise the floor: try {floor}"),
-        (true, false) => "add a lone row there".to_string(),
-        (false, true) => format!("lower the floor: try {floor}"),
-        (false, false) => format!("lower the floor to {floor} and add a lone row there"),
+    if target % scale == 0 && floor >= LEAST_FLOOR {
+        format!("lower the floor: try {floor}")
+    } else {
+        format!("lower the floor to {floor} and add a lone row there")
     }
 }
 
@@ -80,18 +79,39 @@ fn negative(balance: &Balance, row: usize) -> Option<String> {
     let odd = balance.claim.odd_unmasked(point);
     let what = if let Some(floor) = lower_floor(balance, point, -weight) {
         format!("lower the floor: try {floor}")
-    } else if target >= 0 {
-        "propose more for this end, or less for the other slots there".to_string()
     } else if balance.claim.coefficient(point) > 0 && !odd.is_empty() {
         let odd: Vec<String> = odd.iter().map(usize::to_string).collect();
         format!("mask variable {} if it is never negative", odd.join(" and "))
+    } else if let Some(words) = only_ends(balance, point) {
+        words
     } else {
-        "make it the midpoint of a pair with r < 0".to_string()
+        let sum = balance.proposed(point);
+        let more = "propose more for this end, or less for the other slots there";
+        format!("the slots there were proposed with {sum} in sum: {more}")
     };
     let point = bracketed(point);
     Some(format!(
         "{name} at {point} is under 0 by {}, the target there is {target}; {what}",
         -weight
+    ))
+}
+
+/// What is said of a point without a positive target where only ends stand, which no weights, scale
+/// or floor help; of any other point there is nothing.
+fn only_ends(balance: &Balance, point: &Point) -> Option<String> {
+    let target = balance.target(point);
+    if target > 0 || *point == balance.claim.origin() || balance.is_midpoint(point) {
+        return None;
+    }
+    let has_term = balance.claim.coefficient(point) != 0 || target != 0;
+    let named = bracketed(point);
+    let what = if has_term { format!("has the target {target}") } else { "has no term".into() };
+    let pair = balance.ends_around(point);
+    let pair = pair.map(|(v, w)| format!(", as {}{}", bracketed(&v), bracketed(&w)));
+    Some(format!(
+        "{named} {what} and only ends stand there, so their weights come to {target}: add a pair \
+         with r < 0 whose midpoint is {named}{}",
+        pair.unwrap_or_default()
     ))
 }
 
@@ -108,19 +128,44 @@ const UNHELD: &str = "as it is proposed the row does not hold either: give p or 
 
 fn indefinite(balance: &Balance, row: usize) -> String {
     let [p, q, r] = balance.shifted[row];
-    let missed = format!("4pq = {} < r² = {}", 4 * p * q, r * r);
+    let slots = balance.proof.rows[row].slots();
+    let bare = slots.iter().take(2).find_map(|point| only_ends(balance, point));
+    let what = bare
+        .or_else(|| Some(format!("lower the floor: try {}", floor_for_row(balance, row)?)))
+        .or_else(|| far_moved(balance, row))
+        .unwrap_or_else(|| rounded_words(balance, row));
+    format!("4pq = {} < r² = {}; {what}", 4 * p * q, r * r)
+}
+
+/// What is said of a row that the shift moved by more than rounding does: at which point the most,
+/// and why.
+fn far_moved(balance: &Balance, row: usize) -> Option<String> {
+    let slots = balance.proof.rows[row].slots();
+    let moved = slots.iter().zip(balance.moved(row)).map(|(point, by)| (by.abs(), point));
+    let (_, point) = moved.max_by_key(|(by, _)| *by).filter(|(by, _)| *by > 1)?;
+    Some(format!(
+        "the slots at {} were proposed with {} in sum, the target there is {}: propose weights \
+         that come to the target",
+        bracketed(point),
+        balance.proposed(point),
+        balance.target(point)
+    ))
+}
+
+/// What is said of a row that the shift moved by no more than rounding does.
+fn rounded_words(balance: &Balance, row: usize) -> String {
     let [p, q, r] = balance.proof.rows[row].weights.map(i128::from);
-    let held = p >= 0 && q >= 0 && r * r <= 4 * p * q;
-    let what = match (floor_for_row(balance, row), larger_scale(balance.proof.scale.into()), held) {
-        (Some(floor), ..) => format!("lower the floor: try {floor}"),
-        (None, Some(scale), true) => format!("a larger scale leaves less rounding: try {scale}"),
-        (None, None, true) => "leave room in every row, say r² ≤ 0.99 × 4pq".to_string(),
-        (None, Some(scale), false) => {
+    let holds = |p: i128, q: i128, r: i128| p >= 0 && q >= 0 && r * r <= 4 * p * q;
+    let held = holds(p, q, r);
+    let nearly = holds(p + 1, q + 1, (r.abs() - 1).max(0));
+    match (held, larger_scale(balance, row).filter(|_| nearly)) {
+        (true, Some(scale)) => format!("a larger scale leaves less rounding: try {scale}"),
+        (true, None) => "leave room in every row, say r² ≤ 0.99 × 4pq".to_string(),
+        (false, Some(scale)) => {
             format!("{UNHELD}, or, if they were rounded, take a larger scale: try {scale}")
         }
-        (None, None, false) => UNHELD.to_string(),
-    };
-    format!("{missed}; {what}")
+        (false, None) => UNHELD.to_string(),
+    }
 }
 
 /// The floor that gives the row's end at the constant what it lacks, where it has such an end.
@@ -134,8 +179,9 @@ fn floor_for_row(balance: &Balance, row: usize) -> Option<i128> {
     lower_floor(balance, point, needed - end)
 }
 
-/// A scale that leaves some digits more.
-fn larger_scale(scale: i128) -> Option<i128> {
-    let scales = [1000, 10_000, 100_000, 1_000_000, GREATEST_SCALE];
-    scales.into_iter().find(|larger| *larger > scale)
+/// A scale that leaves three digits more, where the row's ends have no more than these.
+fn larger_scale(balance: &Balance, row: usize) -> Option<i128> {
+    let [p, q, _] = balance.proof.rows[row].weights;
+    let scale = i128::from(balance.proof.scale);
+    (p.min(q) < 1000 && scale < GREATEST_SCALE).then(|| (1000 * scale).min(GREATEST_SCALE))
 }

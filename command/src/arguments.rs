@@ -1,5 +1,6 @@
 //! The arguments of a subcommand, and its help.
 
+use crate::near::meant;
 use crate::status::{trouble, Ending, Trouble};
 use std::ops::RangeInclusive;
 
@@ -107,7 +108,8 @@ impl Arguments {
             None => (word, None),
         };
         let Some(option) = subcommand.options().find(|option| option.name == name) else {
-            return subcommand.misused(format!("there is no option {name}"));
+            let meant = meant(name, subcommand.options().map(|option| option.name));
+            return subcommand.misused(format!("there is no option {name}{meant}"));
         };
         let value = match (option.value, attached) {
             ("", None) => String::new(),
@@ -118,6 +120,9 @@ impl Arguments {
                 None => return subcommand.misused(format!("{name} needs {called} after it")),
             },
         };
+        if option.value.contains(',') && value.ends_with(',') {
+            return subcommand.misused(format!("{name} takes {} without spaces", option.value));
+        }
         if self.has(name) {
             return subcommand.misused(format!("{name} is there twice"));
         }
@@ -162,7 +167,7 @@ mod tests {
         count: 1..=3,
         summary: "",
         about: "",
-        options: &[EXACT],
+        options: &[EXACT, PROFILE],
         run: |_| Ok(Status::Done),
     };
 
@@ -193,6 +198,8 @@ mod tests {
             told("file --page"),
             "example: there is no option --page; try `burmelox example --help`"
         );
+        assert!(told("file --jsn").contains("no option --jsn (did you mean --json?); try"));
+        assert!(told("file --profile 1, 2, 3").contains("--profile takes E,W,R without spaces"));
         assert!(told("file -o").contains("-o needs FILE after it"));
         assert!(told("file -o a -o b").contains("-o is there twice"));
         assert!(told("file --json=1").contains("--json takes no value"));

@@ -1,6 +1,7 @@
 //! Targets and shifted weights, worked out anew for advice. They decide nothing.
 
 use crate::sheet::{Claim, Limits, Point, Proof};
+use burmelox::Profile;
 use std::collections::BTreeMap;
 
 /// Well-formed sheets with their targets, their slots and what their weights are shifted to.
@@ -43,6 +44,43 @@ impl<'a> Balance<'a> {
     pub fn slots(&self, point: &Point) -> i128 {
         self.slots.get(point).map_or(0, Vec::len) as i128
     }
+
+    /// What the slots at a point are proposed with in sum.
+    pub fn proposed(&self, point: &Point) -> i128 {
+        let weight = |&(row, place): &(usize, usize)| self.proof.rows[row].weights[place];
+        self.slots.get(point).into_iter().flatten().map(weight).map(i128::from).sum()
+    }
+
+    /// Some row has its midpoint at a point.
+    pub fn is_midpoint(&self, point: &Point) -> bool {
+        self.slots.get(point).into_iter().flatten().any(|&(_, place)| place == 2)
+    }
+
+    /// By how much the shift moved the weights of a row.
+    pub fn moved(&self, row: usize) -> [i128; 3] {
+        let proposed = self.proof.rows[row].weights;
+        std::array::from_fn(|place| self.shifted[row][place] - i128::from(proposed[place]))
+    }
+
+    /// Ends of a pair whose midpoint is this one: where there are such, both of which can have
+    /// weights over 0; else the constant and twice the point, if its exponents are not too large.
+    pub fn ends_around(&self, midpoint: &Point) -> Option<(Point, Point)> {
+        let with_opposite = |v: &Point| Some((v.clone(), opposite(v, midpoint)?));
+        let bears = |point: &Point| self.target(point) > 0 || self.is_midpoint(point);
+        let points = self.targets.keys().chain(self.slots.keys());
+        let mut pairs = points.filter_map(with_opposite);
+        let borne = pairs.find(|(v, w)| v < w && bears(v) && bears(w));
+        borne.or_else(|| with_opposite(&self.claim.origin()))
+    }
+}
+
+/// The other end of a pair with this end and this midpoint.
+fn opposite(end: &Point, midpoint: &Point) -> Option<Point> {
+    let most = Profile::FULL.exponent as u8;
+    let exponent = |(&end, &middle): (&u8, &u8)| {
+        middle.checked_mul(2)?.checked_sub(end).filter(|other| *other <= most)
+    };
+    end.iter().zip(midpoint).map(exponent).collect()
 }
 
 fn targets(claim: &Claim, scale: i128, limits: &Limits) -> BTreeMap<Point, i128> {

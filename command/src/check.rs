@@ -8,7 +8,7 @@ use crate::library::{self, Verdict};
 use crate::profiles;
 use crate::report::Report;
 use crate::status::{Ending, Status, Trouble};
-use crate::telling::{tell_accepted, tell_advice, tell_refusal, tell_sheets};
+use crate::telling::{tell_accepted, tell_advice, tell_refusal, tell_sheets, tell_swapped};
 use burmelox::Profile;
 
 pub const SUBCOMMAND: Subcommand = Subcommand {
@@ -45,7 +45,8 @@ fn run(arguments: &Arguments) -> Ending {
             Status::Done
         }
         Err(refusal) => {
-            tell_refusal(&mut report, refusal, Blamed::from(&sheets));
+            tell_refusal(&mut report, refusal, Blamed::sheets(&sheets, profile));
+            tell_swapped(&mut report, &sheets, refusal);
             tell_advice(&mut report, claim, &sheets, profile, refusal);
             Status::Refused
         }

@@ -100,7 +100,8 @@ fn fits(bytes: &[u8], kind: Kind) -> bool {
 
 /// Why each kind does not fit.
 fn tell_no_kind(report: &mut Report, file: &str, bytes: &[u8]) {
-    report.line("refused: this is no sheet");
+    let why = if bytes.is_empty() { "the file is empty" } else { "this is no sheet" };
+    report.line(&format!("refused: {why}"));
     report.fields().text("verdict", "refused");
     for kind in Kind::ALL {
         let contents = Contents::of_bytes(file, bytes, kind);

@@ -47,7 +47,8 @@ fn run(arguments: &Arguments) -> Ending {
             Status::Done
         }
         Some(refusal) => {
-            let blamed = Blamed { claim: Some(&claim), proof: None, limits: None };
+            let (claim, proof, limits) = (Some(&claim), None, None);
+            let blamed = Blamed { claim, proof, limits, profile, range: None };
             tell_refusal(&mut report, refusal, blamed);
             Status::Refused
         }
@@ -57,6 +58,6 @@ fn run(arguments: &Arguments) -> Ending {
 }
 
 fn offset(word: &String) -> Result<i32, Trouble> {
-    let found = || format!("evaluate: expected an offset of 32 bits, found {word:?}");
+    let found = || format!("evaluate: expected a whole number of 32 bits, found {word:?}");
     word.parse().or_else(|_| trouble(found()))
 }

@@ -1,33 +1,41 @@
 //! The part of the sheets that a refusal blames, in the words of the text.
 
+use crate::breach;
 use crate::held::{Contents, Held, Sheets};
 use crate::rules::{Index, Refusal, Sheet};
 use crate::sheet::{Claim, Limits, Proof};
+use burmelox::Profile;
 
-/// The sheets that a refusal may blame.
+/// The sheets that a refusal may blame, and what they were judged under.
 #[derive(Clone, Copy)]
 pub struct Blamed<'a> {
     pub claim: Option<&'a Held>,
     pub proof: Option<&'a Held>,
     pub limits: Option<&'a Held>,
+    pub profile: Profile,
+    /// The range of a search.
+    pub range: Option<(i64, i64)>,
 }
 
-impl<'a> From<&'a Sheets> for Blamed<'a> {
-    fn from(sheets: &'a Sheets) -> Blamed<'a> {
+impl<'a> Blamed<'a> {
+    /// The sheets of a check.
+    pub fn sheets(sheets: &'a Sheets, profile: Profile) -> Blamed<'a> {
         let Sheets { claim, proof, given_limits, .. } = sheets;
-        Blamed { claim: Some(claim), proof: Some(proof), limits: given_limits.as_ref() }
+        let limits = given_limits.as_ref();
+        Blamed { claim: Some(claim), proof: Some(proof), limits, profile, range: None }
     }
 }
 
 impl<'a> From<&'a Contents> for Blamed<'a> {
     fn from(contents: &'a Contents) -> Blamed<'a> {
-        let Contents { claim, proof, limits } = contents;
-        Blamed { claim: claim.as_ref(), proof: proof.as_ref(), limits: limits.as_ref() }
+        let [claim, proof, limits] =
+            [&contents.claim, &contents.proof, &contents.limits].map(Option::as_ref);
+        Blamed { claim, proof, limits, profile: Profile::FULL, range: None }
     }
 }
 
 impl Blamed<'_> {
-    /// What is at fault, with its file and line where it was a text.
+    /// What is at fault, with its file, and its line where it was a text.
     pub fn words(&self, refusal: Refusal) -> Option<String> {
         let rule = refusal.rule();
         let held = match rule.sheet {
@@ -35,6 +43,7 @@ impl Blamed<'_> {
             Sheet::Limits => self.limits?,
             _ if rule.index == Index::Point => self.claim?,
             Sheet::Proof => self.proof?,
+            Sheet::Range => return breach::of_range(self.range?),
             _ => return None,
         };
         let words = match rule.index {
@@ -43,8 +52,25 @@ impl Blamed<'_> {
             Index::Row => row(&held.bytes, refusal.index)?,
             Index::Variable => variable(&held.bytes, refusal.index)?,
         };
-        let place = if rule.index == Index::Nothing { None } else { held.place(refusal.index) };
-        Some(place.map_or(words.clone(), |place| format!("{place}: {words}")))
+        let place = match rule.index {
+            Index::Nothing => Some(held.beginning()),
+            _ => held.place(refusal.index),
+        };
+        let breach = self.breach(refusal, &held.bytes);
+        let parts = [place, Some(words), breach];
+        Some(parts.into_iter().flatten().collect::<Vec<String>>().join(": "))
+    }
+
+    /// Which of the possibilities of its rule a refusal means, where there are several.
+    fn breach(&self, refusal: Refusal, sheet: &[u8]) -> Option<String> {
+        let n = self.claim.and_then(|claim| claim.bytes.first().copied());
+        match refusal.number {
+            6 => breach::of_term(sheet, refusal.index, self.profile),
+            9 => breach::of_proof(sheet, n, self.profile),
+            12 | 15 => breach::of_row(sheet, refusal.index, refusal.number, self.profile),
+            24 => breach::of_count(sheet, n),
+            _ => None,
+        }
     }
 }
 
@@ -65,6 +91,9 @@ fn variable(limits: &[u8], index: usize) -> Option<String> {
 
 /// What the header of a sheet says; where its length is another, that alone.
 fn header(sheet: Sheet, bytes: &[u8]) -> Option<String> {
+    if bytes.is_empty() {
+        return Some("the file is empty".to_string());
+    }
     let (length, fields) = match sheet {
         Sheet::Claim => {
             (Claim::length(bytes), Claim::read(bytes).map(|claim| claim_fields(&claim)))

@@ -55,6 +55,11 @@ pub fn failed(name: &str, error: &Error) -> Trouble {
     Trouble(format!("{name}: {}", reason(error)))
 }
 
+/// Trouble with a file that is to be written.
+pub fn unwritten(name: &str, error: &Error) -> Trouble {
+    Trouble(format!("cannot write {name}: {}", reason(error)))
+}
+
 /// A file that is written, and takes its name only when all is: until then it stands under a
 /// temporary name beside it, which goes where it is dropped. What is no plain file, as a device, is
 /// written when it would take its name.
@@ -75,9 +80,11 @@ impl Staged {
         is_target(name)?;
         let target = fs::canonicalize(name).unwrap_or_else(|_| PathBuf::from(name));
         let waiting = match fs::metadata(&target) {
-            Ok(found) if found.is_dir() => return trouble(format!("{name}: Is a directory")),
+            Ok(found) if found.is_dir() => {
+                return trouble(format!("cannot write {name}: Is a directory"))
+            }
             Ok(found) if !found.is_file() => Waiting::Bytes(bytes.to_vec()),
-            _ => Waiting::Temporary(write_beside(&target, bytes).map_err(|e| failed(name, &e))?),
+            _ => Waiting::Temporary(write_beside(&target, bytes).map_err(|e| unwritten(name, &e))?),
         };
         Ok(Staged { name: name.to_string(), target, waiting })
     }
@@ -89,7 +96,7 @@ impl Staged {
             Waiting::Bytes(bytes) => fs::write(&self.target, bytes),
             Waiting::Placed => Ok(()),
         };
-        placed.map_err(|error| failed(&self.name, &error))?;
+        placed.map_err(|error| unwritten(&self.name, &error))?;
         self.waiting = Waiting::Placed;
         Ok(())
     }

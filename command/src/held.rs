@@ -3,30 +3,51 @@
 use crate::arguments::Arguments;
 use crate::files::{Inputs, STANDARD_INPUT};
 use crate::library::{self, Text};
+use crate::output::complain;
 use crate::sheet::{Claim, Limits};
-use crate::status::Trouble;
+use crate::status::{trouble, Trouble};
 use crate::text::{self, Part, Parts};
+use crate::words::Mistake;
 
 /// A sheet with the file that holds it, and in a text the lines of its terms, rows or variables.
 pub struct Held {
     pub bytes: Vec<u8>,
-    file: String,
+    pub file: String,
     lines: Vec<usize>,
+    start: Option<usize>,
 }
 
 impl Held {
     fn in_bytes(file: &str, bytes: &[u8]) -> Held {
-        Held { bytes: bytes.to_vec(), file: shown(file), lines: Vec::new() }
+        Held { bytes: bytes.to_vec(), file: shown(file), lines: Vec::new(), start: None }
     }
 
-    fn in_text(file: &str, Part { bytes, lines }: Part) -> Held {
-        Held { bytes, file: shown(file), lines }
+    fn in_text(file: &str, Part { bytes, lines, start, unscaled }: Part) -> Held {
+        warn(&shown(file), &unscaled);
+        Held { bytes, file: shown(file), lines, start: Some(start) }
     }
 
     /// The file and line of the term, row or variable, where the sheet was a text.
     pub fn place(&self, index: usize) -> Option<String> {
         let line = self.lines.get(index).filter(|&&line| line > 0)?;
         Some(format!("{}:{line}", self.file))
+    }
+
+    /// The file, with the line of a text where the sheet begins.
+    pub fn beginning(&self) -> String {
+        self.start.map_or(self.file.clone(), |line| format!("{}:{line}", self.file))
+    }
+}
+
+/// Tells the first weights of a text that may be meant otherwise, and how many more there are.
+fn warn(file: &str, unscaled: &[Mistake]) {
+    const MOST_TOLD: usize = 3;
+    for weight in unscaled.iter().take(MOST_TOLD) {
+        complain(&format!("burmelox: {file}:{weight}\n"));
+    }
+    if unscaled.len() > MOST_TOLD {
+        let more = unscaled.len() - MOST_TOLD;
+        complain(&format!("burmelox: {file}: and {more} more whole numbers among the weights\n"));
     }
 }
 
@@ -64,6 +85,9 @@ pub struct Contents {
 impl Contents {
     /// The sheets in a text.
     pub fn of_text(file: &str, text: &[u8]) -> Result<Contents, Trouble> {
+        if text.is_empty() {
+            return trouble(format!("{}: the file is empty", shown(file)));
+        }
         let read = text::read(text);
         let Parts { claim, proof, limits } =
             read.map_err(|mistake| Trouble(format!("{}:{mistake}", shown(file))))?;

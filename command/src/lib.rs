@@ -2,7 +2,7 @@
 //! accepted and what a sheet says comes from the proved library.
 //!
 //! One module a subcommand: `check`, `search`, `evaluate`, `encode`, `decode`, `explain`, `picture`,
-//! `batch`. They are called by `arguments`, get their sheets from `held`, and tell in a `report`.
+//! `batch`. They are called by `arguments` with `near`, get their sheets from `held`, and tell in a `report`.
 //!
 //! - `files` reads and writes, `output` prints, `status` says how a run ends.
 //! - `sheet` has the fields of sheets; `words` and `text` read them from a text, `fractions` and
@@ -10,7 +10,7 @@
 //! - `library` has the library's texts and verdicts, `rules` the table of its refusals.
 //! - `points_picture` and `curve_picture` are the pictures, with `axis` and `svg`.
 //! - `list`, `results` and `progress` are those of a batch.
-//! - `fault` names what a refusal blames, `balance` and `advice` say more of 16 to 19, and
+//! - `fault` names what a refusal blames and `breach` with which numbers, `balance` and `advice` say more of 16 to 19, and
 //!   `telling` puts all that into words.
 
 pub mod advice;
@@ -18,6 +18,7 @@ mod arguments;
 mod axis;
 pub mod balance;
 mod batch;
+mod breach;
 mod check;
 mod curve_picture;
 mod decode;
@@ -32,6 +33,7 @@ mod json;
 pub mod library;
 mod list;
 mod natural;
+mod near;
 mod output;
 mod picture;
 mod points_picture;
@@ -86,6 +88,7 @@ fn dispatch(words: &[String]) -> Ending {
         return trouble("no subcommand; try `burmelox --help`");
     };
     match name.as_str() {
+        "help" if !rest.is_empty() => call(&rest[0], &["--help".to_string()]),
         "--help" | "-h" | "help" => print(&help()),
         "--version" => print(&format!("burmelox {}\n", env!("CARGO_PKG_VERSION"))),
         _ => call(name, rest),
@@ -99,7 +102,8 @@ fn print(text: &str) -> Ending {
 
 fn call(name: &str, rest: &[String]) -> Ending {
     let Some(subcommand) = SUBCOMMANDS.iter().find(|subcommand| subcommand.name == name) else {
-        return trouble(format!("there is no subcommand {name}; try `burmelox --help`"));
+        let meant = near::meant(name, SUBCOMMANDS.iter().map(|subcommand| subcommand.name));
+        return trouble(format!("there is no subcommand {name}{meant}; try `burmelox --help`"));
     };
     let arguments = Arguments::parse(subcommand, rest)?;
     if arguments.has("--help") {

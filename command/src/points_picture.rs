@@ -1,7 +1,7 @@
 //! The picture of a claim in two variables: its points, and a proof's rows between them.
 
 use crate::axis::{exact, width, Axis};
-use crate::sheet::{bracketed, Claim, Point, Proof, Row};
+use crate::sheet::{bracketed, Claim, Point, Proof, Row, Term};
 use crate::svg::{Picture, BOTTOM, GREY, INK, LEFT, RED, TOP};
 use std::collections::BTreeMap;
 
@@ -14,6 +14,9 @@ const LINE: f64 = 20.0;
 
 /// So many rows are listed with their weights; of more, the number is told.
 const MOST_LISTED: usize = 16;
+
+/// How much further than a bent line its controls are aside.
+const STEEPNESS: f64 = 3.5;
 
 /// The colours of rows, one after another.
 const ROWS: [&str; 8] =
@@ -73,9 +76,14 @@ fn colour(row: usize) -> &'static str {
     ROWS[row % ROWS.len()]
 }
 
-/// The colour of a coefficient.
-fn sign_colour(coefficient: i32) -> &'static str {
-    if coefficient < 0 {
+/// A term counts as negative by its sign, and by odd exponents of variables that are not masked.
+fn is_negative(claim: &Claim, term: &Term) -> bool {
+    term.coefficient < 0 || !claim.odd_unmasked(&term.point).is_empty()
+}
+
+/// The colour of a term.
+fn sign_colour(is_negative: bool) -> &'static str {
+    if is_negative {
         RED
     } else {
         INK
@@ -83,7 +91,7 @@ fn sign_colour(coefficient: i32) -> &'static str {
 }
 
 /// How far the line of each row is bent: a pair that lies on an earlier one goes around it, the next
-/// one on the other side.
+/// one with the sides exchanged. A bent line looks the same from both ends.
 fn bends(rows: &[Row]) -> Vec<f64> {
     let mut turns: Vec<usize> = Vec::new();
     for (index, row) in rows.iter().enumerate() {
@@ -91,15 +99,15 @@ fn bends(rows: &[Row]) -> Vec<f64> {
         let taken: Vec<usize> = earlier.map(|(_, turn)| *turn).collect();
         turns.push((0..index).find(|turn| !taken.contains(turn)).unwrap_or(index));
     }
-    let bend = |(turn, row): (&usize, &Row)| {
+    let bend = |turn: &usize| {
         let bend = 18.0 * turn.div_ceil(2).min(5) as f64;
-        if (turn % 2 == 1) == (row.v < row.w) {
+        if turn % 2 == 1 {
             bend
         } else {
             -bend
         }
     };
-    turns.iter().zip(rows).map(bend).collect()
+    turns.iter().map(bend).collect()
 }
 
 /// The plane of the exponents.
@@ -131,8 +139,8 @@ impl Plane {
         picture.axis_names(&name(0), &name(1), RIGHT);
     }
 
-    /// Each pair as a line from v to w, with a mark in the middle; where several are in one place,
-    /// the next one is around the first.
+    /// Each pair as a line from v to w, with a mark at its midpoint, where several are around each
+    /// other. A line that is bent goes to one side, through its midpoint, and to the other side.
     fn draw_pairs(&self, picture: &mut Picture, rows: &[Row]) {
         let mut marks = Marks::default();
         for (index, (row, bend)) in rows.iter().zip(bends(rows)).enumerate() {
@@ -141,13 +149,16 @@ impl Plane {
             }
             let ((x0, y0), (x1, y1)) = (self.at(&row.v), self.at(&row.w));
             let length = (x1 - x0).hypot(y1 - y0);
-            let aside = (bend * (y1 - y0) / length, bend * (x0 - x1) / length);
-            let (x, y) = ((x0 + x1) / 2.0 + aside.0, (y0 + y1) / 2.0 + aside.1);
-            let (turn_x, turn_y) = (x + aside.0, y + aside.1);
+            let turn = STEEPNESS * bend / length;
+            let (aside_x, aside_y) = (turn * (y0 - y1), turn * (x1 - x0));
+            let (x, y) = ((x0 + x1) / 2.0, (y0 + y1) / 2.0);
+            let (from_x, from_y) = ((x0 + x) / 2.0 + aside_x, (y0 + y) / 2.0 + aside_y);
+            let (to_x, to_y) = ((x1 + x) / 2.0 - aside_x, (y1 + y) / 2.0 - aside_y);
             let colour = colour(index);
             picture.put(format_args!(
-                "<path class=\"pair\" d=\"M {x0:.1} {y0:.1} Q {turn_x:.1} {turn_y:.1} {x1:.1} \
-                 {y1:.1}\" fill=\"none\" stroke=\"{colour}\" stroke-width=\"2.5\"/>"
+                "<path class=\"pair\" d=\"M {x0:.1} {y0:.1} C {from_x:.1} {from_y:.1} {to_x:.1} \
+                 {to_y:.1} {x1:.1} {y1:.1}\" fill=\"none\" stroke=\"{colour}\" \
+                 stroke-width=\"2.5\"/>"
             ));
             picture.diamond("midpoint", (x, y), 10.0 + marks.around((x, y)), colour);
         }
@@ -159,27 +170,27 @@ impl Plane {
             picture.dot("end", self.at(end), 4.5, "white", GREY);
         }
         for term in &claim.terms {
-            let colour = sign_colour(term.coefficient);
+            let colour = sign_colour(is_negative(claim, term));
             picture.dot("term", self.at(&term.point), 5.5, colour, "white");
         }
-        for (place, coefficient) in self.labelled(claim) {
-            let label = exact(coefficient);
-            picture.label(place, "start", sign_colour(coefficient), 14, &label);
+        for (place, term) in self.labelled(claim) {
+            let colour = sign_colour(is_negative(claim, term));
+            picture.label(place, "start", colour, 14, &exact(term.coefficient));
         }
     }
 
     /// Where the labels of the claim's points begin, of those that have room beside the others.
-    fn labelled(&self, claim: &Claim) -> Vec<((f64, f64), i32)> {
-        let mut labels: Vec<((f64, f64), i32)> = Vec::new();
-        let wide = |coefficient: i32| width(&exact(coefficient));
+    fn labelled<'a>(&self, claim: &'a Claim) -> Vec<((f64, f64), &'a Term)> {
+        let mut labels: Vec<((f64, f64), &Term)> = Vec::new();
+        let wide = |term: &Term| width(&exact(term.coefficient));
         for term in &claim.terms {
-            let ((x, y), wide_here) = (self.at(&term.point), wide(term.coefficient));
+            let ((x, y), wide_here) = (self.at(&term.point), wide(term));
             let place = (beside(x, wide_here), y - 12.0);
-            let meets = |&((x, y), other): &((f64, f64), i32)| {
+            let meets = |&((x, y), other): &((f64, f64), &Term)| {
                 (y - place.1).abs() < 15.0 && x < place.0 + wide_here && place.0 < x + wide(other)
             };
             if !labels.iter().any(meets) {
-                labels.push((place, term.coefficient));
+                labels.push((place, term));
             }
         }
         labels
@@ -224,9 +235,11 @@ impl Marks {
 
 /// What the marks mean, each where it occurs, and the rows with their weights.
 fn draw_list(picture: &mut Picture, claim: &Claim, rows: &[Row], unlabelled: usize) {
-    let mut lines = Lines { y: TOP + 8.0 };
-    for (sign, text) in [(1, "positive coefficient"), (-1, "negative coefficient")] {
-        if claim.terms.iter().any(|term| term.coefficient.signum() == sign) {
+    let mut lines = Lines { y: TOP + 8.0, size: list_size(rows) };
+    for (sign, text) in
+        [(false, "term that counts as positive"), (true, "term that counts as negative")]
+    {
+        if claim.terms.iter().any(|term| is_negative(claim, term) == sign) {
             picture.dot("key", (LIST + 12.0, lines.y), 6.0, sign_colour(sign), "white");
             lines.add(picture, text);
         }
@@ -257,6 +270,13 @@ fn draw_list(picture: &mut Picture, claim: &Claim, rows: &[Row], unlabelled: usi
     }
 }
 
+/// The size of the list's text, by the longest row in it.
+fn list_size(rows: &[Row]) -> u8 {
+    let rows = rows.iter().enumerate().take(MOST_LISTED);
+    let longest = rows.map(|(index, row)| facts(row, index).chars().count()).max();
+    (500 / longest.unwrap_or(1)).clamp(6, 13) as u8
+}
+
 /// What the list says of a row.
 fn facts(row: &Row, index: usize) -> String {
     let [p, q, r] = row.weights.map(exact);
@@ -271,13 +291,12 @@ fn facts(row: &Row, index: usize) -> String {
 /// The lines of the list, from the top down.
 struct Lines {
     y: f64,
+    size: u8,
 }
 
 impl Lines {
-    /// Adds a line; a long one is smaller.
     fn add(&mut self, picture: &mut Picture, text: &str) {
-        let size = (500 / text.chars().count()).clamp(6, 13) as u8;
-        picture.label((LIST + 32.0, self.y + 4.5), "start", INK, size, text);
+        picture.label((LIST + 32.0, self.y + 4.5), "start", INK, self.size, text);
         self.y += LINE;
     }
 
@@ -297,7 +316,6 @@ impl Lines {
 #[cfg(test)]
 mod tests {
     use super::*;
-    use crate::sheet::Term;
 
     /// The ends of a row.
     type Ends = ([u8; 2], [u8; 2]);
@@ -372,7 +390,30 @@ mod tests {
     fn pairs_that_lie_on_others_are_bent() {
         assert_eq!(bends(&proof(&ENDS).rows), [0.0, 0.0, 18.0]);
         let same = [([0, 0], [2, 2]), ([0, 0], [2, 2]), ([2, 2], [0, 0]), ([2, 2], [4, 4])];
-        assert_eq!(bends(&proof(&same).rows), [0.0, 18.0, 18.0, 0.0]);
+        assert_eq!(bends(&proof(&same).rows), [0.0, 18.0, -18.0, 0.0]);
+    }
+
+    #[test]
+    fn marks_stay_at_the_midpoint() {
+        let ends = [([0, 0], [2, 2]), ([0, 0], [2, 2])];
+        let svg = svg(&motzkin(), Some(&proof(&ends)));
+        let plane = Plane::around(&motzkin(), &proof(&ends).rows);
+        let (x, y) = plane.at(&vec![1, 1]);
+        for size in [10.0, 14.0] {
+            let mark = format!("class=\"midpoint\" d=\"M {x:.1} {:.1} l {size} {size} ", y - size);
+            assert_eq!(count(&svg, &mark), 1, "{mark}");
+        }
+    }
+
+    #[test]
+    fn odd_terms_count_as_negative() {
+        let mut claim = claim(&[([1, 1], 5)]);
+        let red = format!("fill=\"{RED}\"");
+        let drawn = svg(&claim, None);
+        assert_eq!((count(&drawn, &red), count(&drawn, ">5<")), (3, 1));
+        assert!(drawn.contains(">term that counts as negative<"));
+        claim.mask = 3;
+        assert_eq!(count(&svg(&claim, None), &red), 0);
     }
 
     #[test]

@@ -1,6 +1,6 @@
 //! The results of a batch, one a line, as they are written and as they are found again.
 
-use crate::files::{failed, is_target};
+use crate::files::{failed, is_target, unwritten};
 use crate::held::Sheets;
 use crate::json::{quoted, Object};
 use crate::library;
@@ -182,7 +182,7 @@ impl Results {
     /// Writes a result.
     pub fn add(&mut self, entry: &Entry, outcome: &Outcome) -> Result<(), Trouble> {
         let line = self.form.line(entry, outcome);
-        self.file.write_all(&line).map_err(|error| failed(&self.name, &error))?;
+        self.file.write_all(&line).map_err(|error| unwritten(&self.name, &error))?;
         let status = match outcome {
             Outcome::Accepted(_) => Status::Done,
             Outcome::Refused(_) => Status::Refused,
@@ -219,5 +219,5 @@ impl Results {
 fn opened(name: &str) -> Result<File, Trouble> {
     is_target(name)?;
     let file = OpenOptions::new().read(true).append(true).create(true).open(name);
-    file.map_err(|error| failed(name, &error))
+    file.map_err(|error| unwritten(name, &error))
 }

@@ -135,7 +135,7 @@ pub const RULES: &[Rule] = &[
     row(15, Sheet::Proof, "a proposed weight is beyond ± the profile's", Index::Row,
         "Take a smaller S, or repeat the row and split its weights; up to 2^30 a larger profile takes it."),
     row(16, Sheet::Proof, "a target is not 0 and no row has a slot there", Index::Point,
-        "Add a row with a slot at this point: lone or an end where the target is positive, a midpoint where it is negative. At the constant: lower the floor or an m."),
+        "Add a row with a slot at this point: lone or an end where the target is positive, a midpoint where it is negative. Where it is negative at the constant: lower the floor, or an m."),
     row(17, Sheet::Proof, "a shifted weight is beyond ± the profile's", Index::Row,
         "Take a smaller S, or more slots there, proposed alike; up to 2^30 a larger profile takes it."),
     row(18, Sheet::Proof, "a shifted p or q is negative", Index::Row,

@@ -1,6 +1,8 @@
 //! `burmelox search`: the highest floor that a proof carries.
 
+use crate::advice::advice;
 use crate::arguments::{Arguments, Opt, Subcommand, EXACT, LIMITS, PROFILE};
+use crate::balance::Balance;
 use crate::fault::Blamed;
 use crate::files::Staged;
 use crate::held::Sheets;
@@ -8,6 +10,7 @@ use crate::library;
 use crate::profiles;
 use crate::report::Report;
 use crate::rules::Refusal;
+use crate::sheet::{Claim, Limits, Proof};
 use crate::status::{trouble, Ending, Status, Trouble};
 use crate::telling::{tell_refusal, tell_sheets};
 use burmelox::Profile;
@@ -59,7 +62,9 @@ fn run(arguments: &Arguments) -> Ending {
         }
         Err(refusal) => {
             tell_sheets(&mut report, &sheets.claim.bytes, &sheets, given);
-            tell_refusal(&mut report, refusal, Blamed::from(&sheets));
+            let range = Some((lo, hi));
+            let blamed = Blamed { range, ..Blamed::sheets(&sheets, profile) };
+            tell_refusal(&mut report, refusal, blamed);
             tell_lowest(&mut report, &sheets, profile, lo, refusal);
             (Status::Refused, Vec::new())
         }
@@ -147,9 +152,24 @@ fn tell_lowest(report: &mut Report, sheets: &Sheets, profile: Profile, lo: i64, 
     if refusal.number == 23 {
         let claim = with_floor(&sheets.claim.bytes, lo);
         let verdict = library::check(&claim, &sheets.proof.bytes, &sheets.limits, profile);
-        let words = format!("with floor {lo} a check says: {}", verdict.line);
+        let why = verdict.exact.err().and_then(|refusal| no_floor(&claim, sheets, refusal));
+        let words =
+            format!("with floor {lo} a check says: {}{}", verdict.line, why.unwrap_or_default());
         report.note("advice", "advice", &words);
     }
+}
+
+/// What is said of 18 or 19 at a row without a slot at the constant, which no floor helps.
+fn no_floor(claim: &[u8], sheets: &Sheets, refusal: Refusal) -> Option<String> {
+    let (claim, proof) = (Claim::read(claim)?, Proof::read(&sheets.proof.bytes)?);
+    let row = refusal.index;
+    let at_constant = proof.rows.get(row)?.slots().contains(&claim.origin());
+    if at_constant || ![18, 19].contains(&refusal.number) {
+        return None;
+    }
+    let limits = Limits::read(&sheets.limits)?;
+    let advised = advice(&Balance::new(&claim, &proof, &limits), Profile::FULL, refusal)?;
+    Some(format!("; row {row} has no slot at the constant, so no floor helps: {advised}"))
 }
 
 fn staged(arguments: &Arguments, found: &Found, claim: &[u8]) -> Result<Vec<Staged>, Trouble> {

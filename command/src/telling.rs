@@ -65,6 +65,20 @@ pub fn refused_fields(object: &mut Object, refusal: Refusal) {
     object.text("sheet", &refusal.rule().sheet.to_string());
 }
 
+/// A claim that reads as a proof, or a proof that reads as a claim: the files may be swapped.
+pub fn tell_swapped(report: &mut Report, sheets: &Sheets, refusal: Refusal) {
+    let Sheets { claim, proof, .. } = sheets;
+    let (held, kind, is_other) = match refusal.number {
+        1..=3 => (claim, "proof", library::proof_text(&claim.bytes).is_ok()),
+        8..=10 => (proof, "claim", library::claim_text(&proof.bytes).is_ok()),
+        _ => return,
+    };
+    if is_other && claim.file != proof.file {
+        let words = format!("{} reads as a {kind}: are CLAIM and PROOF swapped?", held.file);
+        report.note("advice", "advice", &words);
+    }
+}
+
 /// Advice on a refusal by 16 to 19.
 pub fn tell_advice(
     report: &mut Report,

@@ -11,6 +11,10 @@ use std::ops::RangeInclusive;
 pub struct Part {
     pub bytes: Vec<u8>,
     pub lines: Vec<usize>,
+    /// The line that the sheet begins with.
+    pub start: usize,
+    /// Of a proof, weights that stand as they are among others that do not.
+    pub unscaled: Vec<Mistake>,
 }
 
 /// The sheets of a text.
@@ -35,19 +39,16 @@ pub fn is_text(bytes: &[u8]) -> bool {
 pub fn read(text: &[u8]) -> Result<Parts, Mistake> {
     let mut lines = Lines::new(text);
     let mut parts = Parts::default();
-    if let Some(line) = lines.take_if("limits") {
-        line.end()?;
-        parts.limits = Some(limits(&mut lines)?);
+    if let Some(start) = start(&mut lines, "limits")? {
+        parts.limits = Some(limits(&mut lines, start)?);
         lines.end("\"variable\"")?;
         return Ok(parts);
     }
-    if let Some(line) = lines.take_if("claim") {
-        line.end()?;
-        parts.claim = Some(claim(&mut lines)?);
+    if let Some(start) = start(&mut lines, "claim")? {
+        parts.claim = Some(claim(&mut lines, start)?);
     }
-    if let Some(line) = lines.take_if("proof") {
-        line.end()?;
-        parts.proof = Some(proof(&mut lines)?);
+    if let Some(start) = start(&mut lines, "proof")? {
+        parts.proof = Some(proof(&mut lines, start)?);
         lines.end("\"row\"")?;
     }
     if parts.claim.is_none() && parts.proof.is_none() {
@@ -55,6 +56,14 @@ pub fn read(text: &[u8]) -> Result<Parts, Mistake> {
     }
     lines.end("\"term\", \"proof\"")?;
     Ok(parts)
+}
+
+/// The line where a sheet begins, with its name alone.
+fn start(lines: &mut Lines, name: &str) -> Result<Option<usize>, Mistake> {
+    let Some(line) = lines.take_if(name) else { return Ok(None) };
+    let number = line.number;
+    line.end()?;
+    Ok(Some(number))
 }
 
 /// The number on a line of its own, behind its keyword.
@@ -65,8 +74,32 @@ fn field(line: Line, range: RangeInclusive<i64>) -> Result<i64, Mistake> {
     Ok(number)
 }
 
-/// The exponents of a point.
+/// What is said of a coefficient or a floor that is a fraction.
+const WHOLE: &str = "coefficients and floor are whole: multiply the whole polynomial and the \
+                     weights by one number";
+
+/// The number of a coefficient or a floor.
+fn amount(word: Word) -> Result<i32, Mistake> {
+    let is_fraction = || !is_whole(word.text()) && with_point(word).is_some();
+    match word.number(SIGNED) {
+        Err(mistake) if is_fraction() => Err(mistake.with(WHOLE)),
+        number => Ok(number? as i32),
+    }
+}
+
+/// The fraction that a word is with a decimal point for a comma.
+fn with_point(word: Word) -> Option<Fraction> {
+    Fraction::parse(&word.text().replacen(',', ".", 1))
+}
+
+/// The exponents of a point, with no number behind them.
 fn point(line: &mut Line, n: u8) -> Result<Point, Mistake> {
+    let found = line.wholes();
+    if found != usize::from(n) && !line.has_number_like(found) {
+        let many = if n == 1 { "" } else { "s" };
+        let words = format!("expected {n} exponent{many}, found {found}");
+        return Err(line.mistake_at(found.min(n.into()), words));
+    }
     let exponent = |_| Ok(line.number(BYTE)? as u8);
     (0..n).map(exponent).collect()
 }
@@ -78,10 +111,12 @@ struct Written<'a> {
     index: Option<Word<'a>>,
 }
 
-fn claim(lines: &mut Lines) -> Result<Part, Mistake> {
+fn claim(lines: &mut Lines, start: usize) -> Result<Part, Mistake> {
     let n = field(lines.take("variables")?, BYTE)? as u8;
     let mask = lines.take_if("mask").map_or(Ok(0), |line| field(line, BYTE))? as u8;
-    let floor = field(lines.take("floor")?, SIGNED)? as i32;
+    let mut line = lines.take("floor")?;
+    let floor = amount(line.word("a whole number")?)?;
+    line.end()?;
     let mut written = Vec::new();
     while let Some(line) = lines.take_if("term") {
         if written.len() == usize::from(u8::MAX) {
@@ -93,7 +128,7 @@ fn claim(lines: &mut Lines) -> Result<Part, Mistake> {
     are_sorted(&written)?;
     let lines = written.iter().map(|written| written.line).collect();
     let terms = written.into_iter().map(|written| written.term).collect();
-    Ok(Part { bytes: Claim { n, mask, floor, terms }.bytes(), lines })
+    Ok(Part { bytes: Claim { n, mask, floor, terms }.bytes(), lines, start, unscaled: Vec::new() })
 }
 
 /// There is one more than the sheet's count can say.
@@ -106,7 +141,7 @@ fn term<'a>(mut line: Line<'a>, n: u8) -> Result<Written<'a>, Mistake> {
     let number = line.number;
     let index = line.whole();
     line.keyword(&["coefficient"])?;
-    let coefficient = line.number(SIGNED)? as i32;
+    let coefficient = amount(line.word("a whole number")?)?;
     line.keyword(&["exponents"])?;
     let point = point(&mut line, n)?;
     line.end()?;
@@ -136,33 +171,44 @@ fn is_index(given: Word, index: usize, why: &str) -> Result<(), Mistake> {
     Err(given.mistake(&format!("{index}{why}")))
 }
 
-fn proof(lines: &mut Lines) -> Result<Part, Mistake> {
+fn proof(lines: &mut Lines, start: usize) -> Result<Part, Mistake> {
     let n = field(lines.take("variables")?, BYTE)? as u8;
     let scale = field(lines.take("scale")?, WORD)? as u32;
+    let mut weights = Weights { scale, whole: Vec::new(), scaled: 0 };
     let (mut rows, mut places) = (Vec::new(), Vec::new());
     while let Some(line) = lines.take_if("row") {
         if rows.len() == usize::from(u16::MAX) {
             return Err(full(&line, "rows", rows.len()));
         }
         places.push(line.number);
-        rows.push(row(line, rows.len(), n, scale)?);
+        rows.push(row(line, rows.len(), n, &mut weights)?);
     }
-    Ok(Part { bytes: Proof { n, scale, rows }.bytes(), lines: places })
+    let unscaled = weights.unscaled();
+    Ok(Part { bytes: Proof { n, scale, rows }.bytes(), lines: places, start, unscaled })
 }
 
-fn row(mut line: Line, index: usize, n: u8, scale: u32) -> Result<Row, Mistake> {
+fn row<'a>(
+    mut line: Line<'a>,
+    index: usize,
+    n: u8,
+    read: &mut Weights<'a>,
+) -> Result<Row, Mistake> {
     if let Some(given) = line.whole() {
         is_index(given, index, "")?;
     }
-    let is_pair = line.keyword(&["pair", "lone"])?.text() == "pair";
+    let kind = line.keyword(&["pair", "lone"])?;
+    let is_pair = kind.text() == "pair";
     line.keyword(&["v"])?;
     let v = point(&mut line, n)?;
     let w = if is_pair { end(&mut line, n)? } else { v.clone() };
+    if is_pair && v == w {
+        return Err(kind.wrong("v and w are one point: write lone, with p alone".to_string()));
+    }
     let mut weights = [0; 3];
     let names = if is_pair { &["p", "q", "r"][..] } else { &["p"] };
     for (weight, name) in weights.iter_mut().zip(names) {
         line.keyword(&[name])?;
-        *weight = self::weight(line.word("a weight")?, scale)?;
+        *weight = read.weight(line.word("a weight")?)?;
     }
     line.end()?;
     Ok(Row { v, w, weights })
@@ -174,17 +220,54 @@ fn end(line: &mut Line, n: u8) -> Result<Point, Mistake> {
     point(line, n)
 }
 
-/// A weight: a whole number as it stands, any other times the scale.
-fn weight(word: Word, scale: u32) -> Result<i32, Mistake> {
-    if is_whole(word.text()) {
-        return Ok(word.number(SIGNED)? as i32);
-    }
-    let fraction = Fraction::parse(word.text()).ok_or_else(|| word.mistake("a number"))?;
-    let beyond = || format!("{} times the scale {scale} does not fit into 32 bits", word.shown());
-    fraction.rounded(scale).ok_or_else(|| word.wrong(beyond()))
+/// The weights of a proof as they are read: a whole number as it stands, any other times the scale.
+struct Weights<'a> {
+    scale: u32,
+    /// Those that stand as they are and are not 0.
+    whole: Vec<Word<'a>>,
+    /// How many were taken times the scale.
+    scaled: usize,
 }
 
-fn limits(lines: &mut Lines) -> Result<Part, Mistake> {
+impl<'a> Weights<'a> {
+    fn weight(&mut self, word: Word<'a>) -> Result<i32, Mistake> {
+        if is_whole(word.text()) {
+            let weight = word.number(SIGNED)? as i32;
+            self.whole.extend((weight != 0).then_some(word));
+            return Ok(weight);
+        }
+        self.scaled += 1;
+        let fraction = Fraction::parse(word.text()).ok_or_else(|| no_weight(word))?;
+        let scale = self.scale;
+        let beyond = format!("{} times the scale {scale} does not fit into 32 bits", word.shown());
+        fraction.rounded(scale).ok_or_else(|| word.wrong(beyond))
+    }
+
+    /// The whole numbers among weights that are scaled.
+    fn unscaled(&self) -> Vec<Mistake> {
+        let Weights { scale, whole, scaled } = self;
+        let is_mixed = *scale > 1 && *scaled > 0;
+        let words = |word: &Word| {
+            let text = word.text();
+            word.wrong(format!(
+                "{text} stands as it is, the other weights are taken times {scale}: write \
+                 {text}.0 if it is one of them"
+            ))
+        };
+        whole.iter().filter(|_| is_mixed).map(words).collect()
+    }
+}
+
+/// A word that is no weight, with a word on a decimal comma.
+fn no_weight(word: Word) -> Mistake {
+    let mistake = word.mistake("a number");
+    if with_point(word).is_some() {
+        return mistake.with("write a point");
+    }
+    mistake
+}
+
+fn limits(lines: &mut Lines, start: usize) -> Result<Part, Mistake> {
     let n = field(lines.take("variables")?, BYTE)? as u8;
     let mut limits = Limits::none(n);
     let mut places = vec![0; n.into()];
@@ -199,7 +282,7 @@ fn limits(lines: &mut Lines) -> Result<Part, Mistake> {
         places[variable] = number;
         limits.entries[variable] = limit(line)?;
     }
-    Ok(Part { bytes: limits.bytes(), lines: places })
+    Ok(Part { bytes: limits.bytes(), lines: places, start, unscaled: Vec::new() })
 }
 
 fn limit(mut line: Line) -> Result<Limit, Mistake> {
@@ -247,6 +330,21 @@ mod tests {
     }
 
     #[test]
+    fn whole_weights_among_scaled_ones() {
+        let unscaled = |scale: u32, row: &str| {
+            let text = format!("proof\nvariables 1\nscale {scale}\nrow pair v 0 w 2 {row}");
+            let unscaled = parts(&text).proof.unwrap().unscaled;
+            unscaled.iter().map(ToString::to_string).collect::<Vec<String>>()
+        };
+        let told =
+            "4:20: 5 stands as it is, the other weights are taken times 10: write 5.0 if it \
+                    is one of them";
+        assert_eq!(unscaled(10, "p 5 q 0.5 r 0"), [told]);
+        assert_eq!(unscaled(10, "p 5 q 5 r -7"), [""; 0]);
+        assert_eq!(unscaled(1, "p 5 q 0.5 r -7"), [""; 0]);
+    }
+
+    #[test]
     fn mistakes_have_their_place() {
         let claim = "claim\nvariables 1\nfloor 0\n";
         let term = |line: &str| mistake(&format!("{claim}{line}"));
@@ -266,11 +364,21 @@ mod tests {
         assert_eq!(mistake("claim\nvariables 1 2"), "2:13: expected the line's end, found \"2\"");
         assert_eq!(
             term("  term coefficient 1.5 exponents 0"),
-            "4:20: expected a whole number, found \"1.5\""
+            "4:20: expected a whole number, found \"1.5\"; coefficients and floor are whole: \
+             multiply the whole polynomial and the weights by one number"
         );
         assert_eq!(
-            term("term coefficient 1 exponents"),
-            "4:29: expected a whole number, found the line's end"
+            term("term coefficient \u{2212}1 exponents 0"),
+            "4:18: expected a whole number, found \"\u{2212}1\"; this minus is U+2212, write -"
+        );
+        assert_eq!(term("term coefficient 1 exponents"), "4:29: expected 1 exponent, found 0");
+        assert_eq!(
+            term("term coefficient 1 exponents 0 2 4"),
+            "4:32: expected 1 exponent, found 3"
+        );
+        assert_eq!(
+            term("term coefficient 1 exponents 1.5"),
+            "4:30: expected a whole number, found \"1.5\""
         );
         assert_eq!(
             term("term 1 coefficient 1 exponents 0"),
@@ -291,7 +399,16 @@ mod tests {
         let row = |line: &str| mistake(&format!("proof\nvariables 1\nscale 4\n{line}"));
         assert_eq!(row("row 1 lone v 0 p 1"), "4:5: expected 0, found \"1\"");
         assert_eq!(row("row both v 0 p 1"), "4:5: expected \"pair\" or \"lone\", found \"both\"");
+        assert_eq!(
+            row("row pair v 2 w 2 p 1 q 0 r 0"),
+            "4:5: v and w are one point: write lone, with p alone"
+        );
         assert_eq!(row("row lone v 0 p 1/0"), "4:16: expected a number, found \"1/0\"");
+        assert_eq!(
+            row("row lone v 0 p 0,5"),
+            "4:16: expected a number, found \"0,5\"; write a point"
+        );
+        assert_eq!(row("row pair v w 2 p 1 q 1 r 1"), "4:12: expected 1 exponent, found 0");
         assert_eq!(
             row("row lone v 0 p 1e9"),
             "4:16: \"1e9\" times the scale 4 does not fit into 32 bits"

@@ -17,6 +17,13 @@ impl fmt::Display for Mistake {
     }
 }
 
+impl Mistake {
+    /// The mistake with what to do about it.
+    pub fn with(self, hint: &str) -> Mistake {
+        Mistake { words: format!("{}; {hint}", self.words), ..self }
+    }
+}
+
 /// A word and its place.
 #[derive(Clone, Copy)]
 pub struct Word<'a> {
@@ -33,7 +40,11 @@ impl<'a> Word<'a> {
 
     /// Something else was expected here.
     pub fn mistake(&self, expected: &str) -> Mistake {
-        self.wrong(format!("expected {expected}, found {}", self.shown()))
+        let mistake = self.wrong(format!("expected {expected}, found {}", self.shown()));
+        if self.text().starts_with('\u{2212}') {
+            return mistake.with("this minus is U+2212, write -");
+        }
+        mistake
     }
 
     /// The word is wrong, in words.
@@ -113,6 +124,23 @@ impl<'a> Line<'a> {
         } else {
             None
         }
+    }
+
+    /// How many whole numbers are next.
+    pub fn wholes(&self) -> usize {
+        self.words.as_slice().iter().take_while(|word| is_whole(word.text())).count()
+    }
+
+    /// After so many words comes one that is meant as a number.
+    pub fn has_number_like(&self, after: usize) -> bool {
+        let is_letter = |byte: &u8| byte.is_ascii_alphabetic();
+        self.words.as_slice().get(after).is_some_and(|word| !word.bytes.iter().all(is_letter))
+    }
+
+    /// A mistake where the word stands that is after so many, or where it is missing.
+    pub fn mistake_at(&self, after: usize, words: String) -> Mistake {
+        let column = self.words.as_slice().get(after).map_or(self.end, |word| word.column);
+        Mistake { line: self.number, column, words }
     }
 
     /// One of the keywords has to be next.

@@ -1,6 +1,7 @@
 //! Texts that can't be read or are refused, by file, line and column; and weights as decimals.
 
 use crate::binary;
+use harness::files;
 use harness::folder::Folder;
 use harness::report::{equal, Outcome, Report};
 
@@ -9,8 +10,11 @@ const CLAIM: &str = "claim\nvariables 1\nfloor 0\nterm coefficient 1 exponents 0
 pub fn run(report: &mut Report) {
     report.add("mistakes with file, line and column", are_placed());
     report.add("refusals of texts with file and line", are_refused_by_line());
+    report.add("what is at fault, by its numbers", are_told_by_numbers());
+    report.add("a claim and a proof that are swapped", are_swapped());
     report.add("weights as decimals", are_rounded());
     report.add("a solver's text from decimals to a verdict", is_accepted());
+    report.add("whole numbers among scaled weights", are_warned_of());
     report.add("what a file does not hold", is_lacking());
 }
 
@@ -54,6 +58,55 @@ fn are_refused_by_line() -> Outcome {
     equal("nothing is written", &vec!["refused.text".to_string()], &folder.names())
 }
 
+fn are_told_by_numbers() -> Outcome {
+    let folder = Folder::new("numbers");
+    let text = |n: u8, scale: u32| format!("{CLAIM}proof\nvariables {n}\nscale {scale}\n");
+    let other = folder.write("other.text", text(2, 1));
+    let unscaled = folder.write("unscaled.text", text(1, 0));
+    let limits =
+        folder.write("other.limits", [2; 1].into_iter().chain([0; 14]).collect::<Vec<u8>>());
+    let sheet = "examples/G.sheet";
+    for (arguments, told) in [
+        (
+            &["check", &other][..],
+            "other.text:5: proof of variables 2 rows 0 scale 1: variables 2, the claim has 1",
+        ),
+        (&["check", &unscaled], "rows 0 scale 0: scale 0, not 1 to 1048576"),
+        (&["check", "examples/A.sheet", "--limits", &limits], "variables 2, the claim has 1"),
+        (
+            &["check", sheet, "--profile", "4,4,2"],
+            "examples/G.sheet: proof of variables 2 rows 3 scale 1: rows 3, the profile allows 2",
+        ),
+        (
+            &["check", sheet, "--profile", "2,4,3"],
+            "exponents 2 4: exponent 4, the profile allows 2",
+        ),
+        (&["check", sheet, "--profile", "4,3,3"], "r -4: weight 4, the profile allows 3"),
+        (&["search", sheet, "--from", "2", "--to", "1"], "at fault: --from 2 is over --to 1"),
+        (&["search", sheet, "--from", "0", "--to", "2000000000"], "--to 2000000000 is beyond"),
+    ] {
+        let run = binary::run(arguments);
+        run.ends_with(1)?;
+        equal(told, &true, &run.text().contains(told))?;
+    }
+    Ok(())
+}
+
+fn are_swapped() -> Outcome {
+    let folder = Folder::new("swapped");
+    let sheet = files::read("examples/G.sheet")?;
+    let (claim, proof) = (folder.write("claim", &sheet[..32]), folder.write("proof", &sheet[32..]));
+    for (files, told) in
+        [([&proof, &claim], "proof reads as a proof"), ([&claim, &claim], "claim reads as a claim")]
+    {
+        let run = binary::run(&["check", files[0], files[1]]);
+        run.ends_with(1)?;
+        let told = format!("{told}: are CLAIM and PROOF swapped?\n");
+        equal("it is asked", &(files[0] != files[1]), &run.text().ends_with(&told))?;
+    }
+    Ok(())
+}
+
 fn are_rounded() -> Outcome {
     let proof = |scale: u32, p: &str| {
         let text = format!("proof\nvariables 1\nscale {scale}\nrow lone v 2 p {p}\n");
@@ -90,6 +143,22 @@ fn is_accepted() -> Outcome {
     let claim = claim.split("accepted").next().unwrap_or_default();
     let expected = format!("{claim}accepted rows 3 scale 1000 floor 0\n");
     equal("the text", &expected, &run.text())
+}
+
+/// The first three are told and how many more there are, and the status is as without.
+fn are_warned_of() -> Outcome {
+    let proof = "proof\nvariables 1\nscale 10\nrow pair v 0 w 2 p 5 q 0.5 r 0\n";
+    let run = binary::run_with(&["decode", "-"], proof.as_bytes());
+    run.ends_with(0)?;
+    let told = "burmelox: standard input:4:20: 5 stands as it is, the other weights are taken \
+                times 10: write 5.0 if it is one of them\n";
+    equal("one is told", &told.to_string(), &run.err)?;
+    let more = "row lone v 2 p 1\n".repeat(4);
+    let run = binary::run_with(&["encode", "-"], (proof.to_string() + &more).as_bytes());
+    run.ends_with(0)?;
+    let last = "burmelox: standard input: and 2 more whole numbers among the weights\n";
+    equal("the rest is counted", &true, &run.err.ends_with(last))?;
+    equal("the lines", &4, &run.err.lines().count())
 }
 
 fn is_lacking() -> Outcome {

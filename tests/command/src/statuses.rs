@@ -14,6 +14,8 @@ const RUNS: &[(i32, &[&str])] = &[
     (0, &["--version"]),
     (2, &[]),
     (2, &["juggle"]),
+    (0, &["help", "check"]),
+    (2, &["help", "juggle"]),
     (0, &["check", "examples/G.sheet"]),
     (0, &["check", "examples/line-limited.sheet", "--limits", "examples/line-limited.limits"]),
     (0, &["check", "examples/A.sheet", "--profile", "2,2,1"]),
@@ -72,6 +74,7 @@ pub fn run(report: &mut Report) {
     report.add("sheets and texts on standard input", are_read_from_input());
     report.add("a batch that can't print", batch_cant_print());
     report.add("help of every subcommand", is_helpful());
+    report.add("what misuse is told", is_misused());
     report.add("what a file may be", is_ambiguous());
     report.add("a directory in place of a file", is_directory());
     report.add("a file of 16 MiB and more", is_too_long());
@@ -120,6 +123,18 @@ fn is_helpful() -> Outcome {
         equal("the usage comes first", &true, &help.text().starts_with(&usage))?;
     }
     Ok(())
+}
+
+fn is_misused() -> Outcome {
+    equal("help", &binary::run(&["check", "--help"]).out, &binary::run(&["help", "check"]).out)?;
+    let evaluated = binary::run(&["evaluate", "examples/G.sheet", "1.5", "1"]);
+    evaluated.is_trouble("expected a whole number of 32 bits, found \"1.5\"")?;
+    binary::run(&["chek"]).is_trouble("no subcommand chek (did you mean check?)")?;
+    let written = binary::run(&["check", "examples/G.sheet", "-o", "no/folder/proof"]);
+    written.is_trouble("cannot write no/folder/proof: No such file")?;
+    binary::run_with(&["encode", "-"], b"").is_trouble("standard input: the file is empty")?;
+    let checked = binary::run_with(&["check", "-"], b"").text();
+    equal("it is empty", &true, &checked.contains("at fault: standard input: the file is empty\n"))
 }
 
 /// A claim without terms may be a proof without rows, and more.

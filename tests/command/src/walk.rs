@@ -15,9 +15,12 @@ pub fn run(report: &mut Report) {
 
 fn is_as_told() -> Outcome {
     let blocks = blocks(&files::read_text("README.md")?, "## From decimals to a loaded curve");
-    let (text, sessions) = blocks.split_first().ok_or("the walk has no block")?;
+    let [path_line, text, sessions @ ..] = &blocks[..] else {
+        return Err("the walk has too few blocks".into());
+    };
+    equal("the path is told first", &true, &path_line.starts_with("export PATH=$PWD/command/"))?;
     let folder = Folder::new("walk");
-    folder.write("curve.txt", text);
+    folder.write("curve.txt", set_in(text));
     fs::create_dir(folder.path("bin")).map_err(|error| error.to_string())?;
     symlink(path(), folder.path("bin/burmelox")).map_err(|error| error.to_string())?;
     let steps = steps(&sessions.concat());
@@ -42,6 +45,11 @@ fn blocks(text: &str, heading: &str) -> Vec<String> {
         was_in = inner.is_some();
     }
     blocks
+}
+
+/// A block as it is pasted with the spaces before its lines.
+fn set_in(text: &str) -> String {
+    text.lines().map(|line| format!("    {line}\n")).collect()
 }
 
 /// The commands, each with the lines under it.
