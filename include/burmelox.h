@@ -39,7 +39,8 @@ extern "C" {
 
 /*
  * An answer is one number. It is under 65,536 where nothing is refused: the number of rows of an
- * accepted proof, 0 for a value, the length of a text. A refusal is sheet * 2^32 + number * 2^16 + index.
+ * accepted proof, 0 for a value, the length of a text. A refusal is sheet * 2^32 + number * 2^16 +
+ * index.
  */
 #define BURMELOX_ACCEPTED(answer) ((uint64_t)(answer) < 0x10000u)
 #define BURMELOX_SHEET(answer) ((unsigned)((uint64_t)(answer) >> 32))

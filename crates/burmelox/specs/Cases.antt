@@ -24,6 +24,9 @@ cases =
     ∷ record { answer = refused 25 7; code = 25771442183 }
     ∷ record { answer = refused 26 0; code = 30066475008 }
     ∷ record { answer = refused 27 0; code = 34361507840 }
+    -- the length of a text, and a buffer that is too short for one
+    ∷ record { answer = accepted 31410; code = 31410 }
+    ∷ record { answer = refused 30 0; code = 38656671744 }
     ∷ []
 
 -- the definition gives every number
