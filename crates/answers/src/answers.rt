@@ -3,7 +3,7 @@ ghost use Rattle.std.specs.Prelude.{◌≡◌};
 ghost use Rattle.answers.specs.Answers.{sheet_number, says};
 
 // The sheet at fault, with the refusal's number and index.
-#[derive(Drop)]
+#[derive(Clone, Copy)]
 pub enum Sheet {
     Claim(u32, usize),
     Proof(u32, usize),
@@ -18,14 +18,14 @@ pub enum Sheet {
     Site(u32, usize),
 }
 
-#[derive(Drop)]
+#[derive(Clone, Copy)]
 pub enum Verdict {
     Accepted(usize),
     Refused(Sheet),
 }
 
 // A verdict in numbers: the sheet at fault, the refusal's number and its index, or 0, 0 and k where it is accepted.
-#[derive(Drop)]
+#[derive(Clone, Copy)]
 pub struct Numbers {
     pub sheet: u32,
     pub number: u32,

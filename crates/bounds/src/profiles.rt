@@ -6,7 +6,7 @@ use crate::bounds::{GREATEST_EXPONENT, GREATEST_WEIGHT, MOST_ROWS};
 
 // The greatest exponent, the greatest weight and the most rows.
 #[repr(C)]
-#[derive(Drop)]
+#[derive(Clone, Copy)]
 pub struct Profile {
     pub exponent: u32,
     pub weight: u32,

@@ -19,7 +19,7 @@ use rows::proof_sheet::{
 use sheets::layout::{Shape, variables};
 
 // What every row has to keep, with its limit.
-#[derive(Drop)]
+#[derive(Clone, Copy)]
 pub enum RowRule {
     // 12
     Exponent(u8),

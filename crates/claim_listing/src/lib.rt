@@ -1,2 +1,4 @@
 // The text of a claim.
+#![tactic(auto)]
+
 pub mod claim_text;

@@ -18,7 +18,7 @@ use sheets::claim_sheet::{coefficient, floor, mask, term_count, term_point};
 use sheets::layout::{place_of, variables};
 
 // What every term has to keep, with its limit.
-#[derive(Drop)]
+#[derive(Clone, Copy)]
 pub enum TermRule {
     // 5
     Coefficient(u64),

@@ -13,7 +13,7 @@ use sheets::claim_sheet::{coefficient, term_count, term_point};
 use sheets::layout::variables;
 
 // The exact value, or the sheet at fault.
-#[derive(Drop)]
+#[derive(Clone, Copy)]
 pub enum Evaluation {
     Value(i64),
     Refused(Sheet),

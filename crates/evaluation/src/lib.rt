@@ -1,2 +1,4 @@
 // The exact value of a claim's polynomial at given offsets.
+#![tactic(auto)]
+
 pub mod evaluations;

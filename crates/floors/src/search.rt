@@ -18,7 +18,7 @@ use targets::targets::{Aim, aim_of, at_floor};
 use weighing::exact::write_exact;
 
 // The highest floor that is accepted, how many floors were tried and the number of rows; or the sheet at fault.
-#[derive(Drop)]
+#[derive(Clone, Copy)]
 pub enum Searched {
     Found(i64, u32, usize),
     Refused(Sheet),

@@ -14,7 +14,7 @@ use rows::proof_sheet::{Row, Triple, triple_for};
 use squares::rows::Weights;
 
 // How a row is judged.
-#[derive(Drop)]
+#[derive(Clone, Copy)]
 pub enum Judgement {
     Holds,
     // 17: a weight is beyond the limit
@@ -26,7 +26,7 @@ pub enum Judgement {
 }
 
 // The first row of each judgement that refuses.
-#[derive(Drop)]
+#[derive(Clone, Copy)]
 pub struct Firsts {
     pub beyond: Found,
     pub negative: Found,

@@ -10,7 +10,7 @@ use sheets::layout::place_of;
 use squares::limits::Limit;
 
 // The limits of all variables, zeros after the last.
-#[derive(Drop)]
+#[derive(Clone, Copy)]
 pub struct Limits {
     pub powers: [u8; MOST_VARIABLES],
     pub bounds: [u16; MOST_VARIABLES],

@@ -94,7 +94,7 @@ integer_some (pos n) = rw (integer_count n) (natural_some n)
 integer_some (negsuc n) = rw (integer_minus n) (omega arith)
 
 digit_numeral : (code : ℕ) → IsDigit code → of_numbers code ≡ true
-digit_numeral code h = rw (le-leb 48 code h.0, le-leb code 57 h.1) (or_true (eqb code 45))
+digit_numeral code h = rw (le-leb 48 code h.0, le-leb code 57 h.1) (or_true _)
   where
     or_true : (b : Bool) → b || true ≡ true
     or_true true = refl

@@ -9,7 +9,7 @@ use integers::magnitudes::magnitude;
 use points::points::{Point, fewer};
 
 // An exact number, or that its absolute value is over the greatest.
-#[derive(Drop)]
+#[derive(Clone, Copy)]
 pub enum Bounded {
     Value(i64),
     TooLarge,

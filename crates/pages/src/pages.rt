@@ -124,5 +124,5 @@ pub fn put_page(claim: &[u8], proof: &[u8], verdict: Verdict, page: &mut [u8])
 {
     let mut lines = [32u8; PAGE_LENGTH];
     lay_out(claim, proof, verdict, &mut lines);
-    bytes::copy(&lines, page);
+    page.copy_from_slice(&lines);
 }

@@ -6,7 +6,7 @@ ghost use Rattle.points.specs.Points.{exponents, point_of, bytes_at, every_pair,
 use bounds::bounds::MOST_VARIABLES;
 
 // The exponents of n variables, in the first n places. Where n is over the number of places, all of them count.
-#[derive(Drop)]
+#[derive(Clone, Copy)]
 pub struct Point {
     pub exps: [u8; MOST_VARIABLES],
     pub n: usize,
@@ -53,7 +53,7 @@ pub fn pure_power(n: usize, i: usize, e: u8) -> Point
 }
 
 // What is asked of an exponent of one point, beside that of another.
-#[derive(Drop)]
+#[derive(Clone, Copy)]
 pub enum Test {
     Equal,
     EvenSum,

@@ -32,9 +32,13 @@ weight_fields x = number (ascii " p ") x.p ∷ number (ascii " q ") x.q ∷ numb
 unfoldable pub pair_fields : List ℕ → Shape → ℕ → List Field
 pair_fields s shape i = end_fields s shape i ++ weight_fields (triple_of s shape i)
 
+-- how a lone row begins, after its number
+abbrev pub lone_begins : List ℕ
+lone_begins = ascii " lone v"
+
 unfoldable pub lone_fields : List ℕ → Shape → ℕ → List Field
 lone_fields s shape i =
-    exponent_fields (ascii " lone v") (v_of s shape i) ++ (number (ascii " p ") (triple_of s shape i).p ∷ [])
+    exponent_fields lone_begins (v_of s shape i) ++ (number (ascii " p ") (triple_of s shape i).p ∷ [])
 
 -- "A row is lone when v equals w"
 unfoldable pub kind_fields : List ℕ → Shape → ℕ → List Field

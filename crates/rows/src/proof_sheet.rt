@@ -13,7 +13,7 @@ use sheets::layout::{Shape, place_of, variables};
 use squares::rows::Weights;
 
 // A row's three numbers, as the sheet has them.
-#[derive(Drop)]
+#[derive(Clone, Copy)]
 pub struct Triple {
     pub p: i64,
     pub q: i64,
@@ -21,7 +21,7 @@ pub struct Triple {
 }
 
 // A row: its two points beside its weights.
-#[derive(Drop)]
+#[derive(Clone, Copy)]
 pub struct Row {
     pub v: Point,
     pub w: Point,

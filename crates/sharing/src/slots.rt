@@ -11,14 +11,14 @@ use rows::proof_sheet::{triple_place, v_key, w_key};
 use sheets::layout::Shape;
 
 // What the slots at a point weigh together, and how many they are: two numbers of 64 bits, which stay in registers.
-#[derive(Drop)]
+#[derive(Clone, Copy)]
 pub struct Tally {
     pub sum: i64,
     pub count: u64,
 }
 
 // The same of all rows, with the number of slots there that come before one slot.
-#[derive(Drop)]
+#[derive(Clone, Copy)]
 pub struct Holding {
     pub sum: i64,
     pub count: u32,

@@ -1,2 +1,4 @@
 // Targets: what the weights at a point are to add up to.
+#![tactic(auto)]
+
 pub mod targets;

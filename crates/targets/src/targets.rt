@@ -18,7 +18,7 @@ use sheets::claim_sheet::{coefficient, floor, mask, term_count, term_key};
 use sheets::layout::variables;
 
 // What a target depends on besides the claim's terms and mask: the floor, the scale and the limits.
-#[derive(Drop)]
+#[derive(Clone, Copy)]
 pub struct Aim {
     pub floor: i64,
     pub scale: u64,

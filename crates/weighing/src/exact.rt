@@ -1,5 +1,5 @@
 // The exact proof: the proof sheet with its shifted weights, in the output.
-ghost use Rattle.std.specs.Prelude.{◌≡◌, ◌++◌, length, drop};
+ghost use Rattle.std.specs.Prelude.{◌≡◌, ◌++◌, ◌≤◌, length, drop};
 ghost use Rattle.sheets.specs.Layout.{row_count, shape_of};
 ghost use Rattle.writing.specs.Writing.{with_rows};
 ghost use Rattle.targets.specs.Targets.{target_of};
@@ -26,12 +26,20 @@ fn write_rows(claim: &[u8], proof: &[u8], aim: Aim, out: &mut [u8])
     }
 }
 
+// The proof in the output's first bytes; the later ones keep their values.
+fn copy(proof: &[u8], out: &mut [u8])
+    requires { length proof.now ≤ length out.old }
+    ensures { out.new ≡ proof.now ++ drop (length proof.now) out.old }
+{
+    out[..proof.len()].copy_from_slice(proof);
+}
+
 // The exact proof in the output's first bytes; the later ones keep their values.
 pub fn write_exact(claim: &[u8], proof: &[u8], aim: Aim, out: &mut [u8])
     requires { Writable claim.now proof.now aim out.old }
     ensures { out.new ≡ exact_proof (target_of claim.now aim) proof.now
         ++ drop (length proof.now) out.old }
 {
-    bytes::copy(proof, out);
+    copy(proof, out);
     write_rows(claim, proof, aim, out);
 }

@@ -1,2 +1,4 @@
 // Weights written back into a proof sheet.
+#![tactic(auto)]
+
 pub mod writing;

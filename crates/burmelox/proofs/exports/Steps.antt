@@ -175,10 +175,10 @@ module _ (c : List ℕ) (π : Profile) (x : List ℤ) (bc : Bytes c) (r : ℕ) (
     λ q. (zero_coded.1 (value_passed c π x z q), rw q at ev),
   )
 
-  pub evaluated : (r ≡ code_of (evaluation_answer c π x)) × (Coded (evaluation_answer c π x) r
-      × ((after ≡ told_value (evaluation_of c π x) before) × (Leaves (r ≡ 0) before after
-      × EvaluationPromises c π x (Stores r after))))
-  evaluated = (er, (evaluation_coded, (ev, (leaves, evaluation_promises c π x _ stores))))
+  pub evaluated : (r ≡ code_of (evaluation_answer c π x)) × Coded (evaluation_answer c π x) r
+      × (after ≡ told_value (evaluation_of c π x) before) × Leaves (r ≡ 0) before after
+      × EvaluationPromises c π x (Stores r after)
+  evaluated = (er, evaluation_coded, ev, leaves, evaluation_promises c π x _ stores)
 
 -- ---- burmelox_search: t is the search, r the answer, b and m what is stored, o the output afterwards
 
@@ -290,10 +290,10 @@ module _ (c s ls : List ℕ) (π : Profile) (lo hi : ℤ) (out : List ℕ) where
         go n (Floors.found f j k) e = absurd (n (seen_found f j k e).0)
         go n (Floors.refusal a) e = h a e
 
-    pub searched : (r ≡ code_of (answer_of told)) × (Coded (answer_of told) r × ((o ≡ search_output c s ls π lo hi out)
-        × ((b ≡ told_floor told b₀) × ((m ≡ told_tried told m₀)
-        × ((Leaves (Accepted r) b₀ b × Leaves (Accepted r) m₀ m)
-        × SearchPromises c s ls π lo hi out (Finds r b m) (number_in r ≡ 23) o)))))
+    pub searched : (r ≡ code_of (answer_of told)) × Coded (answer_of told) r × (o ≡ search_output c s ls π lo hi out)
+        × (b ≡ told_floor told b₀) × (m ≡ told_tried told m₀)
+        × (Leaves (Accepted r) b₀ b × Leaves (Accepted r) m₀ m)
+        × SearchPromises c s ls π lo hi out (Finds r b m) (number_in r ≡ 23) o
     unfolding told_floor told_tried
     searched =
         let floor_kept = kept b₀ b (λ a e. eb ∙ rw e) in
@@ -301,4 +301,4 @@ module _ (c s ls : List ℕ) (π : Profile) (lo hi : ℤ) (out : List ℕ) where
         let promises =
         search_promises c s ls π lo hi out _ _ (λ f j k. (found_seen f j k, seen_found f j k)) (none_seen, seen_none)
         bs o eo in
-        (er, (search_coded, (eo, (eb, (em, ((floor_kept, tried-kept), promises))))))
+        (er, search_coded, eo, eb, em, (floor_kept, tried-kept), promises)

@@ -89,7 +89,7 @@ module _ (c : List ℕ) (n t : ℕ) (f : ClaimFacts c n t) (b : Bytes c) where
         f.room.terms,
         f.room.few,
         counted_short (ascii "\nterm ") 1 i (omega (arith, f.room.terms)),
-        word_short (ascii " coefficient ") (coefficient_of c n t i) (coefficient_fits c n t i b),
+        (λ (k : ℕ). word_short (ascii " coefficient ") (coefficient_of c n t k) (coefficient_fits c n t k b)),
         exponents_short (ascii " exponents") c (point_at n i) n b f.some,
       ))
 

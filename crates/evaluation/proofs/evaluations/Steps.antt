@@ -79,7 +79,7 @@ term_read c n t i x z z' p r ez ep back er = er ∙ rw (back, ez, ep, exponents_
 
 -- summed: the first i terms are within the limit, and so is their sum within i times the limit
 module _ (c : List ℕ) (n t : ℕ) (x : List ℤ) where
-  pub sum_start : 0 ≡ of_z w64 (sum_to c n t x 0)
+  pub sum_start : pos 0 ≡ sum_to c n t x 0
   sum_start = rw (sum_none c n t x)
 
   pub small_start : nat_abs (sum_to c n t x 0) ≤ 0 * greatest_value
@@ -111,28 +111,23 @@ module _ (c : List ℕ) (n t : ℕ) (x : List ℤ) where
             rw (add-one, sum_more c n t x i)
             (omega (arith, here.1, abs_add (sum_to c n t x i) (term_value c n t x i)))
 
-        module _ (l : i < t) (room : ClaimRoom c n t) (sum : ℕ) (es : sum ≡ of_z w64 (sum_to c n t x i)) (v' : ℤ)
+        module _ (l : i < t) (room : ClaimRoom c n t) (sum : ℤ) (es : sum ≡ sum_to c n t x i) (v' : ℤ)
             (back : v' ≡ v) where
-          added : to_z w64 sum +ℤ v' ≡ sum_to c n t x (i + 1)
-          added =
-              let f : SFits w64 (sum_to c n t x i) =
-              fits_within _ (i * greatest_value) small (omega (arith, room.terms)) in
-              rw (es, to_z-of_z f, back, here.0, add-one, sum_more c n t x i)
+          added : sum +ℤ v' ≡ sum_to c n t x (i + 1)
+          added = rw (es, back, here.0, add-one, sum_more c n t x i)
 
-          pub sum_fits : SFits w64 (to_z w64 sum +ℤ v')
+          pub sum_fits : SFits w64 (sum +ℤ v')
           sum_fits = rw added (fits_within _ ((i + 1) * greatest_value) small_next (omega (arith, room.terms)))
 
-          pub sum_next : of_z w64 (to_z w64 sum +ℤ v') ≡ of_z w64 (sum_to c n t x (i + 1))
-          sum_next = ap (of_z w64) added
+          pub sum_next : to_z w64 (of_z w64 (sum +ℤ v')) ≡ sum_to c n t x (i + 1)
+          sum_next = to_z-of_z {w = w64} sum_fits ∙ added
 
-  pub summed_end : (i sum : ℕ) → t ≤ i → i ≤ t → ClaimRoom c n t → first (too_large c n t x) i ≡ Nothing
-      → nat_abs (sum_to c n t x i) ≤ i * greatest_value → sum ≡ of_z w64 (sum_to c n t x i)
-      → tells (Value (to_z w64 sum)) ≡ summed c n t x
+  pub summed_end : (i : ℕ) (sum : ℤ) → t ≤ i → i ≤ t → ClaimRoom c n t → first (too_large c n t x) i ≡ Nothing
+      → nat_abs (sum_to c n t x i) ≤ i * greatest_value → sum ≡ sum_to c n t x i → tells (Value sum) ≡ summed c n t x
   unfolding summed too_large_answer tells
   summed_end i sum l m room none small es =
       let q : i ≡ t = omega arith in
-      let f : SFits w64 (sum_to c n t x i) = fits_within _ (i * greatest_value) small (omega (arith, room.terms)) in
-      let e : to_z w64 sum ≡ sum_to c n t x t = rw (es, to_z-of_z f, q) in
+      let e : sum ≡ sum_to c n t x t = rw (es, q) in
       rw e
       (sym (told_passed _ _ (rw (at_on (first (too_large c n t x) t) 21 (accepted 0) (rw q at none))
       (accepted_passes _ 0 refl))))

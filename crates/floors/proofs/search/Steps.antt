@@ -358,8 +358,8 @@ module _ (c s ls : List ℕ) (π : Profile) (lo hi : ℤ) (out : List ℕ) (v : 
 
 module _ (c s ls : List ℕ) (π : Profile) (lo hi : ℤ) (out : List ℕ) (bs : Bytes s) where
   abbrev Promised : Searched → List ℕ → Type 0
-  Promised r o = (tells r ≡ search_of c s ls π lo hi (length out)) × ((o ≡ search_output c s ls π lo hi out)
-      × SearchPromises c s ls π lo hi out (λ b tried k. tells r ≡ found b tried k) (tells r ≡ refusal (refused 23 0)) o)
+  Promised r o = (tells r ≡ search_of c s ls π lo hi (length out)) × (o ≡ search_output c s ls π lo hi out)
+      × SearchPromises c s ls π lo hi out (λ b tried k. tells r ≡ found b tried k) (tells r ≡ refusal (refused 23 0)) o
 
   pub promised : (r : Searched) (o : List ℕ) → tells r ≡ search_of c s ls π lo hi (length out)
       → o ≡ search_output c s ls π lo hi out → Promised r o
@@ -367,7 +367,7 @@ module _ (c s ls : List ℕ) (π : Profile) (lo hi : ℤ) (out : List ℕ) (bs :
       let promises =
       search_promises c s ls π lo hi out _ _ (λ b tried k. (λ q. sym e ∙ q, λ q. e ∙ q)) (λ q. sym e ∙ q, λ q. e ∙ q)
       bs o eo in
-      (e, (eo, promises))
+      (e, eo, promises)
 
   pub unwritten : (x : Sheet) → tells (Refused x) ≡ search_of c s ls π lo hi (length out) → Promised (Refused x) out
   unfolding search_output output_by tells

@@ -94,7 +94,7 @@ module _ (e : ℤ) (n : ℕ) (h : 0 < n) (f : SFits w64 e) (g : Fits w32 n) wher
   rem_is : back (rem e n) ≡ rem_z e (pos n)
   rem_is =
       rw (to_z-of_z f, count_is)
-      (to_z-of_z (fits_within (rem_z e (pos n)) n (omega (arith, rem_abs e n h)) (omega arith)))
+      (to_z-of_z {w = w64} (fits_within (rem_z e (pos n)) n (omega (arith, rem_abs e n h)) (omega arith)))
 
   pub rem_small : nat_abs (back (rem e n)) ≤ 2 ^ 32
   rem_small = rw rem_is (omega (arith, rem_abs e n h))

@@ -40,7 +40,7 @@ module _ (n : ℕ) (h : n < 4294967296) where
 -- bits_of: a negative number is lifted by 2^32, another is kept
 module _ (v : ℤ) (f : SFits w32 v) where
   back_is : back v ≡ v
-  back_is = to_z-of_z (sfits_widen tt f)
+  back_is = to_z-of_z {w = w64} (sfits_widen {w = w32} {w' = w64} {z = v} tt f)
 
   pub bits_fit : Fits w64 (of_z w32 v)
   bits_fit = let b = Fits-of_z {w = w32} f in record { fits = omega arith }

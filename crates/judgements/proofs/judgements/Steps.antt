@@ -41,14 +41,14 @@ negative_is x x' e = rw e
 
 module _ (x : Triple) (w : Within greatest_weight x) where
   weight_back : (z : ℤ) → nat_abs z ≤ greatest_weight → back z ≡ z
-  weight_back z h = to_z-of_z (fits_within z greatest_weight h (lit< tt))
+  weight_back z h = to_z-of_z {w = w64} (fits_within z greatest_weight h (lit< (tt {0})))
 
   product_small : (y z : ℤ) → nat_abs y ≤ greatest_weight → nat_abs z ≤ greatest_weight → nat_abs (y *ℤ z) ≤ 2 ^ 60
   product_small y z hy hz = rw (abs_mul y z) (mul-le-mul {n₂ = greatest_weight} hy hz)
 
   product_fits : (y z : ℤ) → nat_abs y ≤ greatest_weight → nat_abs z ≤ greatest_weight → SFits w64 (back y *ℤ back z)
   product_fits y z hy hz =
-      rw (weight_back y hy, weight_back z hz) (fits_within (y *ℤ z) (2 ^ 60) (product_small y z hy hz) (lit< tt))
+      rw (weight_back y hy, weight_back z hz) (fits_within (y *ℤ z) (2 ^ 60) (product_small y z hy hz) (lit< (tt {0})))
 
   pub pq_fits : SFits w64 (back x.p *ℤ back x.q)
   pq_fits = product_fits x.p x.q w.p_within w.q_within
@@ -67,7 +67,7 @@ module _ (x : Triple) (w : Within greatest_weight x) where
         (fits_within (x.p *ℤ x.q *ℤ pos m) (2 ^ 60 * 7)
         (rw (abs_mul (x.p *ℤ x.q) (pos m))
         (mul-le-mul {n₂ = 2 ^ 60} (product_small x.p x.q w.p_within w.q_within) few))
-        (lit< tt))
+        (lit< (tt {0})))
 
     pub compared : lt_z (back (back (back x.p *ℤ back x.q) *ℤ pos m)) (back (back x.r *ℤ back x.r))
         ≡ lt_z (x.p *ℤ x.q *ℤ pos m) (x.r *ℤ x.r)

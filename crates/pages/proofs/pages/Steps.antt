@@ -212,14 +212,9 @@ spaces_blank l e =
       blank = λ i _ h. rw e (get_or-replicate page_length i 32 0 (omega (arith, n)));
     }
 
-module _ (m l p : List ℕ) (lined : Lined m) (el : length l ≡ page_length)
-    (e : p ≡ take (length m) m ++ drop (length m) l) where
-  copied : p ≡ m
-  copied =
-      e ∙ rw (take-length m, drop_of_length-le l {i = length m} (omega (arith, lined.long, el))) (append-nil m)
-
+module _ (m p : List ℕ) (copied : p ≡ m) where
   pub page_copied : (c s : List ℕ) (a : Answer) → m ≡ verdict_page c s a → p ≡ verdict_page c s a
   page_copied c s a em = copied ∙ em
 
-  pub copy_lined : Lined p
-  copy_lined = rw copied lined
+  pub copy_lined : Lined m → Lined p
+  copy_lined lined = rw copied lined

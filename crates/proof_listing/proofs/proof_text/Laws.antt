@@ -34,7 +34,7 @@ use Rattle.listings.proofs.Putting.{count_put}
 use Rattle.listings.proofs.Same.{Same, same_byte, same_then, same_entries, same_exponents, same_short, same_count, same_word, same_whole}
 use Rattle.listings.proofs.exponents.Laws.{first_label, exponents_first, exponents_apart, exponents_labelled, exponents_inline, exponents_short}
 use Rattle.proof_listing.specs.OwnChecks.{own_answer}
-use Rattle.proof_listing.specs.ProofText.{head_fields, second_fields, end_fields, weight_fields, pair_fields, lone_fields, kind_fields, row_fields, rows_text, proof_fields, FormedProof}
+use Rattle.proof_listing.specs.ProofText.{head_fields, second_fields, end_fields, weight_fields, pair_fields, lone_fields, kind_fields, row_fields, rows_text, proof_fields, FormedProof, lone_begins}
 use Rattle.proof_listing.proofs.own_checks.Laws.{own_facts, own_unused, own_short}
 
 -- ---- what is put after what
@@ -70,19 +70,19 @@ module _ (P : List Field → Type 0) (s : List ℕ) (sh : Shape) (i : ℕ) (lone
 
 module _ (s : List ℕ) (sh : Shape) (i : ℕ) where
   -- what holds of exponents behind a label and of weights holds of a row
-  kind_all : (P : Field → Type 0) → All P (exponent_fields (ascii " lone v") (v_of s sh i))
+  kind_all : (P : Field → Type 0) → All P (exponent_fields lone_begins (v_of s sh i))
       → All P (exponent_fields (ascii " pair v") (v_of s sh i)) → All P (exponent_fields (ascii " w") (w_of s sh i))
       → All P (weight_fields (triple_of s sh i)) → All P (kind_fields s sh i)
   unfolding lone_fields pair_fields end_fields second_fields weight_fields
   kind_all P l v w x =
-      either (All P) s sh i (all_append P (exponent_fields (ascii " lone v") (v_of s sh i)) _ l (x.0, tt))
+      either (All P) s sh i (all_append P (exponent_fields lone_begins (v_of s sh i)) _ l (x.0, tt))
       (all_append P (end_fields s sh i) _ (all_append P (exponent_fields (ascii " pair v") (v_of s sh i)) _ v w) x)
 
   row_labelled : Labelled (row_fields s sh i)
   unfolding row_fields weight_fields
   row_labelled = (
     is_label _ refl,
-    kind_all _ (exponents_labelled _ (v_of s sh i) (is_label (ascii " lone v") refl).plain)
+    kind_all _ (exponents_labelled _ (v_of s sh i) (is_label lone_begins refl).plain)
         (exponents_labelled _ (v_of s sh i) (is_label (ascii " pair v") refl).plain)
         (exponents_labelled _ (w_of s sh i) (is_label (ascii " w") refl).plain)
         (is_label _ refl, (is_label _ refl, (is_label _ refl, tt))),
@@ -118,7 +118,7 @@ module _ (s : List ℕ) (sh : Shape) (f : HeaderFacts s sh) (b : Bytes s) (i : �
   unfolding lone_fields pair_fields end_fields second_fields weight_fields
   kind_short =
       let x = triple_narrow s sh i b in
-      let u = exponents_short (ascii " lone v") s (v_at sh i) sh.n b f.some in
+      let u = exponents_short lone_begins s (v_at sh i) sh.n b f.some in
       let v = exponents_short (ascii " pair v") s (v_at sh i) sh.n b f.some in
       let w = exponents_short (ascii " w") s (w_at sh i) sh.n b f.some in
       let p = word_short (ascii " p ") (triple_of s sh i).p x.p_fits in
@@ -208,7 +208,7 @@ module _ (s z : List ℕ) (sh : Shape) (i : ℕ) (some : 1 ≤ sh.n) where
       → RowSame s z sh i
   unfolding lone_fields
   lone_same t u us uz e =
-      let both = exponents_apart (ascii " lone v") (v_of s sh i) (v_of z sh i) _ _ v_long e in
+      let both = exponents_apart lone_begins (v_of s sh i) (v_of z sh i) _ _ v_long e in
       record {
         v_same = both.0;
         w_same = sym (same_eq _ _ t) ∙ both.0 ∙ same_eq _ _ u;
@@ -231,7 +231,7 @@ module _ (s z : List ℕ) (sh : Shape) (i : ℕ) (some : 1 ≤ sh.n) where
   unfolding lone_fields
   lone_letter l =
       ap (λ (label : List ℕ). get_or label 1 0)
-      (exponents_first (ascii " lone v") (v_of l sh i) _ (rw (v_counts l) some))
+      (exponents_first lone_begins (v_of l sh i) _ (rw (v_counts l) some))
 
   pair_letter : (l : List ℕ) → letter (pair_fields l sh i) ≡ 112
   unfolding pair_fields end_fields

@@ -27,7 +27,7 @@ use Rattle.listings.specs.Listings.{listing_answer, listing_after, ListingPromis
 use Rattle.listings.proofs.Listings.{listing_promises}
 use Rattle.listings.proofs.Putting.{after_count, count_written, second_room, both_written, last_number, last_count}
 use Rattle.proof_listing.specs.OwnChecks.{own_answer}
-use Rattle.proof_listing.specs.ProofText.{head_fields, second_fields, end_fields, pair_fields, lone_fields, kind_fields, row_fields, rows_text, proof_fields, FormedProof}
+use Rattle.proof_listing.specs.ProofText.{head_fields, second_fields, end_fields, pair_fields, lone_fields, kind_fields, row_fields, rows_text, proof_fields, FormedProof, lone_begins}
 use Rattle.proof_listing.proofs.own_checks.Laws.{own_facts}
 use Rattle.proof_listing.proofs.proof_text.Laws.{weights_put, proof_pieces, proof_labelled, proof_short, proof_apart}
 
@@ -93,7 +93,7 @@ module _ (s l k : List ℕ) (sh : Shape) (i from mid : ℕ) (w : Written l from 
 -- ---- lone_text: x is the triple that was read, and p what the machine reads back of its first number
 
 module _ (s l k : List ℕ) (sh : Shape) (i from mid : ℕ)
-    (w : Written l from (fields_text (exponent_fields (ascii " lone v") (v_of s sh i))) k mid) (x : Triple) (p : ℤ)
+    (w : Written l from (fields_text (exponent_fields lone_begins (v_of s sh i))) k mid) (x : Triple) (p : ℤ)
     (ex : x ≡ triple_of s sh i) (back : p ≡ x.p) where
   pub lone_room : Room l from (fields_text (lone_fields s sh i)) → Room k mid (numbered (ascii " p ") p)
   unfolding lone_fields

@@ -65,10 +65,7 @@ rows_start weights out sh = sym (rows_none weights out sh)
 
 -- ---- write_exact: o is the output with the proof copied into it
 
-module _ (c s out o : List ℕ) (t : Aim) (e : o ≡ take (length s) s ++ drop (length s) out) where
-  copied : o ≡ s ++ drop (length s) out
-  copied = e ∙ rw (take-length s)
-
+module _ (c s out o : List ℕ) (t : Aim) (copied : o ≡ s ++ drop (length s) out) where
   pub copied_room : length s ≤ length o
   copied_room = rw (copied, length-append s (drop (length s) out)) (omega arith)
 

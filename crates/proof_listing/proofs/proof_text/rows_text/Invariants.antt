@@ -1,0 +1,12 @@
+use Prim.Native.Nat.{◌-◌, ◌≤◌}
+use Rattle.text.specs.Text.{texts_to, Written}
+use Rattle.listings.specs.Fields.{fields_text}
+use Rattle.proof_listing.specs.ProofText.{row_fields}
+use Rattle.proof_listing.proofs.proof_text.rows_text.Given as goal
+
+abbrev pub invariant-loop-i : goal.invariant-loop-i
+invariant-loop-i l =
+    (l.i ≤ l.shape.k) × (Written l.initial.out l.from (texts_to (λ j. fields_text (row_fields l.proof l.shape j)) l.i) l.out l.end)
+
+abbrev pub decreases-loop-i : goal.decreases-loop-i
+decreases-loop-i l = l.shape.k - l.i
