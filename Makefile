@@ -25,13 +25,13 @@ COMMAND = command/target/release/burmelox
 BUILT = $(PROGRAM) $(ARCHIVE) $(SHARED) $(COMMAND)
 
 VERSION := $(shell sed -n 's/^\#define BURMELOX_VERSION "\(.*\)"$$/\1/p' include/burmelox.h)
-CRATES := crates.txt $(shell find crates -name must-fail -prune -o -type f -print)
+CRATES := crates.txt $(shell find crates \( -name must-fail -o -name out \) -prune -o -type f -print)
 RUST := $(shell find command library -name target -prune -o -type f -print)
 
 # The command is linked with the archive that is built here.
 unexport BURMELOX_LIB_DIR
 
-# rt and cargo leave a file as it is where nothing in it would change, so its time is set here.
+# cargo leaves a file as it is where nothing in it would change, so its time is set here.
 TOUCH = @touch $@
 
 .PHONY: all test install uninstall clean
@@ -39,14 +39,16 @@ TOUCH = @touch $@
 
 all: $(BUILT)
 
+# What rt makes stands in the crates' folders out, and `rt ci` takes it away again; so what is used stands in target.
+# rt builds a program where it runs it.
 $(PROGRAM): $(CRATES)
-	rt check burmelox_check
-	$(TOUCH)
+	cd crates/burmelox_check && rt run < stdin | cmp - stdout
+	$(INSTALL) -D -m 755 crates/burmelox_check/out/burmelox_check $@
 
 # After the program, since both prove the same crates.
 $(ARCHIVE): $(PROGRAM)
-	rt staticlib burmelox
-	$(TOUCH)
+	cd crates/burmelox && rt lib
+	$(INSTALL) -D -m 644 crates/burmelox/out/libburmelox.a $@
 
 $(SHARED): $(ARCHIVE)
 	$(CC) -shared -o $@ -Wl,-soname,$(@F) -Wl,--whole-archive $< -Wl,--no-whole-archive
@@ -82,4 +84,4 @@ uninstall:
 		"$(DESTDIR)$(PREFIX)/share/burmelox" 2>/dev/null || true
 
 clean:
-	rm -rf target tests/target library/target command/target
+	rm -rf target tests/target library/target command/target crates/*/out

@@ -1,4 +1,4 @@
-//! Links the static library that `rt staticlib burmelox` writes.
+//! Links the static library that `make` builds.
 
 use std::env;
 use std::path::PathBuf;
@@ -13,8 +13,8 @@ fn main() {
     println!("cargo:rerun-if-changed={}", archive.display());
     if !archive.exists() {
         println!(
-            "cargo::error={} is missing: run `rt staticlib burmelox` at the project's root, \
-             or put its folder's absolute path into BURMELOX_LIB_DIR",
+            "cargo::error={} is missing: run `make` at the project's root, or put its folder's \
+             absolute path into BURMELOX_LIB_DIR",
             archive.display()
         );
         return;

@@ -7,8 +7,8 @@
 //! those of pages, `profiles` those of profiles, `larger` what larger ones leave as it is,
 //! `listings` the texts of sheets and profiles, `documents` the tables in other files, `floors` what
 //! a floor means, `random` each kind of random cases, `answers` the comparison itself. The program
-//! is the one that `rt check burmelox_check` writes, or that BURMELOX_PROGRAM names. `--library`
-//! leaves it out of the random cases.
+//! is the one that `make` builds, or that BURMELOX_PROGRAM names. `--library` leaves it out of the
+//! random cases.
 
 mod answers;
 mod documents;

@@ -14,8 +14,7 @@ pub fn is_built() -> Result<(), String> {
         return Ok(());
     }
     Err(format!(
-        "{} is missing: run `rt check burmelox_check` at the project's root, or name the program \
-         in BURMELOX_PROGRAM",
+        "{} is missing: run `make` at the project's root, or name the program in BURMELOX_PROGRAM",
         path.display()
     ))
 }
