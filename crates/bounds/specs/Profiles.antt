@@ -1,5 +1,5 @@
 -- Profiles: a site's own bounds.
-use Rattle.std.specs.Prelude.{Bool, ◌&&◌, ◌≤◌, leb}
+use Rattle.std.specs.Prelude.{Bool, ℕ, ◌&&◌, ◌≤◌, leb}
 use Rattle.bounds.specs.Bounds.{greatest_exponent, greatest_weight, most_rows}
 use Rattle.bounds.specs.declared.profiles.Profile.{Profile}
 
@@ -10,10 +10,14 @@ pub record InRange (π : Profile) : Type 0 where
   pub weight_within : π.weight ≤ greatest_weight
   pub rows_within : π.rows ≤ most_rows
 
+-- the least weight
+abbrev pub least_weight : ℕ
+least_weight = 1
+
 -- the same as a test
 unfoldable pub in_range : Profile → Bool
 in_range π =
-    leb π.exponent greatest_exponent && leb 1 π.weight && leb π.weight greatest_weight && leb π.rows most_rows
+    leb π.exponent greatest_exponent && leb least_weight π.weight && leb π.weight greatest_weight && leb π.rows most_rows
 
 -- "the full profile"
 abbrev pub full_profile : Profile

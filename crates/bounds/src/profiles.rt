@@ -20,6 +20,9 @@ pub const FULL: Profile = Profile {
     rows: MOST_ROWS as u32,
 };
 
+// of the weight
+const LEAST_WEIGHT: u32 = 1;
+
 // 27: whether the exponent, the weight or the rows are out of range.
 pub fn profile_wrong(profile: Profile) -> bool
     ensures test { result ≡ not (in_range profile) }
@@ -28,7 +31,7 @@ pub fn profile_wrong(profile: Profile) -> bool
     if (GREATEST_EXPONENT as u32) < profile.exponent {
         return true;
     }
-    if profile.weight < 1 {
+    if profile.weight < LEAST_WEIGHT {
         return true;
     }
     if GREATEST_WEIGHT < profile.weight as u64 {

@@ -11,7 +11,8 @@ use sheets::random::Rng;
 use sheets::searches::{searches, Found, Search};
 use sheets::worked::{power_claim, square_input, SQUARE_CUTS};
 use sheets::{table, texts, Case, Claim, Example, Profile, Proof, Row};
-use std::process::Command;
+use std::fs::File;
+use std::process::{Command, Stdio};
 use std::{env, fs, process};
 
 /// The programs in `tests/c` and what they print.
@@ -111,6 +112,8 @@ pub fn run(report: &mut Report) {
     }
     report.add("input in pieces", reads_pieces());
     report.add("input past 8,192 bytes", leaves_the_rest());
+    report.add("input that can't be read", fails("/", Stdio::piped()));
+    report.add("text that can't be written", full().and_then(|full| fails("/dev/null", full)));
     for (name, text) in C_PROGRAMS {
         report.add(&format!("{name} in C"), runs_in_c(name, text));
     }
@@ -242,6 +245,21 @@ fn leaves_the_rest() -> Outcome {
         equal("the text", &"refused 10 at 0\n", &&program::print(&input)?[..])?;
     }
     Ok(())
+}
+
+/// Where its input can't be read or its text can't be written the program prints nothing, says why
+/// and ends with status 1.
+fn fails(input: &str, output: impl Into<Stdio>) -> Outcome {
+    let input = File::open(input).map_err(|error| format!("{input}: {error}"))?;
+    let end = program::end(input, output)?;
+    equal("the status", &Some(1), &end.status.code())?;
+    equal("the text", &"", &&String::from_utf8_lossy(&end.stdout)[..])?;
+    equal("standard error says why", &true, &end.stderr.starts_with(b"Error: "))
+}
+
+/// A file that takes no byte.
+fn full() -> Result<File, String> {
+    File::options().write(true).open("/dev/full").map_err(|error| format!("/dev/full: {error}"))
 }
 
 /// A program in C compiles with the header, links the library and prints the text.

@@ -1,9 +1,10 @@
 //! The program, run on its standard input.
 
 use std::env;
+use std::fs::File;
 use std::io::{ErrorKind, Read, Write};
 use std::path::PathBuf;
-use std::process::{Child, Command, Stdio};
+use std::process::{Child, Command, Output, Stdio};
 use std::thread::sleep;
 use std::time::Duration;
 
@@ -39,6 +40,13 @@ pub fn print_pieces(pieces: &[&[u8]]) -> Result<String, String> {
     } else {
         Err(format!("the program ended with {status} after printing {text:?}"))
     }
+}
+
+/// How the program ends, and what it leaves, with these as its standard input and output.
+pub fn end(input: File, output: impl Into<Stdio>) -> Result<Output, String> {
+    let path = path();
+    let output = Command::new(&path).stdin(input).stdout(output).output();
+    output.map_err(|error| format!("{}: {error}", path.display()))
 }
 
 /// Writes the pieces and ends the input. A program that stops reading at its limit is no mistake.

@@ -6,7 +6,7 @@ use Prim.Native.Nat.{◌<◌, ◌≤◌}
 use lib.Dec.{ltb}
 use borrow.Author.Tests.{not-false, le-leb, lt-leb}
 use Rattle.bounds.specs.Bounds.{greatest_exponent, greatest_weight, most_rows}
-use Rattle.bounds.specs.Profiles.{InRange, in_range}
+use Rattle.bounds.specs.Profiles.{InRange, least_weight, in_range}
 use Rattle.bounds.specs.declared.profiles.Profile.{Profile}
 use Rattle.bounds.proofs.bounds.Laws.{over}
 use Rattle.bounds.proofs.profiles.Laws.{range_facts, facts_range}
@@ -23,11 +23,11 @@ module _ (π : Profile) where
   exponent_over h = tests true (rw (lt-leb π.exponent greatest_exponent h))
 
   module _ (a : π.exponent ≤ greatest_exponent) where
-    pub weight_none : π.weight < 1 → Tests true
+    pub weight_none : π.weight < least_weight → Tests true
     unfolding in_range
-    weight_none h = tests true (rw (le-leb _ _ a, lt-leb 1 π.weight h))
+    weight_none h = tests true (rw (le-leb _ _ a, lt-leb least_weight π.weight h))
 
-    module _ (b : 1 ≤ π.weight) where
+    module _ (b : least_weight ≤ π.weight) where
       pub weight_over : greatest_weight < π.weight → Tests true
       unfolding in_range
       weight_over h = tests true (rw (le-leb _ _ a, le-leb _ _ b, lt-leb π.weight greatest_weight h))

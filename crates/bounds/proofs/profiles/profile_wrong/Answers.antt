@@ -8,8 +8,8 @@ named h = record { test = h.0; says = h.1 }
 pub returns-then-profile : goal.returns-then-profile
 returns-then-profile c = named (search exponent_over)
 
-pub returns-then-profile-lt1 : goal.returns-then-profile-lt1
-returns-then-profile-lt1 c = named (weight_none _ (search rules) (search rules))
+pub returns-then-profile-lt-LEAST_WEIGHT : goal.returns-then-profile-lt-LEAST_WEIGHT
+returns-then-profile-lt-LEAST_WEIGHT c = named (weight_none _ (search rules) (search rules))
 
 pub returns-then-profile-gt-GREATEST_WEIGHT : goal.returns-then-profile-gt-GREATEST_WEIGHT
 returns-then-profile-gt-GREATEST_WEIGHT c = named (weight_over _ (search rules) (search rules) (search rules))

@@ -1,4 +1,3 @@
-use Prim.Native.Nat.{◌-◌}
 use borrow.Author.Rules.{rules}
 use Rattle.text.proofs.text.Laws.{texts_next}
 use Rattle.claim_listing.proofs.claim_text.Steps.{terms_start, term_room, terms_end}

@@ -1,6 +1,4 @@
-use Prim.Native.Nat.{◌-◌}
 use borrow.Author.Rules.{rules}
-use Rattle.answers.specs.Searches.{first}
 use Rattle.answers.proofs.searches.Laws.{first_start, first_stop, first_next, first_end}
 use Rattle.claims.proofs.claim_checks.first_term.Goals as goal
 

@@ -1,8 +1,5 @@
-use Prim.Native.Nat.{◌-◌}
 use borrow.Author.Rules.{rules}
-use mir.Val.{of_z}
 use mir.Facts.{to_z-of_z}
-use Rattle.answers.specs.Searches.{first}
 use Rattle.answers.proofs.searches.Laws.{first_start}
 use Rattle.evaluation.proofs.evaluations.Steps.{small_start, sum_next, sum_start, small_next, sum_fits, summed_end, summed_stop, none_next}
 use Rattle.evaluation.proofs.evaluations.summed.Goals as goal

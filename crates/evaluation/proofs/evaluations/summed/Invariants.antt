@@ -1,8 +1,6 @@
 use mathlib.Core.Path.{◌≡◌}
 use Prim.Native.Nat.{◌*◌, ◌-◌, ◌≤◌}
 use lib.IntN.{nat_abs}
-use mir.Syntax.{w64}
-use mir.Val.{of_z}
 use Rattle.bounds.specs.Bounds.{greatest_value}
 use Rattle.answers.specs.Searches.{first}
 use Rattle.answers.specs.declared.searches.Found.TheVariants.{Nothing}

@@ -1,8 +1,5 @@
-use Prim.Native.Nat.{◌-◌}
 use borrow.Author.Rules.{rules}
-use mir.Val.{to_z}
 use mir.Facts.{to_z-of_z}
-use Rattle.answers.specs.Searches.{first}
 use Rattle.answers.proofs.searches.Laws.{first_start}
 use Rattle.sharing.proofs.shifts.Laws.{claim_eight, proof_eight}
 use Rattle.floors.proofs.search.Steps.{tests_some, walk_tests, walk_range, walk_high, walk_few, walk_checked, trial_passed, trial_failed, test_below, walk_stop, walk_next, walk_end}

@@ -1,7 +1,5 @@
 use mathlib.Core.Path.{◌≡◌}
 use Prim.Native.Nat.{◌<◌, ◌≤◌, ◌-◌}
-use mir.Syntax.{w64}
-use mir.Val.{to_z}
 use Rattle.answers.specs.Searches.{first}
 use Rattle.answers.specs.declared.searches.Found.TheVariants.{Nothing}
 use Rattle.floors.specs.Search.{passes_after}

@@ -1,4 +1,3 @@
-use Prim.Native.Nat.{◌-◌}
 use borrow.Author.Rules.{rules}
 use Rattle.keys.proofs.keys.Steps.{from_next, from_end, times_fits, low_start, plus_fits, low_next, from_start}
 use Rattle.keys.proofs.keys.key_of.Goals as goal

@@ -1,6 +1,4 @@
-use Prim.Native.Nat.{◌-◌}
 use borrow.Author.Rules.{rules}
-use mir.Val.{to_z}
 use mir.Facts.{to_z-of_z}
 use Rattle.limits.proofs.additions.Steps.{limit_inside, limit_right_lem, adds_fits, adds_start, adds_next, adds_end}
 use Rattle.limits.proofs.additions.limits_add.Goals as goal

@@ -1,7 +1,5 @@
 use mathlib.Core.Path.{◌≡◌}
 use Prim.Native.Nat.{◌≤◌, ◌-◌}
-use mir.Syntax.{w64}
-use mir.Val.{to_z}
 use Rattle.limits.specs.Additions.{limits_add}
 use Rattle.limits.proofs.additions.limits_add.Given as goal
 

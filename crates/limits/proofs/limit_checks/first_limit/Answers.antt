@@ -1,6 +1,4 @@
-use Prim.Native.Nat.{◌-◌}
 use borrow.Author.Rules.{rules}
-use Rattle.answers.specs.Searches.{first}
 use Rattle.answers.proofs.searches.Laws.{first_start, first_stop, first_next, first_end}
 use Rattle.limits.proofs.limit_checks.Steps.{limit_tested}
 use Rattle.limits.proofs.limit_checks.first_limit.Goals as goal

@@ -1,4 +1,3 @@
-use Prim.Native.Nat.{◌-◌}
 use borrow.Author.Rules.{rules}
 use Rattle.limits.proofs.limits_sheet.Steps.{field_start, field_next, limits_end}
 use Rattle.limits.proofs.limits_sheet.limits_of.Goals as goal

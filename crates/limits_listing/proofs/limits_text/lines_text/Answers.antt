@@ -1,4 +1,3 @@
-use Prim.Native.Nat.{◌-◌}
 use borrow.Author.Rules.{rules}
 use Rattle.limits_listing.proofs.limits_text.Steps.{lines_start, lines_end, line_room, line_next}
 use Rattle.limits_listing.proofs.limits_text.lines_text.Goals as goal

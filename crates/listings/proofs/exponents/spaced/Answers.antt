@@ -1,4 +1,3 @@
-use Prim.Native.Nat.{◌-◌}
 use borrow.Author.Rules.{rules}
 use Rattle.listings.proofs.exponents.Steps.{spaced_start, spaced_end, spaced_room, spaced_next}
 use Rattle.listings.proofs.exponents.spaced.Goals as goal

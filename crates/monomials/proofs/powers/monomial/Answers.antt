@@ -1,5 +1,4 @@
 use borrow.Author.Rules.{rules}
-use mir.Val.{to_z}
 use mir.Facts.{to_z-of_z}
 use Rattle.monomials.proofs.powers.Steps.{from_start, from_next, from_end}
 use Rattle.monomials.proofs.powers.monomial.Goals as goal

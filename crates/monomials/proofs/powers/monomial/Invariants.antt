@@ -1,8 +1,6 @@
 use mathlib.Core.Path.{◌≡◌}
 use Prim.Native.Nat.{◌≤◌}
 use lib.ListN.{length}
-use mir.Syntax.{w64}
-use mir.Val.{to_z}
 use Rattle.bounds.specs.Bounds.{most_variables}
 use Rattle.monomials.specs.Powers.{saturated}
 use Rattle.points.proofs.points.Laws.{Places}

@@ -1,7 +1,5 @@
-use Prim.Native.Nat.{◌-◌}
 use borrow.Author.Rules.{rules}
 use Rattle.text.proofs.text.Laws.{texts_next}
-use Rattle.pages.specs.Pages.{table_line}
 use Rattle.pages.proofs.pages.Steps.{table_start, table_end, next_blank, later_blank}
 use Rattle.pages.proofs.pages.table.Goals as goal
 

@@ -1,6 +1,4 @@
-use Prim.Native.Nat.{◌-◌}
 use borrow.Author.Rules.{rules}
-use Rattle.points.specs.Points.{passes}
 use Rattle.points.proofs.points.Steps.{passed_start, passed_next, pair_fewer, pair_stop, pair_end}
 use Rattle.points.proofs.points.all_pass.Goals as goal
 

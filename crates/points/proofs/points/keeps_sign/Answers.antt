@@ -1,4 +1,3 @@
-use Prim.Native.Nat.{◌-◌}
 use borrow.Author.Rules.{rules}
 use Rattle.points.proofs.points.Steps.{sign_start, sign_next, sign_stop, sign_end, sign_says}
 use Rattle.points.proofs.points.keeps_sign.Goals as goal

@@ -1,4 +1,3 @@
-use Prim.Native.Nat.{◌-◌}
 use borrow.Author.Rules.{rules}
 use Rattle.points.proofs.points.Laws.{filled_start, filled_next}
 use Rattle.points.proofs.points.Steps.{midpoint_end}

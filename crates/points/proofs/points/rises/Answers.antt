@@ -1,4 +1,3 @@
-use Prim.Native.Nat.{◌-◌}
 use borrow.Author.Rules.{rules}
 use Rattle.points.proofs.points.Steps.{rises_end, rises_less, rises_next, rises_more, rises_start}
 use Rattle.points.proofs.points.rises.Goals as goal

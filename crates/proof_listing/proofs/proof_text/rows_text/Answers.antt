@@ -1,4 +1,3 @@
-use Prim.Native.Nat.{◌-◌}
 use borrow.Author.Rules.{rules}
 use Rattle.text.proofs.text.Laws.{texts_next}
 use Rattle.proof_listing.proofs.proof_text.Steps.{rows_start, row_room, rows_end}

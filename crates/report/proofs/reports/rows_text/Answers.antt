@@ -1,7 +1,5 @@
-use Prim.Native.Nat.{◌-◌}
 use borrow.Author.Rules.{rules}
 use Rattle.text.proofs.text.Laws.{texts_next}
-use Rattle.report.specs.Reports.{row_text}
 use Rattle.report.proofs.reports.Steps.{row_shown_lem, next_room, rows_end, rows_start}
 use Rattle.report.proofs.reports.rows_text.Goals as goal
 

@@ -1,8 +1,5 @@
-use Prim.Native.Nat.{◌-◌}
 use borrow.Author.Rules.{rules}
-use Rattle.answers.specs.Searches.{first}
 use Rattle.answers.proofs.searches.Laws.{first_start, first_stop, first_next, first_end}
-use Rattle.targets.specs.Targets.{has_key}
 use Rattle.targets.proofs.targets.find_term.Goals as goal
 
 pub loop-i-init : goal.loop-i-init

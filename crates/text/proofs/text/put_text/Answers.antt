@@ -1,4 +1,3 @@
-use Prim.Native.Nat.{◌-◌}
 use borrow.Author.Rules.{rules}
 use Rattle.text.proofs.text.Steps.{copied_end, copied_next}
 use Rattle.text.proofs.text.put_text.Goals as goal

@@ -1,4 +1,3 @@
-use Prim.Native.Nat.{◌-◌}
 use borrow.Author.Rules.{rules}
 use Rattle.weighing.proofs.exact.Steps.{rows_end, rows_next, rows_start, weights_narrow, room_kept, row_inside, length_kept}
 use Rattle.weighing.proofs.exact.write_rows.Goals as goal

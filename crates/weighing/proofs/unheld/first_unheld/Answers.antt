@@ -1,9 +1,6 @@
-use Prim.Native.Nat.{◌-◌}
 use native.Mathlib.Omega.{arith}
 use borrow.Author.Rules.{rules}
-use Rattle.answers.specs.Searches.{first}
 use Rattle.answers.proofs.searches.Laws.{first_start, first_next}
-use Rattle.weighing.specs.Unheld.{point_for, unheld}
 use Rattle.weighing.proofs.unheld.Steps.{key_carried, held_next, points_counted, points_end, targeted_here, row_answered, target_some, unheld_stop, claim_here, point_looked, proof_here, key_here, zero_next}
 use Rattle.weighing.proofs.unheld.first_unheld.Goals as goal
 use Rattle.weighing.proofs.unheld.first_unheld.Goals.{else-points-test, then-points-test+else-no_target+else-loop-j-test}

@@ -1,4 +1,3 @@
-use Prim.Native.Nat.{◌-◌}
 use borrow.Author.Rules.{rules}
 use Rattle.judgements.proofs.judgements.Laws.{firsts_start, firsts_next, firsts_end}
 use Rattle.weighing.proofs.weighed.judge_all.Goals as goal
