@@ -20,7 +20,7 @@ pub const FULL: Profile = Profile {
     rows: MOST_ROWS as u32,
 };
 
-// of the weight
+// The least weight in range.
 const LEAST_WEIGHT: u32 = 1;
 
 // 27: whether the exponent, the weight or the rows are out of range.

@@ -4,8 +4,8 @@ ghost use Rattle.std.specs.Io.KnownBytes.{Consumes, IsAtEnd};
 
 use std::io::{self, Read};
 
-// Reads until the bytes are full or the input ends: how many were read. Where a read fails, those before it stand in
-// the first bytes.
+// Reads until the bytes are full or the input ends: how many were read. Where a read fails, what was read before it
+// stands in the first bytes.
 pub(crate) fn read_full<R: Read>(reader: &mut R, bytes: &mut [u8]) -> io::Result<usize>
     ensures bound { IfOk result (λ count. count ≤ length bytes.new) }
     ensures read { IfOk result (λ count.

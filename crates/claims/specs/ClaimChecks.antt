@@ -58,5 +58,5 @@ pub record ClaimFacts (c : List ℕ) (n t : ℕ) : Type 0 where
   pub sized : length c ≡ claim_length n t
   pub floor_within : nat_abs (floor_of c) ≤ greatest_weight
   pub coefficient_within : (i : ℕ) → i < t → nat_abs (coefficient_of c n t i) ≤ greatest_weight
-  pub exponents_within : (i : ℕ) → i < t → exponents_within greatest_exponent (term_point c n i) ≡ true
+  pub exponent_within : (i : ℕ) → i < t → exponents_within greatest_exponent (term_point c n i) ≡ true
   pub rising : (i : ℕ) → suc i < t → rises_to (term_point c n i) (term_point c n (suc i)) ≡ true

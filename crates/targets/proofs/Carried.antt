@@ -18,7 +18,7 @@ use Rattle.targets.specs.Carried.{Carried}
 -- ---- which they are
 
 pub term_carried : (c : List ℕ) (n t i : ℕ) → ClaimFacts c n t → i < t → Carried n (term_point c n i)
-term_carried c n t i f l = record { sized = point_length c n i; within = f.exponents_within i l }
+term_carried c n t i f l = record { sized = point_length c n i; within = f.exponent_within i l }
 
 pub pure_carried : (n i e : ℕ) → e ≤ greatest_exponent → Carried n (pure_at n i e)
 pure_carried n i e h = record { sized = pure_length n i e; within = pure_within greatest_exponent n i e h }

@@ -157,7 +157,7 @@ module _ (c : List ℕ) (π : Profile) (h : Passes (claim_answer c π)) where
         sized = sized;
         floor_within = within_bound greatest_weight (floor_of c) p.floored;
         coefficient_within = λ i l. coefficient_fact c _ _ i (none_wrong _ _ p.coefficients i l);
-        exponents_within = λ i l.
+        exponent_within = λ i l.
             within_larger π.exponent greatest_exponent profile_facts.exponent_within _ (terms_within i l);
         rising = λ i l. rising_fact c _ _ i (none_wrong _ _ p.order (suc i) l);
       }
