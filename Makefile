@@ -39,8 +39,8 @@ TOUCH = @touch $@
 
 all: $(BUILT)
 
-# What rt makes stands in the crates' folders out, which every other call of rt changes; so what is used stands in
-# target. `rt run` builds the program.
+# What rt makes stands in the crates' folders out, which later calls of rt may change; so what is used stands in target.
+# `rt run` builds the program.
 $(PROGRAM): $(CRATES)
 	cd crates/burmelox_check && rt run < stdin | cmp - stdout
 	$(INSTALL) -D -m 755 crates/burmelox_check/out/burmelox_check $@
