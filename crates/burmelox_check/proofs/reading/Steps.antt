@@ -8,5 +8,8 @@ pub read_added : (a k n : ℕ) (xs ys : List ℕ) → a ≤ length xs → n ≤ 
     → take (a + n) (put_mid a k xs ys) ≡ take a xs ++ take n ys
 read_added a k n xs ys l m =
     take-add a n (put_mid a k xs ys)
-    ∙ rw (take-put_mid_below a k xs ys a (le_refl a) l, drop_at (take a xs) (ys ++ post_of a k xs) a (length-take-le a xs l))
+    ∙ rw (
+      take-put_mid_below a k xs ys a (le_refl a) l,
+      drop_at (take a xs) (ys ++ post_of a k xs) a (length-take-le a xs l),
+    )
     (ap (λ t. take a xs ++ t) (take-append-le n ys (post_of a k xs) m))

@@ -6,6 +6,9 @@ use Rattle.burmelox_check.proofs.reading.read_full.Goals as goal
 
 pub loop-count-preserved : goal.loop-count-preserved
 loop-count-preserved g c =
-    let room = length c.loop-count.bytes - c.loop-count.count in
-    let more = read_added c.loop-count.count room c.in_ok-more.more c.loop-count.bytes c.read.new.buf c.loop-count.invariant.0 c.in_ok-more.ensures.bound.0 in
-    (search rules, subst (Consumes _ _) (sym more) (Consumes-trans _ _ _ _ _ c.loop-count.invariant.1 c.in_ok-more.ensures.bytes.0))
+    let l = c.loop-count in
+    let read = c.in_ok-more in
+    let room = length l.bytes - l.count in
+    let added = read_added l.count room read.more l.bytes c.read.new.buf l.invariant.0 read.ensures.bound.0 in
+    let gone = Consumes-trans _ _ _ _ _ l.invariant.1 read.ensures.bytes.0 in
+    (search rules, subst (Consumes _ _) (sym added) gone)
