@@ -1,11 +1,9 @@
 -- Answers: verdicts in document 01's numbers, and checks in the order of their numbers.
-use Rattle.std.specs.Prelude.{◌≡◌, Bool, true, cond, List, [], ◌∷◌, ◌++◌, ℕ, ◌<◌, eqb, get_or, replicate}
+use Rattle.std.specs.Prelude.{◌≡◌, Bool, true, cond, Option, Some, None, Result, Ok, Err, List, [], ◌∷◌, ◌++◌, ℕ, ◌<◌, eqb, get_or, replicate}
 use Rattle.answers.specs.declared.answers.Sheet.{Sheet}
 use Rattle.answers.specs.declared.answers.Sheet.TheVariants.{Claim, Proof, Output, Offsets, Range, Limits, Page, Profile, Buffer, Table, Site}
 use Rattle.answers.specs.declared.answers.Verdict.{Verdict}
 use Rattle.answers.specs.declared.answers.Verdict.TheVariants.{Accepted, Refused}
-use Rattle.answers.specs.declared.searches.Found.{Found}
-use Rattle.answers.specs.declared.searches.Found.TheVariants.{At, Nothing}
 
 -- the sheet at fault
 pub data Blamed : Type 0 where
@@ -54,6 +52,15 @@ unfoldable pub says : Verdict → Answer
 says (Accepted k) = accepted k
 says (Refused sheet) = refusal sheet
 
+-- what the result of a check says that counts no rows, and of one that does
+abbrev pub told : Result (Unit {0}) Sheet → Answer
+told (Ok _) = accepted 0
+told (Err sheet) = refusal sheet
+
+abbrev pub counted : Result ℕ Sheet → Answer
+counted (Ok k) = accepted k
+counted (Err sheet) = refusal sheet
+
 -- the sheet that each number blames, from 0, which blames none
 abbrev pub blame_table : List Blamed
 blame_table =
@@ -68,17 +75,17 @@ blame_table =
 abbrev pub blames : ℕ → Blamed
 blames number = get_or blame_table number none
 
-unfoldable pub refused : ℕ → ℕ → Answer
+abbrev pub refused : ℕ → ℕ → Answer
 refused number index = record { number = number; blamed = blames number; value = index }
 
 -- "Checks go in number order": a check of the whole sheet, "or 0 where nothing is indexed", and the checks after it
-unfoldable pub refuse_if : Bool → ℕ → Answer → Answer
+abbrev pub refuse_if : Bool → ℕ → Answer → Answer
 refuse_if wrong number later = cond wrong (refused number 0) later
 
 -- a check "over all terms or rows before the next"
-unfoldable pub refuse_at : Found → ℕ → Answer → Answer
-refuse_at (At i) number later = refused number i
-refuse_at Nothing number later = later
+abbrev pub refuse_at : Option ℕ → ℕ → Answer → Answer
+refuse_at (Some i) number later = refused number i
+refuse_at None number later = later
 
 -- no sheet is at fault
 abbrev pub faultless : Blamed → Bool

@@ -24,6 +24,21 @@ pub enum Verdict {
     Refused(Sheet),
 }
 
+impl From<Result<usize, Sheet>> for Verdict {
+    ghost use Rattle.std.specs.Prelude.{◌≡◌};
+    ghost use Rattle.answers.specs.Answers.{says, counted};
+
+    ghost from_gives = { λ outcome verdict. says verdict ≡ counted outcome };
+
+    #[tactic(auto, unfolding(crate::specs::Answers::says))]
+    fn from(outcome: Result<usize, Sheet>) -> Verdict {
+        match outcome {
+            Ok(k) => Verdict::Accepted(k),
+            Err(sheet) => Verdict::Refused(sheet),
+        }
+    }
+}
+
 // A verdict in numbers: the sheet at fault, the refusal's number and its index, or 0, 0 and k where it is accepted.
 #[derive(Clone, Copy)]
 pub struct Numbers {
@@ -44,24 +59,23 @@ fn in_numbers(sheet: u32, number: u32, value: usize) -> Numbers
 }
 
 // What a verdict says, in numbers.
+#[tactic(auto, unfolding(crate::specs::Answers::says, crate::specs::Answers::accepted))]
 pub fn numbers_of(verdict: Verdict) -> Numbers
     ensures { (result.sheet ≡ sheet_number (says verdict).blamed) × (result.number ≡ (says verdict).number)
         × (result.value ≡ (says verdict).value) }
 {
     match verdict {
         Verdict::Accepted(k) => in_numbers(0, 0, k),
-        Verdict::Refused(sheet) => match sheet {
-            Sheet::Claim(number, value) => in_numbers(1, number, value),
-            Sheet::Proof(number, value) => in_numbers(2, number, value),
-            Sheet::Output(number, value) => in_numbers(3, number, value),
-            Sheet::Offsets(number, value) => in_numbers(4, number, value),
-            Sheet::Range(number, value) => in_numbers(5, number, value),
-            Sheet::Limits(number, value) => in_numbers(6, number, value),
-            Sheet::Page(number, value) => in_numbers(7, number, value),
-            Sheet::Profile(number, value) => in_numbers(8, number, value),
-            Sheet::Buffer(number, value) => in_numbers(9, number, value),
-            Sheet::Table(number, value) => in_numbers(10, number, value),
-            Sheet::Site(number, value) => in_numbers(11, number, value),
-        },
+        Verdict::Refused(Sheet::Claim(number, value)) => in_numbers(1, number, value),
+        Verdict::Refused(Sheet::Proof(number, value)) => in_numbers(2, number, value),
+        Verdict::Refused(Sheet::Output(number, value)) => in_numbers(3, number, value),
+        Verdict::Refused(Sheet::Offsets(number, value)) => in_numbers(4, number, value),
+        Verdict::Refused(Sheet::Range(number, value)) => in_numbers(5, number, value),
+        Verdict::Refused(Sheet::Limits(number, value)) => in_numbers(6, number, value),
+        Verdict::Refused(Sheet::Page(number, value)) => in_numbers(7, number, value),
+        Verdict::Refused(Sheet::Profile(number, value)) => in_numbers(8, number, value),
+        Verdict::Refused(Sheet::Buffer(number, value)) => in_numbers(9, number, value),
+        Verdict::Refused(Sheet::Table(number, value)) => in_numbers(10, number, value),
+        Verdict::Refused(Sheet::Site(number, value)) => in_numbers(11, number, value),
     }
 }

@@ -31,6 +31,7 @@ pub const GREATEST_LIMIT: u16 = 1023;
 pub const GREATEST_MULTIPLIER: u32 = 65536;
 
 // Whether a number is beyond ± a limit.
+#[tactic(auto, unfolding(crate::specs::Bounds::beyond))]
 pub fn is_beyond(x: i64, limit: u64) -> bool
     ensures { result ≡ beyond limit x }
 {

@@ -24,18 +24,13 @@ pub const FULL: Profile = Profile {
 const LEAST_WEIGHT: u32 = 1;
 
 // 27: whether the exponent, the weight or the rows are out of range.
+#[tactic(auto, unfolding(crate::specs::Profiles::in_range))]
 pub fn profile_wrong(profile: Profile) -> bool
     ensures test { result ≡ not (in_range profile) }
     ensures says { (result ≡ false) ↔ InRange profile }
 {
-    if (GREATEST_EXPONENT as u32) < profile.exponent {
-        return true;
-    }
-    if profile.weight < LEAST_WEIGHT {
-        return true;
-    }
-    if GREATEST_WEIGHT < profile.weight as u64 {
-        return true;
-    }
-    MOST_ROWS < profile.rows as usize
+    u32::from(GREATEST_EXPONENT) < profile.exponent
+        || profile.weight < LEAST_WEIGHT
+        || GREATEST_WEIGHT < u64::from(profile.weight)
+        || MOST_ROWS < profile.rows as usize
 }

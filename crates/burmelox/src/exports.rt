@@ -13,8 +13,8 @@ ghost use Rattle.burmelox.specs.Exports.{number_in, code_of, Accepted, Coded, to
 
 use answers::answers::{Verdict, numbers_of};
 use bounds::profiles::Profile;
-use evaluation::evaluations::{Evaluation, evaluate};
-use floors::search::{Searched, search};
+use evaluation::evaluations::evaluate;
+use floors::search::search;
 use judging::check::check;
 use paging::page_check::page_check;
 
@@ -96,11 +96,11 @@ pub extern "C" fn burmelox_evaluate(
         (Stores result value.new) }
 {
     match evaluate(claim, profile, offsets) {
-        Evaluation::Refused(sheet) => code(Verdict::Refused(sheet)),
-        Evaluation::Value(v) => {
+        Ok(v) => {
             *value = v;
             0
         }
+        Err(sheet) => code(Verdict::Refused(sheet)),
     }
 }
 
@@ -135,11 +135,11 @@ pub extern "C" fn burmelox_search(
         output.new }
 {
     match search(claim, proof, limits, profile, lo, hi, output) {
-        Searched::Refused(sheet) => code(Verdict::Refused(sheet)),
-        Searched::Found(b, m, k) => {
-            *floor = b;
-            *tried = m;
-            k as u64
+        Ok(highest) => {
+            *floor = highest.floor;
+            *tried = highest.tried;
+            highest.rows as u64
         }
+        Err(sheet) => code(Verdict::Refused(sheet)),
     }
 }

@@ -16,9 +16,5 @@ pub(crate) fn claim_end(input: &[u8]) -> usize
     if header_wrong(input) {
         return input.len();
     }
-    let end = place_of(8, term_count(input), variables(input) + 4);
-    if input.len() < end {
-        return input.len();
-    }
-    end
+    place_of(8, term_count(input), variables(input) + 4).min(input.len())
 }

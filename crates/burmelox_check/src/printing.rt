@@ -22,10 +22,7 @@ const LONGEST_LIMITS: usize = 1786;
 fn said_variables(claim: &[u8]) -> u8
     ensures { result ≡ variables claim.now }
 {
-    if claim.len() == 0 {
-        return 0;
-    }
-    claim[0]
+    claim.first().copied().unwrap_or(0)
 }
 
 // The text for a claim and its proof, none of whose variables is limited, under the full profile, with an output for

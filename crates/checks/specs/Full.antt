@@ -8,9 +8,8 @@ use Rattle.sheets.specs.Layout.{variables, shape_of, proof_length}
 use Rattle.sheets.specs.declared.layout.Shape.{Shape}
 use Rattle.limits.specs.LimitChecks.{limits_answer}
 use Rattle.claims.specs.Full.{full_claim}
-use Rattle.checks.specs.ProofChecks.{proof_header_right, row_breaks}
+use Rattle.checks.specs.ProofChecks.{proof_header_right, exponent_breaks, midpoint_breaks, unused_breaks, weight_breaks}
 use Rattle.checks.specs.Input.{room_answer, input_answer, formed_answer}
-use Rattle.checks.specs.declared.proof_checks.RowRule.TheVariants.{Exponent, Midpoint, Unused, Weight}
 
 -- 8 to 10, where n is the claim's
 unfoldable pub full_header : ℕ → List ℕ → Answer
@@ -23,10 +22,10 @@ full_header n s =
 -- 12 to 15
 unfoldable pub full_rows : List ℕ → Shape → Answer
 full_rows s shape =
-    refuse_at (first (row_breaks (Exponent greatest_exponent) s shape) shape.k) 12
-    (refuse_at (first (row_breaks Midpoint s shape) shape.k) 13
-    (refuse_at (first (row_breaks Unused s shape) shape.k) 14
-    (refuse_at (first (row_breaks (Weight greatest_weight) s shape) shape.k) 15
+    refuse_at (first (exponent_breaks greatest_exponent s shape) shape.k) 12
+    (refuse_at (first (midpoint_breaks s shape) shape.k) 13
+    (refuse_at (first (unused_breaks s shape) shape.k) 14
+    (refuse_at (first (weight_breaks greatest_weight s shape) shape.k) 15
     (accepted 0))))
 
 -- 1 to 10

@@ -9,8 +9,6 @@ use Rattle.sheets.specs.Layout.{variables, row_count, shape_of, proof_length, Pr
 use Rattle.sheets.specs.declared.layout.Shape.{Shape}
 use Rattle.rows.specs.ProofSheet.{scale_of, v_of, w_of, triple_of}
 use Rattle.rows.specs.declared.proof_sheet.Triple.{Triple}
-use Rattle.checks.specs.declared.proof_checks.RowRule.{RowRule}
-use Rattle.checks.specs.declared.proof_checks.RowRule.TheVariants.{Exponent, Midpoint, Unused, Weight}
 
 -- "Byte 0: n, as in the claim. Byte 1: zero. Bytes 2 and 3: k, rows", 0 to the limit. "Bytes 4 to 7: the scale S, 1 to
 -- 2^20"
@@ -35,22 +33,30 @@ q_or_r x = not (eqb (nat_abs x.q) 0) || not (eqb (nat_abs x.r) 0)
 unfoldable pub any_beyond : ℕ → Triple → Bool
 any_beyond limit x = beyond limit x.p || beyond limit x.q || beyond limit x.r
 
--- row i breaks a rule: "exponent over" the limit, "no whole midpoint", "lone row, q or r not zero", "proposed weight
--- beyond" the limit
-unfoldable pub row_breaks : RowRule → List ℕ → Shape → ℕ → Bool
-row_breaks (Exponent limit) s shape i =
+-- 12: "exponent over" the limit, of row i
+unfoldable pub exponent_breaks : ℕ → List ℕ → Shape → ℕ → Bool
+exponent_breaks limit s shape i =
     not (exponents_within limit (v_of s shape i)) || not (exponents_within limit (w_of s shape i))
-row_breaks Midpoint s shape i = not (has_midpoint (v_of s shape i) (w_of s shape i))
-row_breaks Unused s shape i = same_point (v_of s shape i) (w_of s shape i) && q_or_r (triple_of s shape i)
-row_breaks (Weight limit) s shape i = any_beyond limit (triple_of s shape i)
+
+-- 13: "no whole midpoint"
+unfoldable pub midpoint_breaks : List ℕ → Shape → ℕ → Bool
+midpoint_breaks s shape i = not (has_midpoint (v_of s shape i) (w_of s shape i))
+
+-- 14: "lone row, q or r not zero"
+unfoldable pub unused_breaks : List ℕ → Shape → ℕ → Bool
+unused_breaks s shape i = same_point (v_of s shape i) (w_of s shape i) && q_or_r (triple_of s shape i)
+
+-- 15: "proposed weight beyond" the limit
+unfoldable pub weight_breaks : ℕ → List ℕ → Shape → ℕ → Bool
+weight_breaks limit s shape i = any_beyond limit (triple_of s shape i)
 
 -- 12 to 15, of which 12 and 15 read the profile
 unfoldable pub rows_answer : List ℕ → Profile → Shape → Answer
 rows_answer s π shape =
-    refuse_at (first (row_breaks (Exponent π.exponent) s shape) shape.k) 12
-    (refuse_at (first (row_breaks Midpoint s shape) shape.k) 13
-    (refuse_at (first (row_breaks Unused s shape) shape.k) 14
-    (refuse_at (first (row_breaks (Weight π.weight) s shape) shape.k) 15
+    refuse_at (first (exponent_breaks π.exponent s shape) shape.k) 12
+    (refuse_at (first (midpoint_breaks s shape) shape.k) 13
+    (refuse_at (first (unused_breaks s shape) shape.k) 14
+    (refuse_at (first (weight_breaks π.weight s shape) shape.k) 15
     (accepted 0))))
 
 -- three numbers within ± a limit

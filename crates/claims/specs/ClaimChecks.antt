@@ -8,8 +8,6 @@ use Rattle.answers.specs.Searches.{first}
 use Rattle.points.specs.Points.{Masked, rises_to, exponents_within}
 use Rattle.sheets.specs.Layout.{variables, term_count, mask_of, claim_length, ClaimRoom}
 use Rattle.sheets.specs.ClaimSheet.{floor_of, term_point, coefficient_of}
-use Rattle.claims.specs.declared.claim_checks.TermRule.{TermRule}
-use Rattle.claims.specs.declared.claim_checks.TermRule.TheVariants.{Coefficient, Exponent, Order}
 
 -- "Byte 0: n, variables, 1 to 8. Byte 1: t, terms, 0 to 64."
 unfoldable pub counts_right : List ℕ → Bool
@@ -27,18 +25,24 @@ mask_right c = eqb (mask_of c / 2 ^ variables c) 0
 unfoldable pub claim_header_right : List ℕ → Bool
 claim_header_right c = counts_right c && mask_right c && eqb (get_or c 3 0) 0
 
--- term i breaks a rule: "coefficient zero or beyond", "exponent over" the limit, "point not above the one before"
-unfoldable pub term_breaks : TermRule → List ℕ → ℕ → ℕ → ℕ → Bool
-term_breaks (Coefficient limit) c n t i = eqb (nat_abs (coefficient_of c n t i)) 0 || beyond limit (coefficient_of c n t i)
-term_breaks (Exponent limit) c n t i = not (exponents_within limit (term_point c n i))
-term_breaks Order c n t i = ltb 0 i && not (rises_to (term_point c n (i - 1)) (term_point c n i))
+-- 5: "coefficient zero or beyond" the limit, of term i
+unfoldable pub coefficient_breaks : ℕ → List ℕ → ℕ → ℕ → ℕ → Bool
+coefficient_breaks limit c n t i = eqb (nat_abs (coefficient_of c n t i)) 0 || beyond limit (coefficient_of c n t i)
+
+-- 6: "exponent over" the limit
+unfoldable pub exponent_breaks : ℕ → List ℕ → ℕ → ℕ → ℕ → Bool
+exponent_breaks limit c n t i = not (exponents_within limit (term_point c n i))
+
+-- 7: "point not above the one before"
+unfoldable pub order_breaks : List ℕ → ℕ → ℕ → ℕ → Bool
+order_breaks c n t i = ltb 0 i && not (rises_to (term_point c n (i - 1)) (term_point c n i))
 
 -- 5 to 7, of which 6 reads the profile
 unfoldable pub terms_answer : List ℕ → Profile → ℕ → ℕ → Answer
 terms_answer c π n t =
-    refuse_at (first (term_breaks (Coefficient greatest_weight) c n t) t) 5
-    (refuse_at (first (term_breaks (Exponent π.exponent) c n t) t) 6
-    (refuse_at (first (term_breaks Order c n t) t) 7
+    refuse_at (first (coefficient_breaks greatest_weight c n t) t) 5
+    (refuse_at (first (exponent_breaks π.exponent c n t) t) 6
+    (refuse_at (first (order_breaks c n t) t) 7
     (accepted 0)))
 
 -- "27 .. before 1, a profile out of range"; 1 to 7

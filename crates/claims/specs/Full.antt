@@ -7,15 +7,14 @@ use Rattle.answers.specs.Answers.{Answer, accepted, refuse_if, refuse_at}
 use Rattle.answers.specs.Searches.{first}
 use Rattle.sheets.specs.Layout.{variables, term_count, claim_length}
 use Rattle.sheets.specs.ClaimSheet.{floor_of}
-use Rattle.claims.specs.ClaimChecks.{claim_header_right, term_breaks, claim_answer}
-use Rattle.claims.specs.declared.claim_checks.TermRule.TheVariants.{Coefficient, Exponent, Order}
+use Rattle.claims.specs.ClaimChecks.{claim_header_right, coefficient_breaks, exponent_breaks, order_breaks, claim_answer}
 
 -- 5 to 7
 unfoldable pub full_terms : List ℕ → ℕ → ℕ → Answer
 full_terms c n t =
-    refuse_at (first (term_breaks (Coefficient greatest_weight) c n t) t) 5
-    (refuse_at (first (term_breaks (Exponent greatest_exponent) c n t) t) 6
-    (refuse_at (first (term_breaks Order c n t) t) 7
+    refuse_at (first (coefficient_breaks greatest_weight c n t) t) 5
+    (refuse_at (first (exponent_breaks greatest_exponent c n t) t) 6
+    (refuse_at (first (order_breaks c n t) t) 7
     (accepted 0)))
 
 -- 1 to 7

@@ -1,18 +1,17 @@
 -- Evaluation of a claim's polynomial at offsets: the exact value, or one of the refusals 27, 1 to 7, 20 and 21.
-use Rattle.std.specs.Prelude.{Bool, not, cond, List, ℕ, eqb, ℤ, ◌*ℤ◌, length}
+use Rattle.std.specs.Prelude.{Bool, not, cond, Result, Ok, Err, List, ℕ, eqb, ℤ, ◌*ℤ◌, length}
 use Rattle.bounds.specs.Bounds.{beyond, greatest_value}
 use Rattle.bounds.specs.declared.profiles.Profile.{Profile}
-use Rattle.answers.specs.Answers.{Answer, accepted, says, refuse_if, refuse_at, blameless, and_then}
+use Rattle.answers.specs.Answers as A
+use Rattle.answers.specs.Answers.{Answer, accepted, refuse_if, refuse_at, blameless, and_then}
 use Rattle.answers.specs.Searches.{first}
-use Rattle.answers.specs.declared.answers.Verdict.TheVariants as Verdicts
+use Rattle.answers.specs.declared.answers.Sheet.{Sheet}
 use Rattle.points.specs.Lists.{table}
 use Rattle.monomials.specs.Powers.{monomial_of}
 use Rattle.squares.specs.Sums.{value_at}
 use Rattle.sheets.specs.Layout.{variables, term_count}
 use Rattle.sheets.specs.ClaimSheet.{term_point, coefficient_of, term_of, terms_of}
 use Rattle.claims.specs.ClaimChecks.{claim_answer}
-use Rattle.evaluation.specs.declared.evaluations.Evaluation.{Evaluation}
-use Rattle.evaluation.specs.declared.evaluations.Evaluation.TheVariants.{Value, Refused}
 
 -- a value, or a refusal with its number, the sheet at fault and its index
 pub data Told : Type 0 where
@@ -20,9 +19,9 @@ pub data Told : Type 0 where
   refusal : Answer → Told
 
 -- what each evaluation tells
-unfoldable pub tells : Evaluation → Told
-tells (Value z) = value z
-tells (Refused sheet) = refusal (says (Verdicts.Refused sheet))
+unfoldable pub tells : Result ℤ Sheet → Told
+tells (Ok z) = value z
+tells (Err sheet) = refusal (A.refusal sheet)
 
 -- what checks that have this answer tell: the value where all are passed
 unfoldable pub told_by : Answer → ℤ → Told

@@ -5,22 +5,16 @@ ghost use Rattle.sheets.specs.Layout.{ClaimRoom};
 ghost use Rattle.evaluation.specs.Evaluations.{term_value, value, tells, summed, evaluation_of};
 ghost use Rattle.evaluation.specs.Promises.{EvaluationPromises};
 
-use answers::answers::{Sheet, Verdict};
+use answers::answers::Sheet;
 use bounds::profiles::Profile;
 use claims::claim_checks::check_claim;
-use monomials::powers::{Bounded, term};
+use monomials::powers::term;
 use sheets::claim_sheet::{coefficient, term_count, term_point};
 use sheets::layout::variables;
 
-// The exact value, or the sheet at fault.
-#[derive(Clone, Copy)]
-pub enum Evaluation {
-    Value(i64),
-    Refused(Sheet),
-}
-
 // The value of term i.
-fn term_value(claim: &[u8], n: usize, t: usize, offsets: &[i32], i: usize) -> Bounded
+#[tactic(auto, using(points::proofs::points::Laws::exponents_of), unfolding(crate::specs::Evaluations::term_value))]
+fn term_value(claim: &[u8], n: usize, t: usize, offsets: &[i32], i: usize) -> Option<i64>
     requires { (ClaimRoom claim.now n t) × (i < t) }
     ensures { result ≡ within (term_value claim.now n t offsets.now i) }
 {
@@ -32,34 +26,31 @@ fn term_value(claim: &[u8], n: usize, t: usize, offsets: &[i32], i: usize) -> Bo
 }
 
 // The sum of the terms, or 21 at the first that is too large.
-fn summed(claim: &[u8], n: usize, t: usize, offsets: &[i32]) -> Evaluation
+fn summed(claim: &[u8], n: usize, t: usize, offsets: &[i32]) -> Result<i64, Sheet>
     requires { ClaimRoom claim.now n t }
     ensures { tells result ≡ summed claim.now n t offsets.now }
 {
-    let mut sum = 0i64;
-    let mut i = 0;
-    while i < t {
-        let Bounded::Value(v) = term_value(claim, n, t, offsets, i) else {
-            return Evaluation::Refused(Sheet::Claim(21, i));
+    let mut sum = 0;
+    for i in 0..t {
+        let Some(v) = term_value(claim, n, t, offsets, i) else {
+            return Err(Sheet::Claim(21, i));
         };
-        sum = sum + v;
-        i += 1;
+        sum += v;
     }
-    Evaluation::Value(sum)
+    Ok(sum)
 }
 
 // The exact value of the polynomial, or the first refusal of 27, 1 to 7, 20 and 21.
-pub fn evaluate(claim: &[u8], profile: Profile, offsets: &[i32]) -> Evaluation
+#[tactic(auto, using(crate::proofs::evaluations::Steps::claim_refused, crate::proofs::evaluations::Steps::offsets_refused, crate::proofs::evaluations::Steps::all_summed, claims::proofs::claim_checks::Laws::claim_long))]
+pub fn evaluate(claim: &[u8], profile: Profile, offsets: &[i32]) -> Result<i64, Sheet>
     ensures answer { tells result ≡ evaluation_of claim.now profile offsets.now }
     ensures promises { EvaluationPromises claim.now profile offsets.now
         (λ z. tells result ≡ value z) }
 {
-    if let Verdict::Refused(sheet) = check_claim(claim, profile) {
-        return Evaluation::Refused(sheet);
-    }
+    check_claim(claim, profile)?;
     let n = variables(claim);
     if offsets.len() != n {
-        return Evaluation::Refused(Sheet::Offsets(20, 0));
+        return Err(Sheet::Offsets(20, 0));
     }
     summed(claim, n, term_count(claim), offsets)
 }

@@ -1,4 +1,5 @@
 -- The promises of the search, from what it tells.
+use Rattle.std.proofs.Common.{Option, Some, None}
 use mathlib.Core.Path.{◌≡◌, refl, sym, ◌∙◌, ap}
 use mathlib.Core.Bool.{Bool, true, false, true≢false}
 use mathlib.Core.List.{List}
@@ -16,8 +17,6 @@ use Rattle.bounds.specs.Bounds.{greatest_weight}
 use Rattle.bounds.specs.Profiles.{Larger}
 use Rattle.bounds.specs.declared.profiles.Profile.{Profile}
 use Rattle.answers.specs.Answers.{Answer, accepted, refused, blameless, Passes, Short}
-use Rattle.answers.specs.declared.searches.Found as Index
-use Rattle.answers.specs.declared.searches.Found.TheVariants.{At, Nothing}
 use Rattle.answers.proofs.answers.Laws.{passes_or_fails, passes_then, then_passes, accepted_passes, refused_blames, refused_number, short_accepted, short_refused}
 use Rattle.answers.proofs.searches.Laws.{first_inside, first_before, none_wrong}
 use Rattle.squares.specs.Floor.{Floors}
@@ -35,7 +34,7 @@ use Rattle.judging.specs.Check.{check_answer, output_of}
 use Rattle.judging.proofs.check.Laws.{floored_answer}
 use Rattle.judging.proofs.Promises.{accepted_rows, accepted_larger, floor_kept, check_promises}
 use Rattle.floors.specs.Search.{Told, found, refusal, answer_of, range_answer, floor_count, floor_after, accepts, refused_before, told_after, search_of, output_by, search_output}
-use Rattle.floors.specs.Promises.{RightRange, FloorPromises, Some, SearchPromises}
+use Rattle.floors.specs.Promises.{RightRange, FloorPromises, Some as SomeFloor, SearchPromises}
 use Rattle.floors.proofs.Full.{search_full}
 use Rattle.floors.proofs.search.Laws.{answer_found, answer_refusal, right_range, range_right, searchable, input_passed, range_passed, range_passes, range_short, range_other, after_low, after_high, after_within}
 
@@ -63,7 +62,7 @@ module _ (c s ls : List ℕ) (π : Profile) (lo hi : ℤ) (room : ℕ) where
   record Walked (b : ℤ) (tried k : ℕ) : Type 0 where
     ready : Passes (range_answer c s ls π lo hi room)
     after : ℕ
-    before : refused_before c s ls π lo hi room ≡ At after
+    before : refused_before c s ls π lo hi room ≡ Some after
     floor_is : b ≡ floor_after hi after
     tried_is : tried ≡ suc after
     rows_are : k ≡ row_count s
@@ -71,9 +70,9 @@ module _ (c s ls : List ℕ) (π : Profile) (lo hi : ℤ) (room : ℕ) where
   -- a refusal before 16, a floor after i others, or 23
   told_cases : {A : Type 0}
       → (blameless (range_answer c s ls π lo hi room) ≡ false → told ≡ refusal (range_answer c s ls π lo hi room) → A)
-      → (Passes (range_answer c s ls π lo hi room) → (i : ℕ) → refused_before c s ls π lo hi room ≡ At i
+      → (Passes (range_answer c s ls π lo hi room) → (i : ℕ) → refused_before c s ls π lo hi room ≡ Some i
       → told ≡ found (floor_after hi i) (suc i) (row_count s) → A)
-      → (Passes (range_answer c s ls π lo hi room) → refused_before c s ls π lo hi room ≡ Nothing
+      → (Passes (range_answer c s ls π lo hi room) → refused_before c s ls π lo hi room ≡ None
       → told ≡ refusal (refused 23 0) → A)
       → A
   unfolding search_of told_after
@@ -81,9 +80,9 @@ module _ (c s ls : List ℕ) (π : Profile) (lo hi : ℤ) (room : ℕ) where
       passes_or_fails (range_answer c s ls π lo hi room) (λ h. go h (refused_before c s ls π lo hi room) refl)
       (λ h. early h (rw h))
     where
-      go : Passes (range_answer c s ls π lo hi room) → (f : Index.Found) → refused_before c s ls π lo hi room ≡ f → A
-      go h (At i) e = some h i e (rw (h, e))
-      go h Nothing e = none h e (rw (h, e))
+      go : Passes (range_answer c s ls π lo hi room) → (f : Option ℕ) → refused_before c s ls π lo hi room ≡ f → A
+      go h (Some i) e = some h i e (rw (h, e))
+      go h None e = none h e (rw (h, e))
 
   walked : (b : ℤ) (tried k : ℕ) → told ≡ found b tried k → Walked b tried k
   walked b tried k e =
@@ -148,7 +147,7 @@ module _ (c s ls : List ℕ) (π : Profile) (lo hi : ℤ) (room : ℕ) where
 
   -- ---- 23, and that a floor is found where there is one
 
-  none_accepted : refused_before c s ls π lo hi room ≡ Nothing → RightRange lo hi → (b : ℤ) → lo ≤ℤ b → b ≤ℤ hi
+  none_accepted : refused_before c s ls π lo hi room ≡ None → RightRange lo hi → (b : ℤ) → lo ≤ℤ b → b ≤ℤ hi
       → accepts c s ls π room b ≡ false
   unfolding refused_before
   none_accepted e right b low high =
@@ -158,7 +157,7 @@ module _ (c s ls : List ℕ) (π : Profile) (lo hi : ℤ) (room : ℕ) where
   -- a refusal is one before 16, or 23
   told_refused : {A : Type 0} (a : Answer) → told ≡ refusal a
       → (blameless (range_answer c s ls π lo hi room) ≡ false → a ≡ range_answer c s ls π lo hi room → A)
-      → (Passes (range_answer c s ls π lo hi room) → refused_before c s ls π lo hi room ≡ Nothing → a ≡ refused 23 0 → A)
+      → (Passes (range_answer c s ls π lo hi room) → refused_before c s ls π lo hi room ≡ None → a ≡ refused 23 0 → A)
       → A
   told_refused a e one other =
       told_cases (λ h q. one h (cc)) (λ h i f q. never (cc)) (λ h f q. other h f (cc))
@@ -174,17 +173,17 @@ module _ (c s ls : List ℕ) (π : Profile) (lo hi : ℤ) (room : ℕ) where
     pub told_none : a ≡ refused 23 0
     told_none = told_refused a e (λ h q. not_before q) (λ h f q. q)
 
-    none_ready : Passes (range_answer c s ls π lo hi room) × (refused_before c s ls π lo hi room ≡ Nothing)
+    none_ready : Passes (range_answer c s ls π lo hi room) × (refused_before c s ls π lo hi room ≡ None)
     none_ready = told_refused a e (λ h q. not_before q) (λ h f q. (h, f))
 
   module _ (h : Passes (range_answer c s ls π lo hi room)) where
     ready_cases : {A : Type 0}
-        → ((i : ℕ) → refused_before c s ls π lo hi room ≡ At i → told ≡ found (floor_after hi i) (suc i) (row_count s) → A)
-        → (refused_before c s ls π lo hi room ≡ Nothing → told ≡ refusal (refused 23 0) → A) → A
+        → ((i : ℕ) → refused_before c s ls π lo hi room ≡ Some i → told ≡ found (floor_after hi i) (suc i) (row_count s) → A)
+        → (refused_before c s ls π lo hi room ≡ None → told ≡ refusal (refused 23 0) → A) → A
     ready_cases some none = told_cases (λ n q. absurd (true≢false (sym h ∙ n))) (λ _. some) (λ _. none)
 
     told_some : (b : ℤ) → lo ≤ℤ b → b ≤ℤ hi → accepts c s ls π room b ≡ true
-        → Some (λ b tried k. told ≡ found b tried k)
+        → SomeFloor (λ b tried k. told ≡ found b tried k)
     told_some b low high a =
         ready_cases (λ i f q. record { floor = _; tried = _; rows = _; finds = q })
         (λ f q.
@@ -263,7 +262,7 @@ module _ (c s ls : List ℕ) (π ρ : Profile) (l : Larger π ρ) (lo hi : ℤ) 
       accepted_passes _ _
       (accepted_larger (with_floor c b) s ls π ρ l room (found_passes c s ls π lo hi room b tried k e))
 
-  larger_some : Some (λ b tried k. search_of c s ls ρ lo hi room ≡ found b tried k)
+  larger_some : SomeFloor (λ b tried k. search_of c s ls ρ lo hi room ≡ found b tried k)
   larger_some =
       let m = found_within c s ls π lo hi room b tried k e in
       told_some c s ls ρ lo hi room larger_ready b m.0 m.1 larger_accepts
@@ -322,7 +321,7 @@ module _ (c s ls : List ℕ) (π : Profile) (lo hi : ℤ) (out : List ℕ) (Find
   found_output : (b : ℤ) (tried k : ℕ) → Finds b tried k → o ≡ output_of (with_floor c b) s ls π out
   found_output b tried k f = eo ∙ found_writes c s ls π lo hi out b tried k ((meant b tried k).0 f)
 
-  unfound_output : (Some Finds → ⊥) → o ≡ out
+  unfound_output : (SomeFloor Finds → ⊥) → o ≡ out
   unfolding search_output output_by
   unfound_output n = go (search_of c s ls π lo hi (length out)) refl
     where

@@ -1,10 +1,9 @@
 -- The search of the time before profiles, over the check at 120, 2^30 and 256. "The full profile gives the old
 -- verdicts."
-use Rattle.std.specs.Prelude.{◌≡◌, cond, List, ℕ, ℤ, length}
+use Rattle.std.specs.Prelude.{◌≡◌, cond, List, ℕ, ℤ, length, Option}
 use Rattle.bounds.specs.Profiles.{full_profile}
 use Rattle.answers.specs.Answers.{Answer, accepted, refuse_if, blameless, and_then}
 use Rattle.answers.specs.Searches.{first}
-use Rattle.answers.specs.declared.searches.Found.{Found}
 use Rattle.sheets.specs.ClaimSheet.{with_floor}
 use Rattle.checks.specs.Full.{full_input}
 use Rattle.judging.specs.Full.{full_answer, full_output}
@@ -15,7 +14,7 @@ unfoldable pub full_range : List ℕ → List ℕ → List ℕ → ℤ → ℤ �
 full_range c s l lo hi room = and_then (full_input c s l room) (refuse_if (range_wrong lo hi) 22 (accepted 0))
 
 -- how many floors are refused before "the greatest floor whose check is accepted"
-unfoldable pub full_before : List ℕ → List ℕ → List ℕ → ℤ → ℤ → ℕ → Found
+unfoldable pub full_before : List ℕ → List ℕ → List ℕ → ℤ → ℤ → ℕ → Option ℕ
 full_before c s l lo hi room =
     first (λ i. blameless (full_answer (with_floor c (floor_after hi i)) s l room)) (floor_count lo hi)
 

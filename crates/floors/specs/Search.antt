@@ -1,13 +1,12 @@
 -- The search for the highest floor: "tries hi first and goes down".
-use Rattle.std.specs.Prelude.{◌≡◌, Bool, false, cond, ◌||◌, List, ◌++◌, ℕ, suc, ◌≤◌, ℤ, pos, nat_abs, ◌-ℤ◌, length, drop}
+use Rattle.std.specs.Prelude.{◌≡◌, Bool, false, cond, ◌||◌, List, ◌++◌, ℕ, suc, ◌≤◌, ℤ, pos, nat_abs, ◌-ℤ◌, length, drop, Option, Some, None, Result, Ok, Err}
 use Rattle.std.specs.Int.Signed.{lt_z}
 use Rattle.bounds.specs.Bounds.{greatest_weight, greatest_span, beyond}
 use Rattle.bounds.specs.declared.profiles.Profile.{Profile}
-use Rattle.answers.specs.Answers.{Answer, accepted, refused, says, refuse_if, blameless, and_then}
+use Rattle.answers.specs.Answers as Answers
+use Rattle.answers.specs.Answers.{Answer, accepted, refused, refuse_if, blameless, and_then}
 use Rattle.answers.specs.Searches.{first}
-use Rattle.answers.specs.declared.answers.Verdict.TheVariants as Verdicts
-use Rattle.answers.specs.declared.searches.Found as Index
-use Rattle.answers.specs.declared.searches.Found.TheVariants.{At, Nothing}
+use Rattle.answers.specs.declared.answers.Sheet.{Sheet}
 use Rattle.sheets.specs.Layout.{row_count}
 use Rattle.sheets.specs.ClaimSheet.{with_floor}
 use Rattle.checks.specs.Input.{input_answer}
@@ -17,8 +16,7 @@ use Rattle.sharing.specs.Shifts.{CheckedSheets}
 use Rattle.weighing.specs.Exact.{exact_proof}
 use Rattle.weighing.specs.Weighed.{weighed_answer}
 use Rattle.judging.specs.Check.{check_answer, output_of}
-use Rattle.floors.specs.declared.search.Searched.{Searched}
-use Rattle.floors.specs.declared.search.Searched.TheVariants.{Found, Refused}
+use Rattle.floors.specs.declared.search.Highest.{Highest}
 
 -- a floor with the number of floors tried and the number of rows, or a refusal with its number, the sheet at fault and
 -- its index
@@ -27,9 +25,9 @@ pub data Told : Type 0 where
   refusal : Answer → Told
 
 -- what each search tells
-unfoldable pub tells : Searched → Told
-tells (Found floor tried k) = found floor tried k
-tells (Refused sheet) = refusal (says (Verdicts.Refused sheet))
+unfoldable pub tells : Result Highest Sheet → Told
+tells (Ok h) = found h.floor h.tried h.rows
+tells (Err sheet) = refusal (Answers.refusal sheet)
 
 -- as an answer: accepted with the number of rows where a floor is found
 unfoldable pub answer_of : Told → Answer
@@ -61,13 +59,13 @@ unfoldable pub accepts : List ℕ → List ℕ → List ℕ → Profile → ℕ 
 accepts c s l π room b = blameless (check_answer (with_floor c b) s l π room)
 
 -- how many floors are refused before "the greatest floor whose check is accepted"
-unfoldable pub refused_before : List ℕ → List ℕ → List ℕ → Profile → ℤ → ℤ → ℕ → Index.Found
+unfoldable pub refused_before : List ℕ → List ℕ → List ℕ → Profile → ℤ → ℤ → ℕ → Option ℕ
 refused_before c s l π lo hi room = first (λ i. accepts c s l π room (floor_after hi i)) (floor_count lo hi)
 
 -- "the number of floors tried"; 23: "no floor accepted"
-unfoldable pub told_after : List ℕ → ℤ → Index.Found → Told
-told_after s hi (At i) = found (floor_after hi i) (suc i) (row_count s)
-told_after s hi Nothing = refusal (refused 23 0)
+unfoldable pub told_after : List ℕ → ℤ → Option ℕ → Told
+told_after s hi (Some i) = found (floor_after hi i) (suc i) (row_count s)
+told_after s hi None = refusal (refused 23 0)
 
 unfoldable pub search_of : List ℕ → List ℕ → List ℕ → Profile → ℤ → ℤ → ℕ → Told
 search_of c s l π lo hi room =
@@ -91,9 +89,9 @@ unfoldable pub passes_after : ℕ → List ℕ → List ℕ → Aim → ℤ → 
 passes_after limit c s a hi i = blameless (weighed_answer limit c s (aim_after a hi i))
 
 -- what stands in the output after the search, where so many floors were refused
-unfoldable pub output_after : List ℕ → List ℕ → Aim → ℤ → List ℕ → Index.Found → List ℕ
-output_after c s a hi out (At i) = exact_proof (target_of c (aim_after a hi i)) s ++ drop (length s) out
-output_after c s a hi out Nothing = out
+unfoldable pub output_after : List ℕ → List ℕ → Aim → ℤ → List ℕ → Option ℕ → List ℕ
+output_after c s a hi out (Some i) = exact_proof (target_of c (aim_after a hi i)) s ++ drop (length s) out
+output_after c s a hi out None = out
 
 -- sheets and a range that pass all checks before 16
 pub record Searchable (limit : ℕ) (c s : List ℕ) (a : Aim) (lo hi : ℤ) : Type 0 where

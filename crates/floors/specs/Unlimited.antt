@@ -1,9 +1,8 @@
 -- The search with no variable limited is that of notes 1 and 7, over the check of a claim and a proof alone.
-use Rattle.std.specs.Prelude.{◌≡◌, cond, List, ℕ, ℤ, length}
+use Rattle.std.specs.Prelude.{◌≡◌, cond, List, ℕ, ℤ, length, Option}
 use Rattle.bounds.specs.declared.profiles.Profile.{Profile}
 use Rattle.answers.specs.Answers.{Answer, accepted, refuse_if, blameless, and_then}
 use Rattle.answers.specs.Searches.{first}
-use Rattle.answers.specs.declared.searches.Found.{Found}
 use Rattle.sheets.specs.ClaimSheet.{with_floor}
 use Rattle.checks.specs.Input.{head_answer, body_answer}
 use Rattle.judging.specs.Unlimited.{plain_answer, plain_output}
@@ -15,7 +14,7 @@ plain_range c s π lo hi room =
     and_then (and_then (head_answer c s π) (body_answer s π room)) (refuse_if (range_wrong lo hi) 22 (accepted 0))
 
 -- how many floors are refused before "the greatest floor whose check is accepted"
-unfoldable pub plain_before : List ℕ → List ℕ → Profile → ℤ → ℤ → ℕ → Found
+unfoldable pub plain_before : List ℕ → List ℕ → Profile → ℤ → ℤ → ℕ → Option ℕ
 plain_before c s π lo hi room =
     first (λ i. blameless (plain_answer (with_floor c (floor_after hi i)) s π room)) (floor_count lo hi)
 

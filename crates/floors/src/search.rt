@@ -1,5 +1,5 @@
 // The search for the highest floor that a proof carries, from hi down to lo.
-ghost use Rattle.std.specs.Prelude.{◌≡◌, false, ◌≤◌, nat_abs, length};
+ghost use Rattle.std.specs.Prelude.{◌≡◌, false, ◌≤◌, nat_abs, length, ◌<◌, IfSome};
 ghost use Rattle.bounds.specs.Bounds.{greatest_weight, greatest_span};
 ghost use Rattle.answers.specs.Answers.{refused};
 ghost use Rattle.answers.specs.Searches.{first};
@@ -7,48 +7,44 @@ ghost use Rattle.floors.specs.Search.{range_wrong, floor_count, told_after, aim_
 ghost use Rattle.floors.specs.Promises.{SearchPromises};
 
 use crate::trials::{first_failing, rotate, test_count};
-use answers::answers::{Sheet, Verdict};
-use answers::searches::Found;
+use answers::answers::Sheet;
 use bounds::bounds::{GREATEST_SPAN, GREATEST_WEIGHT, is_beyond};
 use bounds::profiles::Profile;
 use checks::input::check_input;
-use integers::magnitudes::magnitude;
 use rows::proof_sheet::row_count;
 use targets::targets::{Aim, aim_of, at_floor};
 use weighing::exact::write_exact;
 
-// The highest floor that is accepted, how many floors were tried and the number of rows; or the sheet at fault.
+// The highest floor that is accepted, how many floors were tried and the number of rows.
 #[derive(Clone, Copy)]
-pub enum Searched {
-    Found(i64, u32, usize),
-    Refused(Sheet),
+pub struct Highest {
+    pub floor: i64,
+    pub tried: u32,
+    pub rows: usize,
 }
 
 // 22: whether lo is over hi, either is beyond the greatest weight, or they are too far apart.
+#[tactic(auto, using(crate::proofs::search::Laws::span_tested), unfolding(crate::specs::Search::range_wrong))]
 fn range_wrong(lo: i64, hi: i64) -> bool
     ensures { result ≡ range_wrong lo hi }
 {
-    if hi < lo {
-        return true;
-    }
-    if is_beyond(lo, GREATEST_WEIGHT) {
-        return true;
-    }
-    if is_beyond(hi, GREATEST_WEIGHT) {
-        return true;
-    }
-    is_beyond(hi - lo, GREATEST_SPAN)
+    hi < lo
+        || is_beyond(lo, GREATEST_WEIGHT)
+        || is_beyond(hi, GREATEST_WEIGHT)
+        || GREATEST_SPAN < hi.abs_diff(lo)
 }
 
 // How many floors there are from lo to hi.
+#[tactic(auto, using(crate::proofs::search::Laws::range_few), unfolding(crate::specs::Search::floor_count))]
 fn floor_count(lo: i64, hi: i64) -> usize
     requires { range_wrong lo hi ≡ false }
     ensures { result ≡ floor_count lo hi }
 {
-    magnitude(hi - lo) as usize + 1
+    hi.abs_diff(lo) as usize + 1
 }
 
 // What is tried after i floors: the floor that many below hi.
+#[tactic(auto, unfolding(crate::specs::Search::floor_after, crate::specs::Search::aim_after))]
 fn aim_after(aim: Aim, hi: i64, i: usize) -> Aim
     requires { (nat_abs hi ≤ greatest_weight) × (i ≤ greatest_span) }
     ensures { result ≡ aim_after aim hi i }
@@ -59,27 +55,25 @@ fn aim_after(aim: Aim, hi: i64, i: usize) -> Aim
 // How many floors fail before the first that passes 16 to 19. Each is tried first by the test that refused the one
 // before; that test mostly refuses it too, and no answer depends on which it was. The limit, here and below, is that
 // of 17.
-fn walk(claim: &[u8], proof: &[u8], aim: Aim, limit: u64, lo: i64, hi: i64) -> Found
+#[tactic(auto, using(crate::proofs::search::Steps::tests_some, crate::proofs::search::Steps::walk_stop), unfolding(answers::specs::Searches::first))]
+fn walk(claim: &[u8], proof: &[u8], aim: Aim, limit: u64, lo: i64, hi: i64) -> Option<usize>
     requires { Searchable limit claim.now proof.now aim lo hi }
-    ensures { result
-        ≡ first (passes_after limit claim.now proof.now aim hi) (floor_count lo hi) }
+    ensures first { result ≡ first (passes_after limit claim.now proof.now aim hi) (floor_count lo hi) }
+    ensures below { IfSome result (λ i. i < floor_count lo hi) }
 {
     let tests = test_count(claim, proof);
-    let floors = floor_count(lo, hi);
     let mut last = 0;
-    let mut i = 0;
-    while i < floors {
-        let Found::At(j) = first_failing(claim, proof, aim_after(aim, hi, i), limit, tests, last)
-        else {
-            return Found::At(i);
+    for i in 0..floor_count(lo, hi) {
+        let Some(j) = first_failing(claim, proof, aim_after(aim, hi, i), limit, tests, last) else {
+            return Some(i);
         };
         last = rotate(tests, last, j);
-        i += 1;
     }
-    Found::Nothing
+    None
 }
 
 // The search of checked sheets, by 16 to 19 alone.
+#[tactic(auto, unfolding(answers::specs::Answers::refused, crate::specs::Search::tells, crate::specs::Search::told_after, crate::specs::Search::output_after, crate::specs::Search::aim_after))]
 fn search_checked(
     claim: &[u8],
     proof: &[u8],
@@ -88,7 +82,7 @@ fn search_checked(
     lo: i64,
     hi: i64,
     output: &mut [u8],
-) -> Searched
+) -> Result<Highest, Sheet>
     requires { (Searchable limit claim.now proof.now own lo hi) × (length proof.now ≤ length output.old) }
     ensures told { tells result ≡ told_after proof.now hi
         (first (passes_after limit claim.now proof.now own hi) (floor_count lo hi)) }
@@ -96,12 +90,16 @@ fn search_checked(
         ≡ output_after claim.now proof.now own hi output.old
         (first (passes_after limit claim.now proof.now own hi) (floor_count lo hi)) }
 {
-    let Found::At(i) = walk(claim, proof, own, limit, lo, hi) else {
-        return Searched::Refused(Sheet::Range(23, 0));
+    let Some(i) = walk(claim, proof, own, limit, lo, hi) else {
+        return Err(Sheet::Range(23, 0));
     };
     let aim = aim_after(own, hi, i);
     write_exact(claim, proof, aim, output);
-    Searched::Found(aim.floor, i as u32 + 1, row_count(proof))
+    Ok(Highest {
+        floor: aim.floor,
+        tried: i as u32 + 1,
+        rows: row_count(proof),
+    })
 }
 
 // Searches for the highest floor from hi down to lo whose check is accepted, and writes that floor's exact proof into
@@ -114,7 +112,7 @@ pub fn search(
     lo: i64,
     hi: i64,
     output: &mut [u8],
-) -> Searched
+) -> Result<Highest, Sheet>
     ensures answer { tells result ≡ search_of claim.now proof.now limits.now profile
         lo hi (length output.old) }
     ensures written { output.new ≡ search_output claim.now proof.now
@@ -123,11 +121,9 @@ pub fn search(
         lo hi output.old (λ b tried k. tells result ≡ found b tried k) (tells result ≡ refusal (refused 23 0))
         output.new }
 {
-    if let Verdict::Refused(sheet) = check_input(claim, proof, limits, profile, output.len()) {
-        return Searched::Refused(sheet);
-    }
+    check_input(claim, proof, limits, profile, output.len())?;
     if range_wrong(lo, hi) {
-        return Searched::Refused(Sheet::Range(22, 0));
+        return Err(Sheet::Range(22, 0));
     }
     let own = aim_of(claim, proof, limits);
     search_checked(claim, proof, own, profile.weight as u64, lo, hi, output)

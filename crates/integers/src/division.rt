@@ -3,23 +3,21 @@ ghost use Rattle.std.specs.Prelude.{◌≡◌, ◌<◌};
 ghost use Rattle.integers.specs.Division.{floor_div, floor_mod, share};
 
 // The quotient.
+#[tactic(auto, using(crate::proofs::division::Steps::floor_euclid))]
 pub fn floor_div(e: i64, count: u32) -> i64
     requires { 0 < count }
     ensures { result ≡ floor_div e count }
 {
-    let c = count as i64;
-    let q = e / c;
-    if e % c < 0 { q - 1 } else { q }
+    e.div_euclid(i64::from(count))
 }
 
 // What is left over: at least 0, and below the count.
+#[tactic(auto, using(crate::proofs::division::Steps::mod_euclid))]
 pub fn floor_mod(e: i64, count: u32) -> u32
     requires { 0 < count }
     ensures { result ≡ floor_mod e count }
 {
-    let c = count as i64;
-    let m = e % c;
-    if m < 0 { (m + c) as u32 } else { m as u32 }
+    e.rem_euclid(i64::from(count)) as u32
 }
 
 // What the slot of a rank, from 0, among so many slots gets of an error: the remainder goes one each to the first.

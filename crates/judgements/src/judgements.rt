@@ -1,20 +1,18 @@
 // Judgements: a row by the first rule that it breaks, and 17 to 19 over all rows.
-ghost use Rattle.std.specs.Prelude.{◌≡◌, true, ◌≤◌, eqb};
+ghost use Rattle.std.specs.Prelude.{◌≡◌, ◌≤◌, eqb};
 ghost use Rattle.bounds.specs.Bounds.{greatest_weight};
-ghost use Rattle.answers.specs.Answers.{says};
-ghost use Rattle.answers.specs.Searches.{kept};
+ghost use Rattle.answers.specs.Answers.{counted};
 ghost use Rattle.checks.specs.ProofChecks.{Within};
-ghost use Rattle.judgements.specs.Judgements.{negative, indefinite, judge_pair, judge_lone, judgement_of, number_of, noted, judged_answer};
+ghost use Rattle.judgements.specs.Judgements.{indefinite, judge_pair, judge_lone, judgement_of, number_of, noted, judged_answer};
 
-use answers::answers::{Sheet, Verdict};
-use answers::searches::Found;
+use answers::answers::Sheet;
 use bounds::bounds::is_beyond;
 use checks::proof_checks::any_beyond;
-use rows::proof_sheet::{Row, Triple, triple_for};
+use rows::proof_sheet::{Row, Triple};
 use squares::rows::Weights;
 
 // How a row is judged.
-#[derive(Clone, Copy)]
+#[derive(Clone, Copy, PartialEq, Eq)]
 pub enum Judgement {
     Holds,
     // 17: a weight is beyond the limit
@@ -28,19 +26,13 @@ pub enum Judgement {
 // The first row of each judgement that refuses.
 #[derive(Clone, Copy)]
 pub struct Firsts {
-    pub beyond: Found,
-    pub negative: Found,
-    pub indefinite: Found,
-}
-
-// Whether a weight is negative.
-fn is_negative(x: i64) -> bool
-    ensures { result ≡ negative x }
-{
-    x < 0
+    pub beyond: Option<usize>,
+    pub negative: Option<usize>,
+    pub indefinite: Option<usize>,
 }
 
 // Whether r × r is over 4 × p × q.
+#[tactic(auto, using(crate::proofs::judgements::Steps::compared), unfolding(crate::specs::Judgements::indefinite))]
 fn is_indefinite(x: Triple) -> bool
     requires { Within greatest_weight x }
     ensures { result ≡ indefinite x }
@@ -49,114 +41,92 @@ fn is_indefinite(x: Triple) -> bool
 }
 
 // A pair by its three weights.
+#[tactic(auto, using(checks::proofs::proof_checks::Laws::none_beyond, checks::proofs::proof_checks::Laws::triple_larger), unfolding(crate::specs::Judgements::judge_pair, crate::specs::Judgements::negative))]
 fn judge_pair(x: Triple, limit: u64) -> Judgement
     requires { limit ≤ greatest_weight }
     ensures { result ≡ judge_pair limit x }
 {
     if any_beyond(x, limit) {
-        return Judgement::Beyond;
+        Judgement::Beyond
+    } else if x.p < 0 || x.q < 0 {
+        Judgement::Negative
+    } else if is_indefinite(x) {
+        Judgement::Indefinite
+    } else {
+        Judgement::Holds
     }
-    if is_negative(x.p) {
-        return Judgement::Negative;
-    }
-    if is_negative(x.q) {
-        return Judgement::Negative;
-    }
-    if is_indefinite(x) {
-        return Judgement::Indefinite;
-    }
-    Judgement::Holds
 }
 
 // A lone row by its one weight.
+#[tactic(auto, unfolding(crate::specs::Judgements::judge_lone, crate::specs::Judgements::negative))]
 fn judge_lone(p: i64, limit: u64) -> Judgement
     ensures { result ≡ judge_lone limit p }
 {
     if is_beyond(p, limit) {
-        return Judgement::Beyond;
+        Judgement::Beyond
+    } else if p < 0 {
+        Judgement::Negative
+    } else {
+        Judgement::Holds
     }
-    if is_negative(p) {
-        return Judgement::Negative;
-    }
-    Judgement::Holds
 }
 
-// A row by its weights: a pair goes on to its three rules, a lone row is judged by its one slot.
+// A row by its weights: a pair is let through to its three rules, a lone row is judged by its one slot (a rule of the
+// project).
+#[tactic(auto, unfolding(rows::specs::ProofSheet::triple_for, crate::specs::Judgements::judgement_of))]
 pub fn judge(row: Row, limit: u64) -> Judgement
     requires { limit ≤ greatest_weight }
     ensures { result ≡ judgement_of limit row.weights }
 {
-    let weights = row.weights;
-    let Weights::Pair(p, q, r) = weights else {
-        return judge_lone(triple_for(weights).p, limit);
+    let Weights::Pair(p, q, r) = row.weights else {
+        return judge_lone(Triple::from(row.weights).p, limit);
     };
     judge_pair(Triple { p, q, r }, limit)
 }
 
 // Whether a judgement is that the row holds.
+#[tactic(auto, unfolding(crate::specs::Judgements::number_of))]
 pub fn holds(j: Judgement) -> bool
     ensures { result ≡ eqb (number_of j) 0 }
 {
-    match j {
-        Judgement::Holds => true,
-        Judgement::Beyond => false,
-        Judgement::Negative => false,
-        Judgement::Indefinite => false,
-    }
-}
-
-// What was found before, or else index i.
-fn keep(found: Found, i: usize) -> Found
-    ensures { result ≡ kept found true i }
-{
-    let Found::Nothing = found else {
-        return found;
-    };
-    Found::At(i)
+    j == Judgement::Holds
 }
 
 // One row more, by its judgement.
+#[tactic(auto, using(answers::proofs::searches::Laws::kept_past), unfolding(answers::specs::Searches::kept, crate::specs::Judgements::noted, crate::specs::Judgements::number_of))]
 pub fn note(f: Firsts, j: Judgement, i: usize) -> Firsts
     ensures { result ≡ noted f j i }
 {
-    let beyond = f.beyond;
-    let negative = f.negative;
-    let indefinite = f.indefinite;
     match j {
         Judgement::Holds => f,
         Judgement::Beyond => Firsts {
-            beyond: keep(beyond, i),
-            negative,
-            indefinite,
+            beyond: f.beyond.or(Some(i)),
+            ..f
         },
         Judgement::Negative => Firsts {
-            beyond,
-            negative: keep(negative, i),
-            indefinite,
+            negative: f.negative.or(Some(i)),
+            ..f
         },
         Judgement::Indefinite => Firsts {
-            beyond,
-            negative,
-            indefinite: keep(indefinite, i),
+            indefinite: f.indefinite.or(Some(i)),
+            ..f
         },
     }
 }
 
 // 17 over all rows before 18, and 18 before 19.
-pub fn chosen(f: Firsts, k: usize) -> Verdict
-    ensures { says result ≡ judged_answer f k }
+#[tactic(auto, unfolding(crate::specs::Judgements::judged_answer))]
+pub fn chosen(f: Firsts, k: usize) -> Result<usize, Sheet>
+    ensures { counted result ≡ judged_answer f k }
 {
-    let beyond = f.beyond;
-    if let Found::At(i) = beyond {
-        return Verdict::Refused(Sheet::Proof(17, i));
+    if let Some(i) = f.beyond {
+        return Err(Sheet::Proof(17, i));
     }
-    let negative = f.negative;
-    if let Found::At(i) = negative {
-        return Verdict::Refused(Sheet::Proof(18, i));
+    if let Some(i) = f.negative {
+        return Err(Sheet::Proof(18, i));
     }
-    let indefinite = f.indefinite;
-    if let Found::At(i) = indefinite {
-        return Verdict::Refused(Sheet::Proof(19, i));
+    if let Some(i) = f.indefinite {
+        return Err(Sheet::Proof(19, i));
     }
-    Verdict::Accepted(k)
+    Ok(k)
 }

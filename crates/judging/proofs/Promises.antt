@@ -103,7 +103,8 @@ module _ (c s l : List ℕ) (π : Profile) where
       ∙ weighed_accepted π.weight c s (aim_of c s l) w d.hold d.adds_up
 
   -- an acceptance carries k
-  pub accepted_rows : (room : ℕ) → Passes (check_answer c s l π room) → check_answer c s l π room ≡ accepted (row_count s)
+  pub accepted_rows : (room : ℕ) → Passes (check_answer c s l π room)
+      → check_answer c s l π room ≡ accepted (row_count s)
   accepted_rows room h =
       accepts room (accepted_formed room h) (accepted_enough room h) (accepted_within room h)
       (accepted_decomposes room h)

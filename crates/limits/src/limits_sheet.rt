@@ -9,12 +9,10 @@ use integers::words::{read_u16, read_u32};
 use sheets::layout::place_of;
 use squares::limits::Limit;
 
-// The limits of all variables, zeros after the last.
+// The limits of all variables, none after the last.
 #[derive(Clone, Copy)]
 pub struct Limits {
-    pub powers: [u8; MOST_VARIABLES],
-    pub bounds: [u16; MOST_VARIABLES],
-    pub multipliers: [u32; MOST_VARIABLES],
+    pub each: [Limit; MOST_VARIABLES],
 }
 
 // The limit of variable i, as the sheet has it.
@@ -31,26 +29,16 @@ pub fn limit_at(limits: &[u8], n: usize, i: usize) -> Limit
 }
 
 // The limits of all variables, by value.
+#[tactic(auto, using(crate::proofs::limits_sheet::Steps::filling), unfolding(crate::specs::LimitsSheet::limits_of))]
 pub fn limits_of(limits: &[u8], n: usize) -> Limits
     requires { LimitsRoom limits.now n }
     ensures { result ≡ limits_of limits.now n }
 {
-    let mut powers = [0u8; MOST_VARIABLES];
-    let mut bounds = [0u16; MOST_VARIABLES];
-    let mut multipliers = [0u32; MOST_VARIABLES];
-    let mut i = 0;
-    while i < n {
-        let limit = limit_at(limits, n, i);
-        powers[i] = limit.power;
-        bounds[i] = limit.bound;
-        multipliers[i] = limit.multiplier;
-        i += 1;
+    let mut each = [Limit::default(); MOST_VARIABLES];
+    for i in 0..n {
+        each[i] = limit_at(limits, n, i);
     }
-    Limits {
-        powers,
-        bounds,
-        multipliers,
-    }
+    Limits { each }
 }
 
 // The limit of variable i, of the limits by value.
@@ -58,12 +46,5 @@ pub fn limit_in(limits: Limits, i: usize) -> Limit
     requires { i < most_variables }
     ensures { result ≡ limit_in limits i }
 {
-    let powers = limits.powers;
-    let bounds = limits.bounds;
-    let multipliers = limits.multipliers;
-    Limit {
-        power: powers[i],
-        bound: bounds[i],
-        multiplier: multipliers[i],
-    }
+    limits.each[i]
 }

@@ -1,6 +1,7 @@
 -- The text of a limits sheet.
-use Rattle.std.specs.Prelude.{cond, List, [], ◌∷◌, ℕ, eqb}
+use Rattle.std.specs.Prelude.{cond, List, [], ◌∷◌, ℕ, ◌+◌, ◌*◌, eqb}
 use Rattle.integers.specs.Words.{Bytes}
+use Rattle.bounds.specs.Bounds.{most_variables}
 use Rattle.answers.specs.Answers.{Passes}
 use Rattle.points.specs.Lists.{table}
 use Rattle.squares.specs.declared.limits.Limit.{Limit}
@@ -11,18 +12,10 @@ use Rattle.listings.specs.Fields.{Field, count, together, fields_text}
 use Rattle.limits_listing.specs.OwnChecks.{own_answer}
 
 -- a line for each limited variable: `variable 0 power 2 limit 5 multiplier 1`
-unfoldable pub bound_fields : ℕ → ℕ → List Field
-bound_fields bound multiplier = count (ascii " limit ") bound ∷ count (ascii " multiplier ") multiplier ∷ []
-
-unfoldable pub power_fields : ℕ → ℕ → ℕ → List Field
-power_fields power bound multiplier = count (ascii " power ") power ∷ bound_fields bound multiplier
-
-unfoldable pub limited_fields : ℕ → ℕ → ℕ → ℕ → List Field
-limited_fields i power bound multiplier = count (ascii "\nvariable ") i ∷ power_fields power bound multiplier
-
--- that of a limit
-abbrev pub line_fields : ℕ → Limit → List Field
-line_fields i a = limited_fields i a.power a.bound a.multiplier
+unfoldable pub line_fields : ℕ → Limit → List Field
+line_fields i a =
+    count (ascii "\nvariable ") i ∷ count (ascii " power ") a.power ∷ count (ascii " limit ") a.bound
+    ∷ count (ascii " multiplier ") a.multiplier ∷ []
 
 -- "A power of 0 means unlimited": no line
 unfoldable pub variable_fields : ℕ → Limit → List Field
@@ -40,8 +33,12 @@ limits_fields l =
     count (ascii "limits\nvariables ") (variables l) ∷ together (table (limit_fields l (variables l)) (variables l))
 
 -- the lines of the first k variables, as the code puts them
-unfoldable pub lines_text : List ℕ → ℕ → ℕ → List ℕ
+abbrev pub lines_text : List ℕ → ℕ → ℕ → List ℕ
 lines_text l n k = texts_to (λ i. fields_text (limit_fields l n i)) k
+
+-- how long it is at most
+abbrev pub longest : ℕ
+longest = 19 + 47 * most_variables
 
 -- a limits sheet of bytes that passes its own checks, 24 and 25
 pub record FormedLimits (l : List ℕ) : Type 0 where

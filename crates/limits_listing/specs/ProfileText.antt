@@ -9,11 +9,11 @@ use Rattle.listings.specs.Fields.{Field, count}
 --   exponent 120
 --   weight 1073741824
 --   rows 256
-unfoldable pub weight_fields : ℕ → ℕ → List Field
-weight_fields weight rows = count (ascii "\nweight ") weight ∷ count (ascii "\nrows ") rows ∷ []
-
-unfoldable pub bounds_fields : ℕ → ℕ → ℕ → List Field
-bounds_fields exponent weight rows = count (ascii "profile\nexponent ") exponent ∷ weight_fields weight rows
-
 unfoldable pub profile_fields : Profile → List Field
-profile_fields π = bounds_fields π.exponent π.weight π.rows
+profile_fields π =
+    count (ascii "profile\nexponent ") π.exponent ∷ count (ascii "\nweight ") π.weight
+    ∷ count (ascii "\nrows ") π.rows ∷ []
+
+-- how long it is at most
+abbrev pub longest : ℕ
+longest = 48

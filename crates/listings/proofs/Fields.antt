@@ -266,7 +266,8 @@ all_together P f (suc k) h =
     rw (table_more f k, together_append (table f k) (f k ∷ []), together_one (f k))
     (all_append P (together (table f k)) (f k) (all_together P f k (λ i l. h i (omega arith))) (h k (omega arith)))
 
-pub fields_table : (f : ℕ → List Field) (k : ℕ) → fields_text (together (table f k)) ≡ texts_to (λ i. fields_text (f i)) k
+pub fields_table : (f : ℕ → List Field) (k : ℕ)
+    → fields_text (together (table f k)) ≡ texts_to (λ i. fields_text (f i)) k
 fields_table f zero = rw (table_none f, together_none, fields_none) (sym (texts_none _))
 fields_table f (suc k) =
     rw (

@@ -1,26 +1,20 @@
 -- What every function that writes the text of a sheet promises, from what it answers and leaves in the buffer.
-use mathlib.Core.Path.{◌≡◌, refl, sym, ◌∙◌}
+use mathlib.Core.Path.{◌≡◌, refl, ◌∙◌}
 use mathlib.Core.List.{List, ◌++◌}
 use Prim.Native.Nat.{ℕ, ◌+◌, ◌<◌, ◌≤◌}
 use native.Mathlib.Decide.{dec_lt}
 use native.Mathlib.Omega.{arith}
 use lib.ListN.{length, take, drop}
-use lib.Seq.{length-take-le, sets-eq, take-append_seam, drop-append_seam}
+use lib.Seq.{sets-eq, take-append_seam, drop-append_seam}
 use borrow.Author.Tests.{lt-ltb, le-ltb, ltb-false}
-use Rattle.answers.specs.Answers.{Answer, accepted, says, Passes, Short}
+use Rattle.answers.specs.Answers.{Answer, accepted, refusal, Passes, Short}
 use Rattle.answers.specs.declared.answers.Sheet.{Sheet}
-use Rattle.answers.specs.declared.answers.Verdict.{Verdict}
-use Rattle.answers.specs.declared.answers.Verdict.TheVariants.{Accepted, Refused}
-use Rattle.answers.proofs.answers.Laws.{failed, passed, then_refused, then_passed, passes_then, passes_if, passes_or_fails, if_on, then_on, then_off, accepted_passes, accepted_numbers, short_accepted, short_if, short_then}
+use Rattle.answers.proofs.answers.Laws.{told_failed, told_passed, then_refused, then_passed, passes_then, passes_if, passes_or_fails, if_on, then_on, then_off, accepted_passes, accepted_numbers, short_accepted, short_if, short_then}
 use Rattle.text.specs.Text.{Written}
 use Rattle.listings.specs.Fields.{Field, listing, Labelled}
 use Rattle.listings.specs.Handing.{handed_answer, handed}
 use Rattle.listings.specs.Listings.{listing_answer, listing_after, ListingPromises}
 use Rattle.listings.proofs.Fields.{unique_reading}
-
--- the part of a buffer that has a text
-pub part_counts : {z o : List ℕ} {end : ℕ} (t : List ℕ) → Written z 0 t o end → end ≡ length (take end o)
-part_counts {z} {o} {end} t w = sym (length-take-le end o w.inside)
 
 -- ---- an answer and the buffer after it, where a text of some fields was asked for
 
@@ -39,7 +33,8 @@ module _ (checked : Answer) (fields : List Field) where
     unfolding listing_answer handed_answer
     enough_given p l = then_on checked _ p ∙ if_on _ 30 _ (le-ltb room long l)
 
-    pub given_accepted : Passes (listing_answer checked fields room) → listing_answer checked fields room ≡ accepted long
+    pub given_accepted : Passes (listing_answer checked fields room)
+        → listing_answer checked fields room ≡ accepted long
     given_accepted h = let p = given_enough h in enough_given p.0 p.1
 
     -- a text of less than 2^16 characters
@@ -66,36 +61,35 @@ module _ (checked : Answer) (fields : List Field) where
         go p (yes l) = rw (p, lt-ltb (length buffer) long l)
         go p (no l) = absurd (h (accepted_passes _ long (enough_given (length buffer) p (omega arith))))
 
--- ---- how a function comes to them: v is the verdict of the sheet's own checks
+-- ---- how a function comes to them, by the result of the sheet's own checks
 
 module _ (checked : Answer) (fields : List Field) (buffer : List ℕ) where
-  module _ (v : Verdict) (e : says v ≡ checked) where
-    module _ (x : Sheet) (h : v ≡ Refused x) where
-      pub checked_refused : says v ≡ listing_answer checked fields (length buffer)
-      unfolding listing_answer
-      checked_refused = then_refused v checked e x h _
+  module _ (x : Sheet) (h : refusal x ≡ checked) where
+    pub checked_refused : refusal x ≡ listing_answer checked fields (length buffer)
+    unfolding listing_answer
+    checked_refused = then_refused _ x h _
 
-      pub checked_kept : buffer ≡ listing_after checked fields buffer
-      unfolding listing_after
-      checked_kept = rw (← e, failed v _ refl x h)
+    pub checked_kept : buffer ≡ listing_after checked fields buffer
+    unfolding listing_after
+    checked_kept = rw (told_failed _ x h)
 
-    -- o has the whole text up to end, r is the verdict of handing it over, and `after` is the buffer then
-    module _ (k : ℕ) (h : v ≡ Accepted k) (z o : List ℕ) (end : ℕ) (w : Written z 0 (listing fields) o end) where
-      taken : take end o ≡ listing fields
-      taken =
-          let n : end ≡ length (listing fields) = omega (arith, w.ends) in
-          let i : 0 + length (listing fields) ≤ length z = omega (arith, w.inside, w.kept, w.ends) in
-          rw (n, w.bytes, sets-eq (listing fields) z 0 i) (take-append_seam (listing fields) _)
+  -- o has the whole text up to end, `said` is what handing it over says, and `after` is the buffer then
+  module _ (h : accepted 0 ≡ checked) (z o : List ℕ) (end : ℕ) (w : Written z 0 (listing fields) o end) where
+    taken : take end o ≡ listing fields
+    taken =
+        let n : end ≡ length (listing fields) = omega (arith, w.ends) in
+        let i : 0 + length (listing fields) ≤ length z = omega (arith, w.inside, w.kept, w.ends) in
+        rw (n, w.bytes, sets-eq (listing fields) z 0 i) (take-append_seam (listing fields) _)
 
-      pub handed_answer_lem : (r : Verdict) → says r ≡ handed_answer (length (take end o)) (length buffer)
-          → says r ≡ listing_answer checked fields (length buffer)
-      unfolding listing_answer
-      handed_answer_lem r er = then_passed v checked e k h r _ (rw taken at er)
+    pub handed_answer_lem : (said : Answer) → said ≡ handed_answer (length (take end o)) (length buffer)
+        → said ≡ listing_answer checked fields (length buffer)
+    unfolding listing_answer
+    handed_answer_lem said e = then_passed _ h said _ (rw taken at e)
 
-      pub handed_after : (after : List ℕ) → after ≡ handed (take end o) buffer
-          → after ≡ listing_after checked fields buffer
-      unfolding listing_after
-      handed_after after ea = rw (← e, passed v _ refl k h) (rw taken at ea)
+    pub handed_after : (after : List ℕ) → after ≡ handed (take end o) buffer
+        → after ≡ listing_after checked fields buffer
+    unfolding listing_after
+    handed_after after e = rw (told_passed _ h) (rw taken at e)
 
 -- ---- the promises: Formed says that a sheet passes its checks, whose fields then tell it
 

@@ -1,5 +1,5 @@
 -- Fields put over a buffer one after another: a first one, and then the others.
-use mathlib.Core.Path.{◌≡◌, refl, ◌∙◌, ap}
+use mathlib.Core.Path.{◌≡◌, sym}
 use mathlib.Core.List.{List, [], ◌∷◌, ◌++◌, append-nil}
 use Prim.Native.Nat.{ℕ}
 use lib.IntN.{ℤ, pos}
@@ -12,49 +12,62 @@ use Rattle.listings.proofs.Fields.{fields_none, fields_more, fields_append}
 pub count_put : (label : List ℕ) (n : ℕ) → numbered label (pos n) ≡ counted label n
 count_put label n = rw (numbered_is label (pos n), integer_count n, counted_is label n)
 
--- a number z, which was read as x and which the machine has as z'
-module _ {l : List ℕ} {at : ℕ} (label : List ℕ) (z x z' : ℤ) (rest : List Field) (ex : x ≡ z) (back : z' ≡ x) where
-  pub number_room : Room l at (fields_text (number label z ∷ rest)) → Room l at (numbered label z')
-  number_room r = rw (back, ex) (room_first _ (fields_text rest) (rw (fields_more (number label z) rest) at r))
+-- ---- fields one by one
 
-  module _ {m : List ℕ} {mid : ℕ} (w : Written l at (numbered label z') m mid) where
-    pub after_number : Room l at (fields_text (number label z ∷ rest)) → Room m mid (fields_text rest)
-    after_number r = room_then _ (fields_text rest) (rw (fields_more (number label z) rest) at r) (rw (back, ex) at w)
+-- a text is that of a field: of a count n, which was read as n', or of a number z, which was read as x and which the
+-- machine has as z'
+pub record Puts (text : List ℕ) (f : Field) : Type 0 where
+  pub puts : text ≡ numbered f.label f.number
 
-    pub number_written : {o : List ℕ} {end : ℕ} → Written m mid (fields_text rest) o end
-        → Written l at (fields_text (number label z ∷ rest)) o end
-    number_written u = rw (fields_more (number label z) rest) (written_then _ (fields_text rest) (rw (back, ex) at w) u)
+pub puts_count : (label : List ℕ) (n n' : ℕ) → n' ≡ n → Puts (counted label n') (count label n)
+puts_count label n n' e = record { puts = rw e (sym (count_put label n)) }
 
--- a count n, which was read as n'
-module _ {l : List ℕ} {at : ℕ} (label : List ℕ) (n n' : ℕ) (rest : List Field) (e : n' ≡ n) where
-  pub count_room : Room l at (fields_text (count label n ∷ rest)) → Room l at (counted label n')
-  count_room r = rw (count_put label n') at (number_room label (pos n) (pos n') (pos n') rest (ap pos e) refl r)
+pub puts_number : (label : List ℕ) (z x z' : ℤ) → z' ≡ x → x ≡ z → Puts (numbered label z') (number label z)
+puts_number label z x z' back e = record { puts = rw (back, e) }
 
-  module _ {m : List ℕ} {mid : ℕ} (w : Written l at (counted label n') m mid) where
-    pub after_count : Room l at (fields_text (count label n ∷ rest)) → Room m mid (fields_text rest)
-    after_count r = after_number label (pos n) (pos n') (pos n') rest (ap pos e) refl (rw (← count_put label n') at w) r
+module _ (l : List ℕ) (at : ℕ) (t : List ℕ) (f : Field) (p : Puts t f) where
+  pub field_room : (rest : List Field) → Room l at (fields_text (f ∷ rest)) → Room l at t
+  field_room rest r = rw p.puts (room_first _ (fields_text rest) (rw (fields_more f rest) at r))
 
-    pub count_written : {o : List ℕ} {end : ℕ} → Written m mid (fields_text rest) o end
-        → Written l at (fields_text (count label n ∷ rest)) o end
-    count_written u =
-        number_written label (pos n) (pos n') (pos n') rest (ap pos e) refl (rw (← count_put label n') at w) u
+  module _ (m : List ℕ) (mid : ℕ) (w : Written l at t m mid) where
+    pub after_field : (rest : List Field) → Room l at (fields_text (f ∷ rest)) → Room m mid (fields_text rest)
+    after_field rest r = room_then _ (fields_text rest) (rw (fields_more f rest) at r) (rw p.puts at w)
 
--- some fields, and then others
+    pub field_then : (rest : List Field) (o : List ℕ) (end : ℕ) → Written m mid (fields_text rest) o end
+        → Written l at (fields_text (f ∷ rest)) o end
+    field_then rest o end u = rw (fields_more f rest) (written_then _ (fields_text rest) (rw p.puts at w) u)
+
+    pub field_last : Written l at (fields_text (f ∷ [])) m mid
+    field_last = rw (fields_more f [], fields_none, append-nil (numbered f.label f.number), ← p.puts) w
+
+-- room for the second field where the first is put, and so on
+pub second_field : (l m : List ℕ) (at mid : ℕ) (t u : List ℕ) (f g : Field) (rest : List Field) → Written l at t m mid
+    → Room l at (fields_text (f ∷ g ∷ rest)) → Puts t f → Puts u g → Room m mid u
+second_field l m at mid t u f g rest w r p q =
+    field_room m mid u g q rest (after_field l at t f p m mid w (g ∷ rest) r)
+
+pub third_field : (l m o : List ℕ) (at mid far : ℕ) (t u v : List ℕ) (f g h : Field) (rest : List Field)
+    → Written m mid u o far → Written l at t m mid → Room l at (fields_text (f ∷ g ∷ h ∷ rest)) → Puts t f → Puts u g
+    → Puts v h → Room o far v
+third_field l m o at mid far t u v f g h rest x w r p q s =
+    second_field m o mid far u v g h rest x (after_field l at t f p m mid w (g ∷ h ∷ rest) r) q s
+
+pub fourth_field : (l m o r : List ℕ) (at mid far off : ℕ) (t u v x : List ℕ) (f g h i : Field) (rest : List Field)
+    → Written o far v r off → Written m mid u o far → Written l at t m mid
+    → Room l at (fields_text (f ∷ g ∷ h ∷ i ∷ rest)) → Puts t f → Puts u g → Puts v h → Puts x i → Room r off x
+fourth_field l m o r at mid far off t u v x f g h i rest a b w s p q y z =
+    third_field m o r mid far off u v x g h i rest a b (after_field l at t f p m mid w (g ∷ h ∷ i ∷ rest) s) q y z
+
+-- ---- some fields, and then others
+
 module _ {l : List ℕ} {at : ℕ} (a b : List Field) where
   pub first_room : Room l at (fields_text (a ++ b)) → Room l at (fields_text a)
   first_room r = room_first (fields_text a) (fields_text b) (rw (fields_append a b) at r)
 
   module _ {m : List ℕ} {mid : ℕ} (w : Written l at (fields_text a) m mid) where
-    pub second_room : Room l at (fields_text (a ++ b)) → Room m mid (fields_text b)
-    second_room r = room_then (fields_text a) (fields_text b) (rw (fields_append a b) at r) w
+    pub rest_room : Room l at (fields_text (a ++ b)) → Room m mid (fields_text b)
+    rest_room r = room_then (fields_text a) (fields_text b) (rw (fields_append a b) at r) w
 
     pub both_written : {o : List ℕ} {end : ℕ} → Written m mid (fields_text b) o end
         → Written l at (fields_text (a ++ b)) o end
     both_written u = rw (fields_append a b) (written_then (fields_text a) (fields_text b) w u)
-
--- the last field alone
-pub last_number : (label : List ℕ) (z : ℤ) → fields_text (number label z ∷ []) ≡ numbered label z
-last_number label z = rw (fields_more (number label z) [], fields_none) (append-nil (numbered label z))
-
-pub last_count : (label : List ℕ) (n : ℕ) → fields_text (count label n ∷ []) ≡ counted label n
-last_count label n = last_number label (pos n) ∙ count_put label n

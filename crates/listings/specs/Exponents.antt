@@ -7,5 +7,5 @@ use Rattle.text.specs.Text.{ascii, counted, texts_to}
 abbrev pub spaced_at : List ℕ → ℕ → ℕ → List ℕ
 spaced_at s at j = counted (ascii " ") (get_or s (at + j) 0)
 
-unfoldable pub spaced_text : List ℕ → ℕ → ℕ → List ℕ
+abbrev pub spaced_text : List ℕ → ℕ → ℕ → List ℕ
 spaced_text s at n = texts_to (spaced_at s at) n

@@ -1,9 +1,7 @@
 -- Powers, monomials at whole numbers, which numbers a mask allows, and exact numbers up to the greatest value.
-use Rattle.std.specs.Prelude.{true, cond, ◌↔◌, List, [], ◌∷◌, ◌≡◌, ℕ, zero, suc, ◌-◌, ◌%◌, ◌≤◌, ◌<◌, leb, ltb, ℤ, pos, nat_abs, ◌*ℤ◌, get_or, ◌≤ℤ◌}
+use Rattle.std.specs.Prelude.{true, cond, ◌↔◌, List, [], ◌∷◌, ◌≡◌, ℕ, zero, suc, ◌-◌, ◌%◌, ◌≤◌, ◌<◌, leb, ltb, ℤ, pos, nat_abs, ◌*ℤ◌, get_or, ◌≤ℤ◌, Option, Some, None}
 use Rattle.bounds.specs.Bounds.{greatest_value}
 use Rattle.points.specs.Points.{Exponents, Masked, keeps_sign}
-use Rattle.monomials.specs.declared.powers.Bounded.{Bounded}
-use Rattle.monomials.specs.declared.powers.Bounded.TheVariants.{Value, TooLarge}
 
 -- "A power with exponent 0 is one, also at zero; otherwise it is the base times the power with exponent one less."
 unfoldable pub power_of : ℤ → ℕ → ℤ
@@ -31,13 +29,13 @@ AllowedExactly =
     → Allowed mask x ↔ ((α : Exponents) → keeps_sign mask α ≡ true → pos 0 ≤ℤ monomial_of x α)
 
 -- what each answer says of the exact number z: a value is z, "at most 2^56" in absolute value; too large is "over 2^56"
-abbrev pub Represents : Bounded → ℤ → Type 0
-Represents (Value x) z = (x ≡ z) × (nat_abs z ≤ greatest_value)
-Represents TooLarge z = greatest_value < nat_abs z
+abbrev pub Represents : Option ℤ → ℤ → Type 0
+Represents (Some x) z = (x ≡ z) × (nat_abs z ≤ greatest_value)
+Represents None z = greatest_value < nat_abs z
 
 -- the one answer that says so
-unfoldable pub within : ℤ → Bounded
-within z = cond (leb (nat_abs z) greatest_value) (Value z) TooLarge
+unfoldable pub within : ℤ → Option ℤ
+within z = cond (leb (nat_abs z) greatest_value) (Some z) None
 
 -- ---- numbers and exponents as the code counts
 

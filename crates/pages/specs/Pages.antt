@@ -1,5 +1,5 @@
 -- Pages: the verdict on paper, for a post of a site.
-use Rattle.std.specs.Prelude.{◌≡◌, cond, List, [], ◌++◌, ℕ, suc, ◌+◌, ◌*◌, ◌-◌, ◌<◌, ltb, ℤ, pos, length, get_or}
+use Rattle.std.specs.Prelude.{◌≡◌, cond, List, [], ◌++◌, ℕ, suc, ◌+◌, ◌*◌, ◌-◌, ◌<◌, ltb, pos, length, get_or}
 use Rattle.answers.specs.Answers.{Answer}
 use Rattle.rows.specs.ProofSheet.{triple_of}
 use Rattle.rows.specs.declared.proof_sheet.Triple.{Triple}
@@ -32,14 +32,8 @@ unfoldable pub page_line : List ℕ → List ℕ
 page_line text = text ++ (spaces (page_width - length text) ++ ascii "\n")
 
 -- "index in 4 columns, then p, q, r in 12 each, right-aligned"
-unfoldable pub later_columns : ℤ → ℤ → List ℕ
-later_columns q r = column 12 q ++ column 12 r
-
-unfoldable pub weight_columns : Triple → List ℕ
-weight_columns x = column 12 x.p ++ later_columns x.q x.r
-
 unfoldable pub row_columns : ℕ → Triple → List ℕ
-row_columns i x = column 4 (pos i) ++ weight_columns x
+row_columns i x = column 4 (pos i) ++ (column 12 x.p ++ (column 12 x.q ++ column 12 x.r))
 
 -- row i of k, and nothing where there is none
 unfoldable pub row_shown : (ℕ → Triple) → ℕ → ℕ → List ℕ

@@ -1,13 +1,11 @@
 // Pages: the verdict and the first rows on 40 lines of 72 characters.
 ghost use Rattle.std.specs.Prelude.{◌≡◌, suc, ◌+◌, ◌*◌, ◌<◌, length};
-ghost use Rattle.std.specs.Int.{w32};
-ghost use Rattle.std.proofs.Common.{SFits};
 ghost use Rattle.answers.specs.Answers.{says};
 ghost use Rattle.rows.specs.ProofSheet.{triple_of, Narrow};
 ghost use Rattle.text.specs.Text.{texts_to, Written};
 ghost use Rattle.text.specs.Columns.{Blank};
 ghost use Rattle.report.specs.Reports.{Carries, Shows};
-ghost use Rattle.pages.specs.Pages.{page_width, page_length, page_rows, Lined, later_columns, weight_columns, row_columns, row_shown, table_text, table_line, verdict_page};
+ghost use Rattle.pages.specs.Pages.{page_width, page_length, page_rows, Lined, row_columns, row_shown, table_text, table_line, verdict_page};
 
 use answers::answers::Verdict;
 use report::reports::{shown, verdict_line};
@@ -24,31 +22,15 @@ const PAGE_ROWS: usize = 38;
 // How long a page is: 40 lines with their line feeds.
 pub const PAGE_LENGTH: usize = 2920;
 
-// The second and the third weight of a row, in 12 columns each.
-fn later_columns(q: i64, r: i64, out: &mut [u8], at: usize) -> usize
-    requires { (SFits w32 q) × (SFits w32 r) × (Blank out.old at 24) }
-    ensures { Written out.old at (later_columns q r) out.new result }
-{
-    let later = column(q, 12, out, at);
-    column(r, 12, out, later)
-}
-
-// A row's three weights.
-fn weight_columns(x: Triple, out: &mut [u8], at: usize) -> usize
-    requires { (Narrow x) × (Blank out.old at 36) }
-    ensures { Written out.old at (weight_columns x) out.new result }
-{
-    let later = column(x.p, 12, out, at);
-    later_columns(x.q, x.r, out, later)
-}
-
-// A row: its index in 4 columns, and its weights.
+// A row: its index in 4 columns, and its weights in 12 each.
 fn row_columns(i: usize, x: Triple, out: &mut [u8], at: usize) -> usize
     requires { (i < page_rows) × (Narrow x) × (Blank out.old at 40) }
     ensures { Written out.old at (row_columns i x) out.new result }
 {
-    let weights = column(i as i64, 4, out, at);
-    weight_columns(x, out, weights)
+    let p = column(i as i64, 4, out, at);
+    let q = column(x.p, 12, out, p);
+    let r = column(x.q, 12, out, q);
+    column(x.r, 12, out, r)
 }
 
 // Row i, and nothing where there is none.
@@ -80,29 +62,25 @@ fn table_text(proof: &[u8], shape: Shape, i: usize, out: &mut [u8], at: usize) -
 }
 
 // One of these lines, with its line feed.
-fn table_line(proof: &[u8], shape: Shape, i: usize, out: &mut [u8], at: usize) -> usize
+fn table_line(proof: &[u8], shape: Shape, i: usize, out: &mut [u8], at: usize)
     requires { (Shows proof.now shape) × (Blank out.old at (suc page_width)) }
-    ensures { (Written out.old at (table_line (triple_of proof.now shape) shape.k i)
-        out.new result) × (result ≡ at + suc page_width) }
+    ensures { Written out.old at (table_line (triple_of proof.now shape) shape.k i)
+        out.new (at + suc page_width) }
 {
     table_text(proof, shape, i, out, at);
-    put_byte(b'\n', out, at + PAGE_WIDTH)
+    put_byte(b'\n', out, at + PAGE_WIDTH);
 }
 
 // Lines 2 to 40.
-fn table(proof: &[u8], shape: Shape, out: &mut [u8], at: usize) -> usize
+fn table(proof: &[u8], shape: Shape, out: &mut [u8], at: usize)
     requires { (Shows proof.now shape) × (Blank out.old at (suc page_rows * suc page_width)) }
-    ensures { (Written out.old at
-        (texts_to (table_line (triple_of proof.now shape) shape.k) (suc page_rows)) out.new result)
-        × (result ≡ at + suc page_rows * suc page_width) }
+    ensures { Written out.old at
+        (texts_to (table_line (triple_of proof.now shape) shape.k) (suc page_rows))
+        out.new (at + suc page_rows * suc page_width) }
 {
-    let mut line = at;
-    let mut i = 0;
-    while i <= PAGE_ROWS {
-        line = table_line(proof, shape, i, out, line);
-        i += 1;
+    for i in 0..=PAGE_ROWS {
+        table_line(proof, shape, i, out, at + i * (PAGE_WIDTH + 1));
     }
-    line
 }
 
 // The lines of a page, put one by one over spaces.

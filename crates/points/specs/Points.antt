@@ -1,10 +1,10 @@
 -- Points: the exponents of a monomial, one for each variable, and what is asked of them.
 use Rattle.std.specs.Prelude.{Bool, true, false, cond, ◌&&◌, List, [], ◌∷◌, ◌++◌, ◌≡◌, ℕ, ◌+◌, ◌-◌, ◌/◌, ◌%◌, ◌^◌, ◌<◌, eqb, ltb, leb, length, get_or, set, take, replicate}
+use Rattle.std.specs.List.{list_all}
+use Rattle.std.specs.Cmp.Lexicographic.{pointwise}
 use Rattle.bounds.specs.Bounds.{most_variables}
 use Rattle.points.specs.Lists.{table}
 use Rattle.points.specs.declared.points.Point.{Point}
-use Rattle.points.specs.declared.points.Test.{Test}
-use Rattle.points.specs.declared.points.Test.TheVariants.{Equal, EvenSum, Within}
 
 abbrev pub Exponents : Type 0
 Exponents = List ℕ
@@ -25,21 +25,9 @@ point_of α = record { exps = padded α; n = length α }
 unfoldable pub bytes_at : List ℕ → ℕ → ℕ → Exponents
 bytes_at s at n = table (λ i. get_or s (at + i) 0) n
 
--- a test holds of every exponent
-unfoldable pub every : (ℕ → Bool) → Exponents → Bool
-every p [] = true
-every p (a ∷ v) = p a && every p v
-
--- a test holds of every two exponents of one variable, and the variables are as many
-unfoldable pub every_pair : (ℕ → ℕ → Bool) → Exponents → Exponents → Bool
-every_pair p [] [] = true
-every_pair p [] (b ∷ w) = false
-every_pair p (a ∷ v) [] = false
-every_pair p (a ∷ v) (b ∷ w) = p a b && every_pair p v w
-
 -- the same exponents
 unfoldable pub same_point : Exponents → Exponents → Bool
-same_point v w = every_pair eqb v w
+same_point v w = pointwise eqb v w
 
 -- "Points rise strictly, compared by the first variable first": w is above v
 unfoldable pub rises_to : Exponents → Exponents → Bool
@@ -53,7 +41,7 @@ even_sum a b = eqb ((a + b) % 2) 0
 
 -- "every v + w coordinate is even", of points with as many variables
 unfoldable pub has_midpoint : Exponents → Exponents → Bool
-has_midpoint v w = every_pair even_sum v w
+has_midpoint v w = pointwise even_sum v w
 
 -- "u is the midpoint"
 unfoldable pub midpoint_of : Exponents → Exponents → Exponents
@@ -80,11 +68,4 @@ pure_at n i e = set (replicate n 0) i e
 
 -- no exponent is over the limit
 unfoldable pub exponents_within : ℕ → Exponents → Bool
-exponents_within limit α = every (λ e. leb e limit) α
-
--- ---- the same tests as the code has them; `Within` looks at the first point alone
-
-unfoldable pub passes : Test → ℕ → ℕ → Bool
-passes Equal a b = eqb a b
-passes EvenSum a b = even_sum a b
-passes (Within limit) a b = leb a limit
+exponents_within limit α = list_all (λ e. leb e limit) α

@@ -1,6 +1,7 @@
 -- The text of a proof.
-use Rattle.std.specs.Prelude.{cond, List, [], ◌∷◌, ◌++◌, ℕ}
+use Rattle.std.specs.Prelude.{cond, List, [], ◌∷◌, ◌++◌, ℕ, ◌+◌, ◌*◌}
 use Rattle.integers.specs.Words.{Bytes}
+use Rattle.bounds.specs.Bounds.{most_rows}
 use Rattle.answers.specs.Answers.{Passes}
 use Rattle.points.specs.Lists.{table}
 use Rattle.points.specs.Points.{same_point}
@@ -20,17 +21,13 @@ unfoldable pub head_fields : List ℕ → List Field
 head_fields s = count (ascii "proof\nvariables ") (variables s) ∷ count (ascii "\nscale ") (scale_of s) ∷ []
 
 -- "a line a row, pairs and lone rows told apart": `row 0 pair v 0 0 w 2 4 p 1 q 1 r -2` and `row 1 lone v 2 2 p 3`
-unfoldable pub second_fields : List ℕ → Shape → ℕ → List Field
-second_fields s shape i = exponent_fields (ascii " w") (w_of s shape i)
-
-unfoldable pub end_fields : List ℕ → Shape → ℕ → List Field
-end_fields s shape i = exponent_fields (ascii " pair v") (v_of s shape i) ++ second_fields s shape i
-
 unfoldable pub weight_fields : Triple → List Field
 weight_fields x = number (ascii " p ") x.p ∷ number (ascii " q ") x.q ∷ number (ascii " r ") x.r ∷ []
 
 unfoldable pub pair_fields : List ℕ → Shape → ℕ → List Field
-pair_fields s shape i = end_fields s shape i ++ weight_fields (triple_of s shape i)
+pair_fields s shape i =
+    exponent_fields (ascii " pair v") (v_of s shape i)
+    ++ (exponent_fields (ascii " w") (w_of s shape i) ++ weight_fields (triple_of s shape i))
 
 -- how a lone row begins, after its number
 abbrev pub lone_begins : List ℕ
@@ -41,19 +38,21 @@ lone_fields s shape i =
     exponent_fields lone_begins (v_of s shape i) ++ (number (ascii " p ") (triple_of s shape i).p ∷ [])
 
 -- "A row is lone when v equals w"
-unfoldable pub kind_fields : List ℕ → Shape → ℕ → List Field
-kind_fields s shape i =
-    cond (same_point (v_of s shape i) (w_of s shape i)) (lone_fields s shape i) (pair_fields s shape i)
-
 unfoldable pub row_fields : List ℕ → Shape → ℕ → List Field
-row_fields s shape i = count (ascii "\nrow ") i ∷ kind_fields s shape i
+row_fields s shape i =
+    count (ascii "\nrow ") i
+    ∷ cond (same_point (v_of s shape i) (w_of s shape i)) (lone_fields s shape i) (pair_fields s shape i)
 
 unfoldable pub proof_fields : List ℕ → List Field
 proof_fields s = head_fields s ++ together (table (row_fields s (shape_of s)) (shape_of s).k)
 
 -- the lines of the rows, as the code puts them
-unfoldable pub rows_text : List ℕ → Shape → List ℕ
+abbrev pub rows_text : List ℕ → Shape → List ℕ
 rows_text s shape = texts_to (λ i. fields_text (row_fields s shape i)) shape.k
+
+-- how long it is at most
+abbrev pub longest : ℕ
+longest = 32 + 123 * most_rows
 
 -- a proof of bytes that passes its own checks
 pub record FormedProof (s : List ℕ) : Type 0 where

@@ -1,11 +1,11 @@
 // The checks of a proof by itself: 8 to 10 and 12 to 15, beside whatever claim of as many variables.
 ghost use Rattle.std.specs.Prelude.{◌≡◌, ◌≤◌, length};
 ghost use Rattle.bounds.specs.Bounds.{most_variables};
-ghost use Rattle.answers.specs.Answers.{says};
+ghost use Rattle.answers.specs.Answers.{told};
 ghost use Rattle.sheets.specs.Layout.{variables};
 ghost use Rattle.proof_listing.specs.OwnChecks.{sized_answer, own_answer};
 
-use answers::answers::{Sheet, Verdict};
+use answers::answers::Sheet;
 use bounds::bounds::MOST_ROWS;
 use bounds::profiles::FULL;
 use checks::proof_checks::{check_header, check_rows};
@@ -14,26 +14,25 @@ use rows::proof_sheet::shape_of;
 use sheets::layout::variables;
 
 // The checks 9, 10 and 12 to 15 of a proof with 1 to 8 variables.
-fn check_sized(proof: &[u8]) -> Verdict
+#[tactic(auto, using(answers::proofs::answers::Laws::then_refused, answers::proofs::answers::Laws::then_passed), unfolding(crate::specs::OwnChecks::sized_answer))]
+fn check_sized(proof: &[u8]) -> Result<(), Sheet>
     requires { (8 ≤ length proof.now) × (1 ≤ variables proof.now) × (variables proof.now ≤ most_variables) }
-    ensures { says result ≡ sized_answer proof.now }
+    ensures { told result ≡ sized_answer proof.now }
 {
-    let header = check_header(proof, variables(proof), MOST_ROWS);
-    let Verdict::Accepted(_) = header else {
-        return header;
-    };
+    check_header(proof, variables(proof), MOST_ROWS)?;
     check_rows(proof, FULL, shape_of(proof))
 }
 
 // All of them.
-pub fn check_own(proof: &[u8]) -> Verdict
-    ensures { says result ≡ own_answer proof.now }
+#[tactic(auto, using(listings::proofs::variables::Laws::right_variables), unfolding(crate::specs::OwnChecks::own_answer))]
+pub fn check_own(proof: &[u8]) -> Result<(), Sheet>
+    ensures { told result ≡ own_answer proof.now }
 {
     if proof.len() < 8 {
-        return Verdict::Refused(Sheet::Proof(8, 0));
+        return Err(Sheet::Proof(8, 0));
     }
     if variables_wrong(variables(proof)) {
-        return Verdict::Refused(Sheet::Proof(9, 0));
+        return Err(Sheet::Proof(9, 0));
     }
     check_sized(proof)
 }

@@ -5,16 +5,16 @@ ghost use Rattle.points.specs.Points.{same_point};
 ghost use Rattle.sheets.specs.Layout.{ProofRoom};
 ghost use Rattle.rows.specs.ProofSheet.{v_of, w_of};
 ghost use Rattle.text.specs.Text.{Room, Written};
-ghost use Rattle.listings.specs.Fields.{exponent_fields, fields_text, listing};
+ghost use Rattle.listings.specs.Fields.{fields_text, listing};
 ghost use Rattle.listings.specs.Listings.{listing_answer, listing_after, ListingPromises};
 ghost use Rattle.proof_listing.specs.OwnChecks.{own_answer};
-ghost use Rattle.proof_listing.specs.ProofText.{head_fields, second_fields, end_fields, pair_fields, lone_fields, kind_fields, row_fields, rows_text, proof_fields, FormedProof};
+ghost use Rattle.proof_listing.specs.ProofText.{longest, head_fields, pair_fields, lone_fields, row_fields, proof_fields, FormedProof};
 
 use crate::own_checks::check_own;
 use answers::answers::Verdict;
 use bounds::bounds::MOST_ROWS;
 use listings::exponents::exponents_text;
-use listings::handing::hand_over;
+use listings::handing::listed;
 use points::points::same;
 use rows::proof_sheet::{row_place, row_triple, row_v, row_w, scale, shape_of};
 use sheets::layout::{Shape, variables};
@@ -34,44 +34,6 @@ fn head_text(proof: &[u8], out: &mut [u8], from: usize) -> usize
     counted(b"\nscale ", scale(proof), out, n)
 }
 
-// The first point of row i behind a label.
-fn v_text(label: &[u8], proof: &[u8], shape: Shape, i: usize, out: &mut [u8], from: usize) -> usize
-    requires { (ProofRoom proof.now shape) × (1 ≤ shape.n) × (i < shape.k)
-        × (Room out.old from (fields_text (exponent_fields label.now (v_of proof.now shape i)))) }
-    ensures { Written out.old from
-        (fields_text (exponent_fields label.now (v_of proof.now shape i))) out.new result }
-{
-    exponents_text(label, proof, row_place(shape, i), shape.n, out, from)
-}
-
-// The second point of row i.
-fn w_text(proof: &[u8], shape: Shape, i: usize, out: &mut [u8], from: usize) -> usize
-    requires { (ProofRoom proof.now shape) × (1 ≤ shape.n) × (i < shape.k)
-        × (Room out.old from (fields_text (second_fields proof.now shape i))) }
-    ensures { Written out.old from (fields_text (second_fields proof.now shape i))
-        out.new result }
-{
-    exponents_text(
-        b" w",
-        proof,
-        row_place(shape, i) + shape.n,
-        shape.n,
-        out,
-        from,
-    )
-}
-
-// Both points of a pair.
-fn ends_text(proof: &[u8], shape: Shape, i: usize, out: &mut [u8], from: usize) -> usize
-    requires { (ProofRoom proof.now shape) × (1 ≤ shape.n) × (i < shape.k)
-        × (Room out.old from (fields_text (end_fields proof.now shape i))) }
-    ensures { Written out.old from (fields_text (end_fields proof.now shape i))
-        out.new result }
-{
-    let v = v_text(b" pair v", proof, shape, i, out, from);
-    w_text(proof, shape, i, out, v)
-}
-
 // A pair: its points and its three weights.
 fn pair_text(proof: &[u8], shape: Shape, i: usize, out: &mut [u8], from: usize) -> usize
     requires { (ProofRoom proof.now shape) × (1 ≤ shape.n) × (i < shape.k)
@@ -79,8 +41,10 @@ fn pair_text(proof: &[u8], shape: Shape, i: usize, out: &mut [u8], from: usize) 
     ensures { Written out.old from (fields_text (pair_fields proof.now shape i))
         out.new result }
 {
-    let ends = ends_text(proof, shape, i, out, from);
-    weights_text(row_triple(proof, shape, i), out, ends)
+    let at = row_place(shape, i);
+    let v = exponents_text(b" pair v", proof, at, shape.n, out, from);
+    let w = exponents_text(b" w", proof, at + shape.n, shape.n, out, v);
+    weights_text(row_triple(proof, shape, i), out, w)
 }
 
 // A lone row: its point and its weight.
@@ -90,7 +54,8 @@ fn lone_text(proof: &[u8], shape: Shape, i: usize, out: &mut [u8], from: usize) 
     ensures { Written out.old from (fields_text (lone_fields proof.now shape i))
         out.new result }
 {
-    let v = v_text(b" lone v", proof, shape, i, out, from);
+    let at = row_place(shape, i);
+    let v = exponents_text(b" lone v", proof, at, shape.n, out, from);
     let x = row_triple(proof, shape, i);
     numbered(b" p ", x.p, out, v)
 }
@@ -103,20 +68,7 @@ fn is_lone(proof: &[u8], shape: Shape, i: usize) -> bool
     same(row_v(proof, shape, i), row_w(proof, shape, i))
 }
 
-// A lone row or a pair.
-fn kind_text(proof: &[u8], shape: Shape, i: usize, out: &mut [u8], from: usize) -> usize
-    requires { (ProofRoom proof.now shape) × (1 ≤ shape.n) × (i < shape.k)
-        × (Room out.old from (fields_text (kind_fields proof.now shape i))) }
-    ensures { Written out.old from (fields_text (kind_fields proof.now shape i))
-        out.new result }
-{
-    if is_lone(proof, shape, i) {
-        return lone_text(proof, shape, i, out, from);
-    }
-    pair_text(proof, shape, i, out, from)
-}
-
-// The line of row i.
+// The line of row i: a lone row or a pair.
 fn row_text(proof: &[u8], shape: Shape, i: usize, out: &mut [u8], from: usize) -> usize
     requires { (ProofRoom proof.now shape) × (1 ≤ shape.n) × (i < shape.k)
         × (Room out.old from (fields_text (row_fields proof.now shape i))) }
@@ -124,31 +76,23 @@ fn row_text(proof: &[u8], shape: Shape, i: usize, out: &mut [u8], from: usize) -
         out.new result }
 {
     let index = counted(b"\nrow ", i as u64, out, from);
-    kind_text(proof, shape, i, out, index)
-}
-
-// The lines of all rows.
-fn rows_text(proof: &[u8], shape: Shape, out: &mut [u8], from: usize) -> usize
-    requires { (ProofRoom proof.now shape) × (1 ≤ shape.n) × (Room out.old from (rows_text proof.now shape)) }
-    ensures { Written out.old from (rows_text proof.now shape) out.new result }
-{
-    let mut end = from;
-    let mut i = 0;
-    while i < shape.k {
-        end = row_text(proof, shape, i, out, end);
-        i += 1;
+    if is_lone(proof, shape, i) {
+        return lone_text(proof, shape, i, out, index);
     }
-    end
+    pair_text(proof, shape, i, out, index)
 }
 
 // The whole text of a proof that passes its own checks; the answer is where it ends.
-fn whole_text(proof: &[u8], out: &mut [u8; LONGEST]) -> usize
-    requires { Passes (own_answer proof.now) }
+fn whole_text(proof: &[u8], out: &mut [u8]) -> usize
+    requires { (Passes (own_answer proof.now)) × (length out.old ≡ longest) }
     ensures { Written out.old 0 (listing (proof_fields proof.now)) out.new result }
 {
-    let head = head_text(proof, out, 0);
-    let rows = rows_text(proof, shape_of(proof), out, head);
-    put_byte(b'\n', out, rows)
+    let shape = shape_of(proof);
+    let mut end = head_text(proof, out, 0);
+    for i in 0..shape.k {
+        end = row_text(proof, shape, i, out, end);
+    }
+    put_byte(b'\n', out, end)
 }
 
 // The text of a proof at the start of a buffer, and its length; what does not pass 8 to 10 and 12 to 15 is refused by
@@ -162,10 +106,5 @@ pub fn proof_text(proof: &[u8], buffer: &mut [u8]) -> Verdict
         (Passes (says result)) (says result).value buffer.new }
 {
     let checked = check_own(proof);
-    let Verdict::Accepted(_) = checked else {
-        return checked;
-    };
-    let mut text = [0u8; LONGEST];
-    let end = whole_text(proof, &mut text);
-    hand_over(&text[..end], buffer)
+    listed::<LONGEST, _>(checked, |text: &mut [u8]| whole_text(proof, text), buffer).into()
 }

@@ -48,7 +48,7 @@ verdict_line c s answer =
 unfoldable pub row_text : List ℕ → Shape → ℕ → List ℕ
 row_text s shape i = ended (row_line i (triple_of s shape i))
 
-unfoldable pub rows_text : List ℕ → Shape → List ℕ
+abbrev pub rows_text : List ℕ → Shape → List ℕ
 rows_text s shape = texts_to (row_text s shape) shape.k
 
 unfoldable pub report_lines : List ℕ → List ℕ → Answer → List ℕ

@@ -66,15 +66,14 @@ fn rows_text(proof: &[u8], shape: Shape, out: &mut [u8], at: usize) -> usize
     ensures { Written out.old at (rows_text proof.now shape) out.new result }
 {
     let mut end = at;
-    let mut i = 0;
-    while i < shape.k {
+    for i in 0..shape.k {
         end = row_text(proof, shape, i, out, end);
-        i += 1;
     }
     end
 }
 
 // Whether a proof has k rows.
+#[tactic(auto, unfolding(crate::specs::Reports::has_rows))]
 fn has_rows(proof: &[u8], k: usize) -> bool
     ensures { result ≡ has_rows proof.now k }
 {
@@ -82,26 +81,17 @@ fn has_rows(proof: &[u8], k: usize) -> bool
         return false;
     }
     let n = variables(proof);
-    if MOST_VARIABLES < n {
-        return false;
-    }
-    if MOST_ROWS < k {
-        return false;
-    }
-    proof_length(Shape { n, k }) <= proof.len()
+    n <= MOST_VARIABLES && k <= MOST_ROWS && proof_length(Shape { n, k }) <= proof.len()
 }
 
 // Whether the sheets have what a report prints: of an acceptance of k rows a floor and k rows.
 fn reportable(claim: &[u8], proof: &[u8], verdict: Verdict) -> bool
     ensures { result ≡ reportable claim.now proof.now (says verdict) }
 {
-    let Verdict::Accepted(k) = verdict else {
-        return true;
-    };
-    if claim.len() < 8 {
-        return false;
+    match verdict {
+        Verdict::Accepted(k) => 8 <= claim.len() && has_rows(proof, k),
+        Verdict::Refused(_) => true,
     }
-    has_rows(proof, k)
 }
 
 // The report of a verdict on a claim, with its exact proof where it is accepted; the answer is where the text ends.
@@ -110,10 +100,10 @@ pub fn report_text(claim: &[u8], proof: &[u8], verdict: Verdict, out: &mut [u8; 
     ensures { Written out.old 0 (report_text claim.now proof.now (says verdict))
         out.new result }
 {
-    if reportable(claim, proof, verdict) {
-        let first = verdict_line(claim, proof, verdict, out, 0);
-        let rows = put_byte(b'\n', out, first);
-        return rows_text(proof, shown(proof, verdict), out, rows);
+    if !reportable(claim, proof, verdict) {
+        return 0;
     }
-    0
+    let first = verdict_line(claim, proof, verdict, out, 0);
+    let rows = put_byte(b'\n', out, first);
+    rows_text(proof, shown(proof, verdict), out, rows)
 }

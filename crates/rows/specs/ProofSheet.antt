@@ -14,44 +14,44 @@ use Rattle.rows.specs.declared.proof_sheet.Row.{Row}
 use Rattle.rows.specs.declared.proof_sheet.Triple.{Triple}
 
 -- "Bytes 4 to 7: the scale S"
-unfoldable pub scale_of : List ℕ → ℕ
+abbrev pub scale_of : List ℕ → ℕ
 scale_of s = u32_at s 4
 
 -- "two points v and w" of row i
-unfoldable pub v_of : List ℕ → Shape → ℕ → Exponents
+abbrev pub v_of : List ℕ → Shape → ℕ → Exponents
 v_of s shape i = bytes_at s (v_at shape i) shape.n
 
-unfoldable pub w_of : List ℕ → Shape → ℕ → Exponents
+abbrev pub w_of : List ℕ → Shape → ℕ → Exponents
 w_of s shape i = bytes_at s (w_at shape i) shape.n
 
 -- the triple from a place on: "p, q, r, each signed 32-bit"
-unfoldable pub words_at : List ℕ → ℕ → Triple
+abbrev pub words_at : List ℕ → ℕ → Triple
 words_at s at = record { p = i32_at s at; q = i32_at s (at + 4); r = i32_at s (at + 8) }
 
-unfoldable pub triple_of : List ℕ → Shape → ℕ → Triple
+abbrev pub triple_of : List ℕ → Shape → ℕ → Triple
 triple_of s shape i = words_at s (triple_at shape i)
 
 -- "its one slot is p at v"; otherwise "its three slots are p at v, q at w and r at u"
-unfoldable pub weights_of : Bool → Triple → Weights
+abbrev pub weights_of : Bool → Triple → Weights
 weights_of lone x = cond lone (Lone x.p) (Pair x.p x.q x.r)
 
 -- "A row is lone when v equals w": row i
-unfoldable pub row_of : List ℕ → Shape → ℕ → Formal.Row
+abbrev pub row_of : List ℕ → Shape → ℕ → Formal.Row
 row_of s shape i = record {
   v = v_of s shape i;
   w = w_of s shape i;
   weights = weights_of (same_point (v_of s shape i) (w_of s shape i)) (triple_of s shape i);
 }
 
-unfoldable pub rows_of : List ℕ → List Formal.Row
+abbrev pub rows_of : List ℕ → List Formal.Row
 rows_of s = table (row_of s (shape_of s)) (row_count s)
 
 -- a row with points by value
-unfoldable pub by_value : Formal.Row → Row
+abbrev pub by_value : Formal.Row → Row
 by_value a = record { v = point_of a.v; w = point_of a.w; weights = a.weights }
 
 -- the triple of a row's weights: of a lone row "q and r are zero"
-unfoldable pub triple_for : Weights → Triple
+abbrev pub triple_for : Weights → Triple
 triple_for (Pair p q r) = record { p = p; q = q; r = r }
 triple_for (Lone p) = record { p = p; q = pos 0; r = pos 0 }
 

@@ -136,6 +136,7 @@ fn weights_of(lone: bool, x: Triple) -> Weights
 }
 
 // Row i by value.
+#[tactic(auto, using(points::proofs::points::Laws::exponents_of))]
 pub fn row_at(proof: &[u8], shape: Shape, i: usize) -> Row
     requires { (ProofRoom proof.now shape) × (i < shape.k) }
     ensures { result ≡ by_value (row_of proof.now shape i) }
@@ -147,11 +148,13 @@ pub fn row_at(proof: &[u8], shape: Shape, i: usize) -> Row
 }
 
 // The triple that a row's weights are written as.
-pub fn triple_for(weights: Weights) -> Triple
-    ensures { result ≡ triple_for weights }
-{
-    match weights {
-        Weights::Pair(p, q, r) => Triple { p, q, r },
-        Weights::Lone(p) => Triple { p, q: 0, r: 0 },
+impl From<Weights> for Triple {
+    ghost from_gives = { λ a x. x ≡ triple_for a };
+
+    fn from(weights: Weights) -> Triple {
+        match weights {
+            Weights::Pair(p, q, r) => Triple { p, q, r },
+            Weights::Lone(p) => Triple { p, q: 0, r: 0 },
+        }
     }
 }

@@ -19,7 +19,7 @@ use Rattle.squares.proofs.rows.Laws.{slots_pair, slots_lone}
 use Rattle.sheets.specs.Layout.{row_count, shape_of}
 use Rattle.sheets.specs.declared.layout.Shape.{Shape}
 use Rattle.rows.specs.ProofSheet.{v_of, w_of, row_of, rows_of, triple_for}
-use Rattle.rows.proofs.proof_sheet.Laws.{for_pair, for_lone, pair_of, row_v, row_w}
+use Rattle.rows.proofs.proof_sheet.Laws.{for_pair, for_lone, pair_of}
 use Rattle.checks.specs.ProofChecks.{Within, ProofFacts}
 use Rattle.sharing.specs.Sharing.{count, shifted_weight}
 use Rattle.sharing.specs.Shifts.{shifted_weights, shift_row, slots_before, shifted_row}
@@ -49,7 +49,8 @@ module _ (limit : ℕ) where
   abbrev Light : Weights → Type 0
   Light a = Within limit (triple_for a)
 
-  pair_light : (p q r p' q' r' : ℤ) → (nat_abs p ≤ limit → nat_abs p' ≤ limit) → (nat_abs q ≤ limit → nat_abs q' ≤ limit)
+  pair_light : (p q r p' q' r' : ℤ) → (nat_abs p ≤ limit → nat_abs p' ≤ limit)
+      → (nat_abs q ≤ limit → nat_abs q' ≤ limit)
       → (nat_abs r ≤ limit → nat_abs r' ≤ limit) → Light (Pair p q r) → Light (Pair p' q' r')
   pair_light p q r p' q' r' f g h x =
       let y : Within limit (record { p = p; q = q; r = r }) =
@@ -113,4 +114,4 @@ module _ (n limit : ℕ) (τ τ' : Exponents → ℤ)
     row_light =
         weights_light (slots (rows_of s)) (slots_before s i) _ _ _
         (among_all n (slots (rows_of s)) _ _ (row_of s sh i).weights own_counted
-        (λ p q r e. rw (row_v, row_w) (middle_apart p q r e)))
+        middle_apart)

@@ -20,6 +20,7 @@ use squares::rows::Weights;
 use targets::targets::{Aim, target_at};
 
 // A weight with its share of the error.
+#[tactic(auto, using(crate::proofs::shifts::Steps::moving))]
 fn moved(x: i64, target: i64, h: Holding) -> i64
     requires { (nat_abs x ≤ greatest_weight) × (nat_abs target ≤ 2 ^ 51 + 2 ^ 59) × (nat_abs h.sum ≤ 2 ^ 42)
         × (0 < h.count) }
@@ -41,42 +42,31 @@ fn shifted(claim: &[u8], proof: &[u8], aim: Aim, i: usize, own: u32, p: Point, x
     moved(x, target_at(claim, aim, p, key), h)
 }
 
-// The weights of row i, shifted; v and w are its points. A row holds a point at most once.
-fn shifted_weights(
-    claim: &[u8],
-    proof: &[u8],
-    aim: Aim,
-    i: usize,
-    v: Point,
-    w: Point,
-    weights: Weights,
-) -> Weights
+// The weights of row i, shifted. A row holds a point at most once.
+fn shifted_weights(claim: &[u8], proof: &[u8], aim: Aim, i: usize, row: Row) -> Weights
     requires { (CheckedSheets claim.now proof.now aim) × (i < row_count proof.now)
-        × (IsRow proof.now i v w weights) }
+        × (IsRow proof.now i row.v row.w row.weights) }
     ensures { result ≡ (shifted_row (target_of claim.now aim) proof.now i).weights }
 {
-    match weights {
+    match row.weights {
         Weights::Pair(p, q, r) => Weights::Pair(
-            shifted(claim, proof, aim, i, 0, v, p),
-            shifted(claim, proof, aim, i, 0, w, q),
-            shifted(claim, proof, aim, i, 0, midpoint(v, w), r),
+            shifted(claim, proof, aim, i, 0, row.v, p),
+            shifted(claim, proof, aim, i, 0, row.w, q),
+            shifted(claim, proof, aim, i, 0, midpoint(row.v, row.w), r),
         ),
-        Weights::Lone(p) => Weights::Lone(shifted(claim, proof, aim, i, 0, v, p)),
+        Weights::Lone(p) => Weights::Lone(shifted(claim, proof, aim, i, 0, row.v, p)),
     }
 }
 
 // Row i with its shifted weights.
+#[tactic(auto, using(crate::proofs::shifts::Steps::row_shifting))]
 pub fn shifted_row(claim: &[u8], proof: &[u8], aim: Aim, i: usize) -> Row
     requires { (CheckedSheets claim.now proof.now aim) × (i < row_count proof.now) }
     ensures { result ≡ by_value (shifted_row (target_of claim.now aim) proof.now i) }
 {
     let row = row_at(proof, shape_of(proof), i);
-    let v = row.v;
-    let w = row.w;
-    let weights = row.weights;
     Row {
-        v,
-        w,
-        weights: shifted_weights(claim, proof, aim, i, v, w, weights),
+        weights: shifted_weights(claim, proof, aim, i, row),
+        ..row
     }
 }

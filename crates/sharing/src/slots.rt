@@ -26,6 +26,7 @@ pub struct Holding {
 }
 
 // One slot more, whose weight stands at a place.
+#[tactic(auto, using(crate::proofs::slots::Steps::adding))]
 fn add(proof: &[u8], at: usize, a: Tally) -> Tally
     requires { (at + 4 ≤ length proof.now) × (nat_abs (i32_at proof.now at) ≤ greatest_weight) × (Small a) }
     ensures { result ≡ more (i32_at proof.now at) a }
@@ -37,6 +38,7 @@ fn add(proof: &[u8], at: usize, a: Tally) -> Tally
 }
 
 // How many bytes after a row's first weight the one at its second end stands, or else the one at its midpoint.
+// A step and one test, since two tests with two returns were slower where points are shared (docs/DECISIONS.md).
 fn weight_step(second: bool) -> usize
     ensures { (result ≡ step_to second) × (result ≤ 8) }
 {
@@ -63,18 +65,15 @@ fn add_row(proof: &[u8], shape: Shape, i: usize, key: u64, a: Tally) -> Tally
 }
 
 // From the slots of the first rows to those of more.
-fn scan(proof: &[u8], shape: Shape, from: usize, to: usize, key: u64, a: Tally) -> Tally
+fn scan(proof: &[u8], shape: Shape, from: usize, to: usize, key: u64, mut a: Tally) -> Tally
     requires { (ProofFacts proof.now shape) × (from ≤ to) × (to ≤ shape.k) × (key < 2 ^ 63)
         × (a ≡ tally_of key (slots_to proof.now shape from)) }
     ensures { result ≡ tally_of key (slots_to proof.now shape to) }
 {
-    let mut b = a;
-    let mut i = from;
-    while i < to {
-        b = add_row(proof, shape, i, key, b);
-        i += 1;
+    for i in from..to {
+        a = add_row(proof, shape, i, key, a);
     }
-    b
+    a
 }
 
 // How many slots there are at the point with a key.
@@ -87,6 +86,7 @@ pub fn slots_with(proof: &[u8], shape: Shape, key: u64) -> u32
 }
 
 // The slots with a key, seen from one of row i; `own` says how many of the row's own are before it there.
+#[tactic(auto, using(crate::proofs::slots::Steps::holding))]
 pub(crate) fn held(proof: &[u8], shape: Shape, i: usize, own: u32, key: u64) -> Holding
     requires { (ProofFacts proof.now shape) × (i < shape.k) × (own < 65536) × (key < 2 ^ 63) }
     ensures { result ≡ holding_of key (slots_to proof.now shape shape.k)

@@ -17,17 +17,10 @@ pub fn place_of(from: usize, i: usize, size: usize) -> usize
     from + i * size
 }
 
-// A byte as a count.
-pub fn count(b: u8) -> usize
-    ensures { (result ≡ b) × (result ≤ 255) }
-{
-    b as usize
-}
-
 // The number of variables n.
 pub fn variables(sheet: &[u8]) -> usize
     requires { 8 ≤ length sheet.now }
     ensures { (result ≡ variables sheet.now) × (result ≤ 255) }
 {
-    count(sheet[0])
+    usize::from(sheet[0])
 }

@@ -1,9 +1,7 @@
 -- Targets of a claim sheet, for any floor, scale and limits.
-use Rattle.std.specs.Prelude.{Bool, cond, List, ◌≡◌, ℕ, ◌≤◌, eqb, ℤ, pos, nat_abs, ◌+ℤ◌, ◌-ℤ◌, ◌*ℤ◌}
+use Rattle.std.specs.Prelude.{Bool, cond, List, ◌≡◌, ℕ, ◌≤◌, eqb, ℤ, pos, nat_abs, ◌+ℤ◌, ◌-ℤ◌, ◌*ℤ◌, Option, Some, None}
 use Rattle.bounds.specs.Bounds.{greatest_weight, greatest_scale}
 use Rattle.answers.specs.Searches.{first}
-use Rattle.answers.specs.declared.searches.Found.{Found}
-use Rattle.answers.specs.declared.searches.Found.TheVariants.{At, Nothing}
 use Rattle.points.specs.Points.{Exponents, keeps_sign}
 use Rattle.keys.specs.Keys.{key_of}
 use Rattle.squares.specs.Targets.{lowered, worst, target}
@@ -50,9 +48,9 @@ unfoldable pub has_key : List ℕ → ℕ → ℕ → ℕ → Bool
 has_key c n key i = eqb key (key_of (term_point c n i))
 
 -- the coefficient of the term that was found, 0 where none was
-unfoldable pub coefficient_found : List ℕ → ℕ → ℕ → Found → ℤ
-coefficient_found c n t (At i) = coefficient_of c n t i
-coefficient_found c n t Nothing = pos 0
+unfoldable pub coefficient_found : List ℕ → ℕ → ℕ → Option ℕ → ℤ
+coefficient_found c n t (Some i) = coefficient_of c n t i
+coefficient_found c n t None = pos 0
 
 unfoldable pub coefficient_with : List ℕ → ℕ → ℕ → ℕ → ℤ
 coefficient_with c n t key = coefficient_found c n t (first (has_key c n key) t)

@@ -1,6 +1,7 @@
 -- A claim without a mask, none of whose variables is limited, is judged as document 01 says, and admits all offsets.
 use Rattle.std.specs.Prelude.{◌≡◌, ◌&&◌, List, ◌↔◌, ℕ, ◌%◌, eqb, ℤ, pos, ◌*ℤ◌, get_or, ◌≤ℤ◌}
-use Rattle.points.specs.Points.{Exponents, every}
+use Rattle.std.specs.List.{list_all}
+use Rattle.points.specs.Points.{Exponents}
 use Rattle.squares.specs.Sums.{coefficient, value_at}
 use Rattle.squares.specs.Domains.{Unlimited, Admits}
 use Rattle.squares.specs.Targets.{lowered, worst}
@@ -18,7 +19,7 @@ pub record AsBefore (c : List ℕ) : Type 0 where
   pub header : claim_header_right c ≡ counts_right c && eqb (get_or c 2 0) 0 && eqb (get_or c 3 0) 0
   -- "S times the coefficient of g if every exponent is even, else minus S times its absolute value"
   pub targets : (a : Aim) → Unlimited (limit_in a.limits) → (α : Exponents) → target_of c a α
-      ≡ pos a.scale *ℤ worst (every (λ e. eqb (e % 2) 0) α)
+      ≡ pos a.scale *ℤ worst (list_all (λ e. eqb (e % 2) 0) α)
       (coefficient α (lowered (variables c) a.floor (terms_of c)))
   -- Demand 3: "at all whole offsets, of either sign and however large", the floor and the values
   pub floors : (limits : ℕ → Limit) → Unlimited limits

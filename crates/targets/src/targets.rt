@@ -1,15 +1,14 @@
 // Targets: what the weights at a point are to add up to.
 ghost use Rattle.std.specs.Prelude.{◌≡◌, ◌+◌, ◌^◌, ◌<◌, ◌≤◌, pos, nat_abs, ◌*ℤ◌, length};
 ghost use Rattle.bounds.specs.Bounds.{most_variables, greatest_weight, greatest_scale};
-ghost use Rattle.answers.specs.Searches.{first};
 ghost use Rattle.points.specs.Points.{exponents};
 ghost use Rattle.squares.specs.Targets.{worst};
 ghost use Rattle.sheets.specs.Layout.{variables, term_count, LimitsRoom};
 ghost use Rattle.sheets.specs.ClaimSheet.{term_point};
 ghost use Rattle.claims.specs.ClaimChecks.{ClaimFacts};
-ghost use Rattle.targets.specs.Targets.{aim_of, at_floor, AimWithin, Targeted, target_of, has_key, coefficient_with, lowered_by, target_with};
+ghost use Rattle.targets.specs.Targets.{aim_of, at_floor, AimWithin, Targeted, target_of, coefficient_with, lowered_by, target_with};
 
-use answers::searches::Found;
+use answers::searches::first_at;
 use limits::additions::limits_add;
 use limits::limits_sheet::{Limits, limits_of};
 use points::points::{Point, keeps_sign};
@@ -26,6 +25,7 @@ pub struct Aim {
 }
 
 // The claim's floor, the proof's scale and the sheet's limits.
+#[tactic(auto, unfolding(crate::specs::Targets::aim_of))]
 pub fn aim_of(claim: &[u8], proof: &[u8], limits: &[u8]) -> Aim
     requires { (8 ≤ length claim.now) × (8 ≤ length proof.now)
         × (LimitsRoom limits.now (variables claim.now)) }
@@ -39,52 +39,27 @@ pub fn aim_of(claim: &[u8], proof: &[u8], limits: &[u8]) -> Aim
 }
 
 // The same with another floor.
+#[tactic(auto, unfolding(crate::specs::Targets::at_floor))]
 pub fn at_floor(aim: Aim, b: i64) -> Aim
     ensures { result ≡ at_floor aim b }
 {
-    let limits = aim.limits;
-    Aim {
-        floor: b,
-        scale: aim.scale,
-        limits,
-    }
-}
-
-// Whether term i has a key.
-fn has_key(claim: &[u8], n: usize, t: usize, i: usize, key: u64) -> bool
-    requires { (ClaimFacts claim.now n t) × (i < t) }
-    ensures { result ≡ has_key claim.now n key i }
-{
-    key == term_key(claim, n, t, i)
-}
-
-// The term that has a key.
-fn find_term(claim: &[u8], n: usize, t: usize, key: u64) -> Found
-    requires { ClaimFacts claim.now n t }
-    ensures { result ≡ first (has_key claim.now n key) t }
-{
-    let mut i = 0;
-    while i < t {
-        if has_key(claim, n, t, i, key) {
-            return Found::At(i);
-        }
-        i += 1;
-    }
-    Found::Nothing
+    Aim { floor: b, ..aim }
 }
 
 // The coefficient of the term that has a key, 0 where there is none.
+#[tactic(auto, unfolding(crate::specs::Targets::has_key, crate::specs::Targets::coefficient_with, crate::specs::Targets::coefficient_found))]
 fn coefficient_with(claim: &[u8], n: usize, t: usize, key: u64) -> i64
     requires { ClaimFacts claim.now n t }
     ensures { (result ≡ coefficient_with claim.now n t key) × (nat_abs result ≤ greatest_weight) }
 {
-    let Found::At(i) = find_term(claim, n, t, key) else {
-        return 0;
-    };
-    coefficient(claim, n, t, i)
+    match first_at(t, |i| key == term_key(claim, n, t, i)) {
+        Some(i) => coefficient(claim, n, t, i),
+        None => 0,
+    }
 }
 
 // A coefficient, less the floor where it is the constant's.
+#[tactic(auto, unfolding(crate::specs::Targets::lowered_by))]
 fn lowered_by(c: i64, aim: Aim, key: u64) -> i64
     requires { (nat_abs c ≤ greatest_weight) × (AimWithin aim) }
     ensures { (result ≡ lowered_by aim key c) × (nat_abs result ≤ 2 ^ 31) }
@@ -96,6 +71,7 @@ fn lowered_by(c: i64, aim: Aim, key: u64) -> i64
 }
 
 // A coefficient with the worst sign: as it stands where the point keeps its sign, else minus its absolute value.
+#[tactic(auto, using(squares::proofs::Targets::worst_kept, squares::proofs::Targets::worst_negative, squares::proofs::Targets::worst_positive))]
 fn worst(keeps: bool, c: i64) -> i64
     requires { nat_abs c ≤ 2 ^ 31 }
     ensures { (result ≡ worst keeps c) × (nat_abs result ≤ 2 ^ 31) }

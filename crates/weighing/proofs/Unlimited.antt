@@ -1,4 +1,5 @@
 -- 16 to 19 where no variable is limited: the pure powers are then the constant, which 16 has met before them.
+use Rattle.std.proofs.Common.{None}
 use mathlib.Core.Path.{◌≡◌, refl, ap, fun_ext}
 use mathlib.Core.Bool.{Bool, true, false, cond}
 use mathlib.Core.List.{List}
@@ -8,7 +9,6 @@ use lib.Dec.{ltb}
 use lib.ListN.{replicate}
 use borrow.Author.Tests.{le-ltb}
 use Rattle.answers.specs.Searches.{first}
-use Rattle.answers.specs.declared.searches.Found.TheVariants.{Nothing}
 use Rattle.answers.proofs.searches.Laws.{first_past, none_wrong}
 use Rattle.points.specs.Points.{pure_at}
 use Rattle.points.proofs.points.Laws.{pure_none}
@@ -52,7 +52,7 @@ module _ (c s : List ℕ) (a : Aim) (u : Unlimited (limit_in a.limits)) where
   each = fun_ext (λ i. rw (points i))
 
   -- after the constant nothing is found that was not found at it
-  later : (i : ℕ) → first wrong (suc t) ≡ Nothing → suc t ≤ i → wrong i ≡ false
+  later : (i : ℕ) → first wrong (suc t) ≡ None → suc t ≤ i → wrong i ≡ false
   unfolding plain_point
   later i none l =
       rw (le-ltb i t (omega arith)) (rw (le-ltb t t (omega arith)) at (none_wrong wrong (suc t) none t (omega arith)))

@@ -11,35 +11,25 @@ use targets::targets::Aim;
 use writing::writing::write_weights;
 
 // The shifted weights of every row, in bytes that have room for the proof.
+#[tactic(auto, using(integers::proofs::Integers::fits_within, writing::proofs::writing::Laws::rows_none, writing::proofs::writing::Laws::rows_more, writing::proofs::writing::Laws::rows_length), unfolding(rows::specs::ProofSheet::by_value, crate::specs::Exact::weights_for))]
 fn write_rows(claim: &[u8], proof: &[u8], aim: Aim, out: &mut [u8])
     requires { Writable claim.now proof.now aim out.old }
     ensures { out.new ≡ with_rows (weights_for (target_of claim.now aim) proof.now)
         out.old (shape_of proof.now) (row_count proof.now) }
 {
     let shape = shape_of(proof);
-    let mut i = 0;
-    while i < shape.k {
-        let row = shifted_row(claim, proof, aim, i);
-        let weights = row.weights;
-        write_weights(out, shape, i, weights);
-        i += 1;
+    for i in 0..shape.k {
+        write_weights(out, shape, i, shifted_row(claim, proof, aim, i).weights);
     }
 }
 
-// The proof in the output's first bytes; the later ones keep their values.
-fn copy(proof: &[u8], out: &mut [u8])
-    requires { length proof.now ≤ length out.old }
-    ensures { out.new ≡ proof.now ++ drop (length proof.now) out.old }
-{
-    out[..proof.len()].copy_from_slice(proof);
-}
-
 // The exact proof in the output's first bytes; the later ones keep their values.
+#[tactic(auto, using(writing::proofs::writing::Laws::rows_append), unfolding(crate::specs::Exact::exact_proof))]
 pub fn write_exact(claim: &[u8], proof: &[u8], aim: Aim, out: &mut [u8])
     requires { Writable claim.now proof.now aim out.old }
     ensures { out.new ≡ exact_proof (target_of claim.now aim) proof.now
         ++ drop (length proof.now) out.old }
 {
-    copy(proof, out);
+    out[..proof.len()].copy_from_slice(proof);
     write_rows(claim, proof, aim, out);
 }

@@ -8,9 +8,7 @@ ghost use Rattle.targets.specs.Targets.{Targeted, target_of};
 ghost use Rattle.sharing.specs.Shifts.{CheckedSheets};
 ghost use Rattle.weighing.specs.Unheld.{point_count, point_for, unheld};
 
-use answers::searches::Found;
 use bounds::bounds::MOST_VARIABLES;
-use integers::magnitudes::magnitude;
 use keys::keys::key_of;
 use limits::limits_sheet::{Limits, limit_in};
 use points::points::{Point, pure_power};
@@ -29,6 +27,7 @@ pub fn point_count(claim: &[u8]) -> usize
 }
 
 // Point i: of a term, after the terms the constant's, and then the pure power of each variable's limit.
+#[tactic(auto, using(points::proofs::points::Laws::zeros_point), unfolding(crate::specs::Unheld::point_for))]
 fn point_for(claim: &[u8], limits: Limits, n: usize, t: usize, i: usize) -> Point
     requires { (ClaimFacts claim.now n t) × (i < point_count n t) }
     ensures { result ≡ point_of (point_for claim.now limits n t i) }
@@ -43,39 +42,39 @@ fn point_for(claim: &[u8], limits: Limits, n: usize, t: usize, i: usize) -> Poin
         };
     }
     let j = i - t - 1;
-    let limit = limit_in(limits, j);
-    pure_power(n, j, limit.power)
+    pure_power(n, j, limit_in(limits, j).power)
 }
 
 // Whether the target is zero at p, which is point i.
+#[tactic(auto, using(crate::proofs::unheld::Laws::point_term))]
 fn no_target(claim: &[u8], aim: Aim, i: usize, p: Point, key: u64) -> bool
     requires { (Targeted claim.now aim (exponents p) key)
         × (exponents p ≡ point_for claim.now aim.limits (variables claim.now) (term_count claim.now) i) }
     ensures { result ≡ eqb (nat_abs (target_of claim.now aim (exponents p))) 0 }
 {
     if i < term_count(claim) {
-        return magnitude(term_target(claim, aim, i, p, key)) == 0;
+        term_target(claim, aim, i, p, key) == 0
+    } else {
+        target_at(claim, aim, p, key) == 0
     }
-    magnitude(target_at(claim, aim, p, key)) == 0
 }
 
 // Whether point i has a target that is not zero and no row holds it.
+#[tactic(auto, using(points::proofs::points::Laws::exponents_of, sharing::proofs::slots::Laws::all_slots, crate::proofs::unheld::Laws::point_sized, crate::proofs::unheld::Steps::point_within, crate::proofs::unheld::Steps::key_carried), unfolding(crate::specs::Unheld::unheld, crate::specs::Unheld::unheld_at))]
 pub fn is_unheld(claim: &[u8], proof: &[u8], aim: Aim, i: usize) -> bool
     requires { (CheckedSheets claim.now proof.now aim)
         × (i < point_count (variables claim.now) (term_count claim.now)) }
     ensures { result ≡ unheld claim.now proof.now aim i }
 {
-    let shape = shape_of(proof);
     let p = point_for(claim, aim.limits, variables(claim), term_count(claim), i);
     let key = key_of(p);
-    if no_target(claim, aim, i, p, key) {
-        return false;
-    }
-    slots_with(proof, shape, key) == 0
+    !no_target(claim, aim, i, p, key) && slots_with(proof, shape_of(proof), key) == 0
 }
 
-// The first point whose target is not zero and that no row holds.
-pub(crate) fn first_unheld(claim: &[u8], proof: &[u8], aim: Aim) -> Found
+// The first point whose target is not zero and that no row holds. Terms outside, rows inside: a slot that is found
+// continues the labelled outer loop, a miss ends the search (a rule of the project).
+#[tactic(auto, using(points::proofs::points::Laws::exponents_of, answers::proofs::searches::Laws::first_found, crate::proofs::unheld::Laws::point_sized, crate::proofs::unheld::Steps::point_within, crate::proofs::unheld::Steps::key_carried, crate::proofs::unheld::Steps::not_in_row, crate::proofs::unheld::Steps::in_no_row), unfolding(answers::specs::Searches::first, answers::specs::Searches::kept, crate::specs::Unheld::unheld, crate::specs::Unheld::unheld_at))]
+pub(crate) fn first_unheld(claim: &[u8], proof: &[u8], aim: Aim) -> Option<usize>
     requires { CheckedSheets claim.now proof.now aim }
     ensures { result ≡ first (unheld claim.now proof.now aim)
         (point_count (variables claim.now) (term_count claim.now)) }
@@ -83,27 +82,18 @@ pub(crate) fn first_unheld(claim: &[u8], proof: &[u8], aim: Aim) -> Found
     let n = variables(claim);
     let t = term_count(claim);
     let shape = shape_of(proof);
-    let points = point_count(claim);
-    let mut i = 0;
-    'points: while i < points {
+    'points: for i in 0..point_count(claim) {
         let p = point_for(claim, aim.limits, n, t, i);
         let key = key_of(p);
         if no_target(claim, aim, i, p, key) {
-            i += 1;
             continue 'points;
         }
-        let mut j = 0;
-        while j < shape.k {
+        for j in 0..shape.k {
             if holds_key(proof, shape, j, key) {
-                i += 1;
                 continue 'points;
             }
-            j += 1;
         }
-        break;
+        return Some(i);
     }
-    if i < points {
-        return Found::At(i);
-    }
-    Found::Nothing
+    None
 }

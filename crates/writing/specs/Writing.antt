@@ -8,11 +8,11 @@ use Rattle.rows.specs.ProofSheet.{triple_for}
 use Rattle.rows.specs.declared.proof_sheet.Triple.{Triple}
 
 -- the bytes with a triple from a place on
-unfoldable pub with_triple : List ℕ → ℕ → Triple → List ℕ
+abbrev pub with_triple : List ℕ → ℕ → Triple → List ℕ
 with_triple s at x = with_i32 (with_i32 (with_i32 s at x.p) (at + 4) x.q) (at + 8) x.r
 
 -- the bytes with row i's weights
-unfoldable pub with_weights : List ℕ → Shape → ℕ → Weights → List ℕ
+abbrev pub with_weights : List ℕ → Shape → ℕ → Weights → List ℕ
 with_weights s shape i a = with_triple s (triple_at shape i) (triple_for a)
 
 -- the bytes with the weights of the first rows, given by an index

@@ -5,7 +5,7 @@ ghost use Rattle.rows.specs.ProofSheet.{triple_for, Narrow};
 ghost use Rattle.writing.specs.Writing.{with_triple, with_weights};
 
 use integers::words::write_i32;
-use rows::proof_sheet::{Triple, triple_for, triple_place};
+use rows::proof_sheet::{Triple, triple_place};
 use sheets::layout::Shape;
 use squares::rows::Weights;
 
@@ -24,5 +24,5 @@ pub fn write_weights(out: &mut [u8], shape: Shape, i: usize, weights: Weights)
     requires { (ProofRoom out.old shape) × (i < shape.k) × (Narrow (triple_for weights)) }
     ensures { out.new ≡ with_weights out.old shape i weights }
 {
-    write_triple(out, triple_place(shape, i), triple_for(weights));
+    write_triple(out, triple_place(shape, i), Triple::from(weights));
 }

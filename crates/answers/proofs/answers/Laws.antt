@@ -1,5 +1,6 @@
 -- Laws of answers: what it says of each check that all are passed, the ways through checks one after another, that
 -- answers are short, and the sheets' numbers.
+use Rattle.std.proofs.Common.{Option, Some, None}
 use mathlib.Core.Path.{◌≡◌, refl, sym, ◌∙◌}
 use mathlib.Core.Bool.{Bool, true, false, cond, false≢true}
 use Prim.Native.Nat.{ℕ, ◌<◌, ◌≤◌}
@@ -11,8 +12,6 @@ use Rattle.answers.specs.declared.answers.Sheet.{Sheet}
 use Rattle.answers.specs.declared.answers.Sheet.TheVariants.{Claim, Proof, Output, Offsets, Range, Limits, Page, Profile, Buffer, Table, Site}
 use Rattle.answers.specs.declared.answers.Verdict.{Verdict}
 use Rattle.answers.specs.declared.answers.Verdict.TheVariants.{Accepted, Refused}
-use Rattle.answers.specs.declared.searches.Found.{Found}
-use Rattle.answers.specs.declared.searches.Found.TheVariants.{At, Nothing}
 use Rattle.answers.proofs.searches.Laws.{first_inside}
 
 -- a number that blames a sheet is no acceptance's
@@ -20,20 +19,18 @@ abbrev pub Blames : ℕ → Type 0
 Blames number = faultless (blames number) ≡ false
 
 pub refused_blames : (number index : ℕ) → Blames number → blameless (refused number index) ≡ false
-unfolding blameless refused
+unfolding blameless
 refused_blames number index h = h
 
 pub passes_if : (b : Bool) (number : ℕ) (later : Answer) → Blames number → Passes (refuse_if b number later)
     → (b ≡ false) × Passes later
-unfolding refuse_if
 passes_if true number later n h = absurd (false≢true (sym (refused_blames number 0 n) ∙ h))
 passes_if false number later n h = (refl, h)
 
-pub passes_at : (f : Found) (number : ℕ) (later : Answer) → Blames number → Passes (refuse_at f number later)
-    → (f ≡ Nothing) × Passes later
-unfolding refuse_at
-passes_at (At i) number later n h = absurd (false≢true (sym (refused_blames number i n) ∙ h))
-passes_at Nothing number later n h = (refl, h)
+pub passes_at : (f : Option ℕ) (number : ℕ) (later : Answer) → Blames number → Passes (refuse_at f number later)
+    → (f ≡ None) × Passes later
+passes_at (Some i) number later n h = absurd (false≢true (sym (refused_blames number i n) ∙ h))
+passes_at None number later n h = (refl, h)
 
 -- every answer passes or fails
 pub passes_or_fails : {A : Type 0} (a : Answer) → (Passes a → A) → (blameless a ≡ false → A) → A
@@ -61,63 +58,63 @@ unfolding and_then
 then_off a later h = rw h
 
 pub if_on : (b : Bool) (number : ℕ) (later : Answer) → b ≡ false → refuse_if b number later ≡ later
-unfolding refuse_if
 if_on b number later h = rw h
 
-pub if_stops : (b : Bool) (number : ℕ) (later : Answer) → b ≡ true → refuse_if b number later ≡ refused number 0
-unfolding refuse_if
-if_stops b number later h = rw h
-
-pub at_on : (f : Found) (number : ℕ) (later : Answer) → f ≡ Nothing → refuse_at f number later ≡ later
-unfolding refuse_at
+pub at_on : (f : Option ℕ) (number : ℕ) (later : Answer) → f ≡ None → refuse_at f number later ≡ later
 at_on f number later h = rw h
 
 pub accepted_passes : (a : Answer) (k : ℕ) → a ≡ accepted k → Passes a
 unfolding blameless accepted
 accepted_passes a k e = rw e
 
--- v is the verdict on the checks before, r on those after
+pub refusal_fails : (x : Sheet) → blameless (refusal x) ≡ false
+unfolding blameless
+refusal_fails (Claim number index) = refl
+refusal_fails (Proof number index) = refl
+refusal_fails (Output number index) = refl
+refusal_fails (Offsets number index) = refl
+refusal_fails (Range number index) = refl
+refusal_fails (Limits number index) = refl
+refusal_fails (Page number index) = refl
+refusal_fails (Profile number index) = refl
+refusal_fails (Buffer number index) = refl
+refusal_fails (Table number index) = refl
+refusal_fails (Site number index) = refl
+
+-- v is the verdict
 module _ (v : Verdict) (a : Answer) (e : says v ≡ a) where
-  module _ (x : Sheet) (h : v ≡ Refused x) where
-    pub failed : blameless a ≡ false
-    unfolding says blameless
-    failed = rw (← e, h) (go x)
-      where
-        go : (x : Sheet) → blameless (says (Refused x)) ≡ false
-        go (Claim number index) = refl
-        go (Proof number index) = refl
-        go (Output number index) = refl
-        go (Offsets number index) = refl
-        go (Range number index) = refl
-        go (Limits number index) = refl
-        go (Page number index) = refl
-        go (Profile number index) = refl
-        go (Buffer number index) = refl
-        go (Table number index) = refl
-        go (Site number index) = refl
+  pub failed : (x : Sheet) → v ≡ Refused x → blameless a ≡ false
+  unfolding says
+  failed x h = rw (← e, h) (refusal_fails x)
 
-    pub then_refused : (later : Answer) → says v ≡ and_then a later
+  pub passed : (k : ℕ) → v ≡ Accepted k → Passes a
+  unfolding blameless says accepted
+  passed k h = rw (← e, h)
+
+-- a is what the checks before say, which a result tells, `said` what is said after those that follow
+module _ (a : Answer) where
+  module _ (x : Sheet) (h : refusal x ≡ a) where
+    pub told_failed : blameless a ≡ false
+    told_failed = rw (← h) (refusal_fails x)
+
+    pub then_refused : (later : Answer) → refusal x ≡ and_then a later
+    then_refused later = h ∙ sym (then_off a later told_failed)
+
+  module _ (h : accepted 0 ≡ a) where
+    pub told_passed : Passes a
+    told_passed = accepted_passes a 0 (sym h)
+
+    pub then_passed : (said later : Answer) → said ≡ later → said ≡ and_then a later
     unfolding and_then
-    then_refused later = rw failed e
-
-  module _ (k : ℕ) (h : v ≡ Accepted k) where
-    pub passed : Passes a
-    unfolding blameless says accepted
-    passed = rw (← e, h)
-
-    pub then_passed : (r : Verdict) (later : Answer) → says r ≡ later → says r ≡ and_then a later
-    unfolding and_then
-    then_passed r later q = rw passed q
+    then_passed said later q = rw told_passed q
 
 -- ---- the ways through a chain of checks
 
-module _ (v : Verdict) (wrong : Bool) (number : ℕ) (later : Answer) where
-  pub refused_if : wrong ≡ true → says v ≡ refused number 0 → says v ≡ refuse_if wrong number later
-  unfolding refuse_if
+module _ (said : Answer) (wrong : Bool) (number : ℕ) (later : Answer) where
+  pub refused_if : wrong ≡ true → said ≡ refused number 0 → said ≡ refuse_if wrong number later
   refused_if h k = rw h k
 
-  pub passed_if : wrong ≡ false → says v ≡ later → says v ≡ refuse_if wrong number later
-  unfolding refuse_if
+  pub passed_if : wrong ≡ false → said ≡ later → said ≡ refuse_if wrong number later
   passed_if h k = rw h k
 
 -- r is what a test's function answered
@@ -125,16 +122,14 @@ pub tested : (wrong b r : Bool) → r ≡ wrong → r ≡ b → wrong ≡ b
 tested wrong b r e h = sym e ∙ h
 
 -- f is what a search answered
-module _ (v : Verdict) (f found : Found) (number : ℕ) (later : Answer) (e : f ≡ found) where
-  pub refused_at : (i : ℕ) → f ≡ At i → says v ≡ refused number i → says v ≡ refuse_at found number later
-  unfolding refuse_at
+module _ (said : Answer) (f found : Option ℕ) (number : ℕ) (later : Answer) (e : f ≡ found) where
+  pub refused_at : (i : ℕ) → f ≡ Some i → said ≡ refused number i → said ≡ refuse_at found number later
   refused_at i h k = rw (← e, h) k
 
-  pub passed_at : f ≡ Nothing → says v ≡ later → says v ≡ refuse_at found number later
-  unfolding refuse_at
+  pub passed_at : f ≡ None → said ≡ later → said ≡ refuse_at found number later
   passed_at h k = rw (← e, h) k
 
--- ---- what a verdict says
+-- ---- what a result or a verdict says
 
 pub accepted_says : (k : ℕ) → says (Accepted k) ≡ accepted k
 unfolding says
@@ -144,8 +139,12 @@ accepted_says k = refl
 pub refused_says : (x : Sheet) (number index : ℕ)
     → refusal x ≡ record { number = number; blamed = blames number; value = index }
     → says (Refused x) ≡ refused number index
-unfolding says refused
+unfolding says
 refused_says x number index h = h
+
+pub refusal_says : (x : Sheet) → says (Refused x) ≡ refusal x
+unfolding says
+refusal_says x = refl
 
 pub accepted_value : (k : ℕ) → (says (Accepted k)).value ≡ k
 unfolding says accepted
@@ -163,15 +162,13 @@ module _ (P : ℕ → Type 0) where
 
   pub number_if : (b : Bool) (number : ℕ) (later : Answer) → P number → P later.number
       → P (refuse_if b number later).number
-  unfolding refuse_if refused
   number_if true number later h k = h
   number_if false number later h k = k
 
-  pub number_at : (f : Found) (number : ℕ) (later : Answer) → P number → P later.number
+  pub number_at : (f : Option ℕ) (number : ℕ) (later : Answer) → P number → P later.number
       → P (refuse_at f number later).number
-  unfolding refuse_at refused
-  number_at (At i) number later h k = h
-  number_at Nothing number later h k = k
+  number_at (Some i) number later h k = h
+  number_at None number later h k = k
 
   pub number_then : (a later : Answer) → P a.number → P later.number → P (and_then a later).number
   unfolding and_then
@@ -182,7 +179,6 @@ module _ (P : ℕ → Type 0) where
       go false = h
 
 pub refused_number : (number index : ℕ) → (refused number index).number ≡ number
-unfolding refused
 refused_number number index = refl
 
 -- ---- answers are short: a number below a limit, and a value of 16 bits
@@ -192,22 +188,19 @@ unfolding accepted
 short_accepted k l h = record { number_short = l; value_short = h }
 
 pub short_refused : {limit : ℕ} (number index : ℕ) → number < limit → index < 65536 → Short limit (refused number index)
-unfolding refused
 short_refused number index h k = record { number_short = h; value_short = k }
 
 module _ {limit : ℕ} (number : ℕ) (later : Answer) (h : number < limit) (k : Short limit later) where
   pub short_if : (b : Bool) → Short limit (refuse_if b number later)
-  unfolding refuse_if
   short_if true = short_refused number 0 h (omega arith)
   short_if false = k
 
   pub short_at : (wrong : ℕ → Bool) (n : ℕ) → n ≤ 65536 → Short limit (refuse_at (first wrong n) number later)
-  unfolding refuse_at
   short_at wrong n l = go (first wrong n) refl
     where
-      go : (f : Found) → first wrong n ≡ f → Short limit (refuse_at f number later)
-      go (At i) e = let i_below = (first_inside wrong n i e).0 in short_refused number i h (omega arith)
-      go Nothing e = k
+      go : (f : Option ℕ) → first wrong n ≡ f → Short limit (refuse_at f number later)
+      go (Some i) e = let i_below = (first_inside wrong n i e).0 in short_refused number i h (omega arith)
+      go None e = k
 
 pub short_then : {limit : ℕ} (a later : Answer) → Short limit a → Short limit later → Short limit (and_then a later)
 unfolding and_then

@@ -1,4 +1,5 @@
 -- The steps of the exported functions.
+use Rattle.std.proofs.Common.{Result, Ok, Err}
 use mathlib.Core.Path.{◌≡◌, refl, sym, ◌∙◌, ap}
 use mathlib.Core.Bool.{true≢false}
 use mathlib.Core.List.{List}
@@ -13,22 +14,19 @@ use Rattle.answers.specs.Answers.{Answer, sheet_number, accepted, refused, says,
 use Rattle.answers.specs.declared.answers.Sheet.{Sheet}
 use Rattle.answers.specs.declared.answers.Verdict.{Verdict}
 use Rattle.answers.specs.declared.answers.Verdict.TheVariants as Verdicts
-use Rattle.answers.proofs.answers.Laws.{passes_or_fails, accepted_passes, failed, accepted_numbers, refused_number, passed_sheet, sheet_passed}
+use Rattle.answers.proofs.answers.Laws.{passes_or_fails, accepted_passes, refusal_fails, refusal_says, accepted_numbers, refused_number, passed_sheet, sheet_passed}
 use Rattle.sheets.specs.Layout.{row_count}
 use Rattle.judging.specs.Check.{check_answer, output_of}
 use Rattle.judging.specs.Promises.{LongEnough, CheckPromises}
 use Rattle.judging.proofs.Promises.{accepted_rows, check_short, check_promises}
 use Rattle.evaluation.specs.Evaluations.{value, tells, evaluation_answer, evaluation_of}
 use Rattle.evaluation.specs.Promises.{EvaluationPromises}
-use Rattle.evaluation.specs.declared.evaluations.Evaluation.{Evaluation}
-use Rattle.evaluation.specs.declared.evaluations.Evaluation.TheVariants.{Value, Refused}
 use Rattle.evaluation.proofs.Promises.{evaluation_promises}
 use Rattle.evaluation.proofs.evaluations.Laws.{evaluation_short, evaluation_passed, passed_value, failed_refusal, value_passed, tells_value, tells_refusal}
 use Rattle.floors.specs.Search as Floors
 use Rattle.floors.specs.Search.{answer_of, search_of, search_output}
 use Rattle.floors.specs.Promises.{SearchPromises}
-use Rattle.floors.specs.declared.search.Searched.{Searched}
-use Rattle.floors.specs.declared.search.Searched.TheVariants as Outcomes
+use Rattle.floors.specs.declared.search.Highest.{Highest}
 use Rattle.floors.proofs.Promises.{told_short, told_accepted, told_fails, told_none, search_promises}
 use Rattle.floors.proofs.search.Laws.{tells_found, tells_refusal as tells-unfound, answer_found, answer_refusal}
 use Rattle.paging.specs.PageCheck.{page_answer, page_output, page_after}
@@ -128,28 +126,33 @@ module _ (c s ls : List ℕ) (π : Profile) (out page : List ℕ) (v : Verdict)
 
 -- ---- burmelox_evaluate: t is the evaluation, r the answer, `after` what is stored
 
-module _ (c : List ℕ) (π : Profile) (x : List ℤ) (t : Evaluation) (e : tells t ≡ evaluation_of c π x) where
-  module _ (sheet : Sheet) (h : t ≡ Refused sheet) where
+module _ (c : List ℕ) (π : Profile) (x : List ℤ) (t : Result ℤ Sheet) (e : tells t ≡ evaluation_of c π x) where
+  module _ (sheet : Sheet) (h : t ≡ Err sheet) where
+    unvalued : says (Verdicts.Refused sheet) ≡ evaluation_answer c π x
+    unvalued = refusal_says sheet ∙ tells_refusal c π x sheet (rw h at e)
+
     pub refused_short : Bytes c → Short 65536 (says (Verdicts.Refused sheet))
-    refused_short b = rw (tells_refusal c π x t e sheet h) (evaluation_short c π x (omega arith) b)
+    refused_short b = rw unvalued (evaluation_short c π x (omega arith) b)
 
     pub refused_code : (r : ℕ) → r ≡ code_of (says (Verdicts.Refused sheet)) → r ≡ code_of (evaluation_answer c π x)
-    refused_code r er = er ∙ ap code_of (tells_refusal c π x t e sheet h)
+    refused_code r er = er ∙ ap code_of unvalued
 
     pub refused_value : (z : ℤ) → z ≡ told_value (evaluation_of c π x) z
     unfolding told_value
     refused_value z =
-        let q = tells_refusal c π x t e sheet h in
-        rw (failed_refusal c π x (failed (Verdicts.Refused sheet) _ q sheet refl))
+        let q = tells_refusal c π x sheet (rw h at e) in
+        rw (failed_refusal c π x (rw (← q) (refusal_fails sheet)))
 
-  module _ (z : ℤ) (h : t ≡ Value z) where
+  module _ (z : ℤ) (h : t ≡ Ok z) where
+    told_is : evaluation_of c π x ≡ value z
+    told_is = tells_value c π x z (rw h at e)
+
     pub given_code : 0 ≡ code_of (evaluation_answer c π x)
-    given_code =
-        sym (accepted_code _ _ refl 0 (evaluation_passed c π x (value_passed c π x z (tells_value c π x t e z h))))
+    given_code = sym (accepted_code _ _ refl 0 (evaluation_passed c π x (value_passed c π x z told_is)))
 
     pub given_value : (z' before : ℤ) → z' ≡ z → z' ≡ told_value (evaluation_of c π x) before
     unfolding told_value
-    given_value z' before ez = rw (tells_value c π x t e z h) ez
+    given_value z' before ez = rw told_is ez
 
 module _ (c : List ℕ) (π : Profile) (x : List ℤ) (bc : Bytes c) (r : ℕ) (before after : ℤ)
     (er : r ≡ code_of (evaluation_answer c π x)) (ev : after ≡ told_value (evaluation_of c π x) before) where
@@ -186,14 +189,14 @@ module _ (c s ls : List ℕ) (π : Profile) (lo hi : ℤ) (out : List ℕ) where
   abbrev told : Floors.Told
   told = search_of c s ls π lo hi (length out)
 
-  module _ (t : Searched) (lo' hi' : ℤ) (e : Floors.tells t ≡ search_of c s ls π lo' hi' (length out)) (el : lo' ≡ lo)
+  module _ (t : Result Highest Sheet) (lo' hi' : ℤ) (e : Floors.tells t ≡ search_of c s ls π lo' hi' (length out)) (el : lo' ≡ lo)
       (eh : hi' ≡ hi) where
     told_here : Floors.tells t ≡ told
     told_here = e ∙ rw (el, eh)
 
-    module _ (sheet : Sheet) (h : t ≡ Outcomes.Refused sheet) where
+    module _ (sheet : Sheet) (h : t ≡ Err sheet) where
       unfound : told ≡ Floors.refusal (says (Verdicts.Refused sheet))
-      unfound = tells-unfound t _ told_here sheet h
+      unfound = rw (refusal_says sheet) (tells-unfound t _ told_here sheet h)
 
       pub search_short : Bytes c → Bytes s → Short 65536 (says (Verdicts.Refused sheet))
       search_short bc bs =
@@ -211,18 +214,18 @@ module _ (c s ls : List ℕ) (π : Profile) (lo hi : ℤ) (out : List ℕ) where
       unfolding told_tried
       unfound_tried m = rw unfound
 
-    module _ (floor : ℤ) (tried k : ℕ) (h : t ≡ Outcomes.Found floor tried k) where
-      found : told ≡ Floors.found floor tried k
-      found = tells_found t _ told_here floor tried k h
+    module _ (a : Highest) (h : t ≡ Ok a) where
+      found : told ≡ Floors.found a.floor a.tried a.rows
+      found = tells_found t _ told_here a h
 
-      pub found_code : k ≡ code_of (answer_of told)
-      found_code = sym (accepted_code _ _ refl k (answer_found _ _ _ _ found))
+      pub found_code : a.rows ≡ code_of (answer_of told)
+      found_code = sym (accepted_code _ _ refl a.rows (answer_found _ _ _ _ found))
 
-      pub found_floor : (b before : ℤ) → b ≡ floor → b ≡ told_floor told before
+      pub found_floor : (b before : ℤ) → b ≡ a.floor → b ≡ told_floor told before
       unfolding told_floor
       found_floor b before eb = rw found eb
 
-      pub found_tried : (before : ℕ) → tried ≡ told_tried told before
+      pub found_tried : (before : ℕ) → a.tried ≡ told_tried told before
       unfolding told_tried
       found_tried before = rw found
 

@@ -1,7 +1,7 @@
 -- The steps of the functions that print.
 use mathlib.Core.Path.{◌≡◌, refl, sym, ◌∙◌, ap}
 use mathlib.Core.Bool.{false}
-use mathlib.Core.List.{List, [], ◌∷◌}
+use mathlib.Core.List.{List, ◌∷◌}
 use Prim.Native.Nat.{ℕ, zero, suc, ◌+◌, ◌-◌, ◌*◌, ◌<◌, ◌≤◌}
 use native.Mathlib.Omega.{arith}
 use lib.ListN.{length, get_or, set, take, drop, replicate, length-drop, length-replicate}
@@ -39,12 +39,6 @@ take_zeros (suc k) (suc most) h = ap (λ (l : List ℕ). 0 ∷ l) (take_zeros k 
 -- the check with no variable limited, under the full profile
 unlimited : (c s : List ℕ) → CheckUnlimited c s (no_limits (variables c)) full_profile
 unlimited c s = check_unlimited c s (no_limits (variables c)) full_profile (none_limited (variables c))
-
--- ---- said_variables
-
-pub none_said : (c : List ℕ) → length c ≡ 0 → 0 ≡ variables c
-none_said [] e = refl
-none_said (b ∷ c) e = absurd (omega arith)
 
 -- ---- print_sheets: n is the number of variables that was read, v the verdict, o the output afterwards
 

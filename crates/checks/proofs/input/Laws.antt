@@ -1,5 +1,5 @@
 -- Laws of the checks 27, 1 to 15, 24 and 25: what it says of three sheets that they are passed.
-use mathlib.Core.Path.{◌≡◌, refl}
+use mathlib.Core.Path.{◌≡◌, refl, sym}
 use mathlib.Core.List.{List}
 use Prim.Native.Nat.{ℕ, ◌<◌, ◌≤◌}
 use native.Mathlib.Omega.{arith}
@@ -7,14 +7,13 @@ use lib.IntN.{ℤ, nat_abs}
 use lib.ListN.{length}
 use borrow.Author.Tests.{le-ltb, ltb-false}
 use Rattle.integers.specs.Words.{Bytes}
-use Rattle.bounds.specs.Bounds.{greatest_weight}
+use Rattle.bounds.specs.Bounds.{greatest_weight, most_variables}
 use Rattle.bounds.specs.Profiles.{InRange, Larger}
 use Rattle.bounds.specs.declared.profiles.Profile.{Profile}
-use Rattle.answers.specs.Answers.{says, Passes, Short}
-use Rattle.answers.specs.declared.answers.Verdict.TheVariants.{Accepted}
-use Rattle.answers.proofs.answers.Laws.{number_then, passed_if, accepted_says, passes_if, passes_then, then_passes, then_on, passed, short_accepted, short_if, short_then}
+use Rattle.answers.specs.Answers.{accepted, Passes, Short}
+use Rattle.answers.proofs.answers.Laws.{number_then, accepted_passes, told_passed, passed_if, passes_if, passes_then, then_passes, then_on, short_accepted, short_if, short_then}
 use Rattle.points.proofs.points.Laws.{within_larger}
-use Rattle.sheets.specs.Layout.{variables, term_count, shape_of, LimitsRoom}
+use Rattle.sheets.specs.Layout.{variables, term_count, shape_of, ProofRoom, LimitsRoom}
 use Rattle.sheets.specs.ClaimSheet.{with_floor}
 use Rattle.sheets.proofs.claim_sheet.Laws.{floored_before}
 use Rattle.limits.specs.LimitsSheet.{limits_of}
@@ -47,12 +46,29 @@ module _ (c s : List ℕ) (π : Profile) (h : Passes (head_answer c s π)) where
       header_facts π.rows (variables c) s head_range.rows_within head_claim_facts.some
       head_claim_facts.room.few (passes_then _ _ h).1
 
+-- the same by the result of the checks
+module _ (c s : List ℕ) (π : Profile) (h : accepted 0 ≡ head_answer c s π) where
+  head : Passes (head_answer c s π)
+  head = told_passed _ h
+
+  pub claim_read : 8 ≤ length c
+  claim_read = omega (arith, (head_claim_facts c s π head).sized)
+
+  pub rows_room : ProofRoom s (shape_of s)
+  rows_room = (head_facts c s π head).1.room
+
+  pub profile_read : InRange π
+  profile_read = head_range c s π head
+
+  pub variables_few : (n : ℕ) → n ≡ variables c → n ≤ most_variables
+  variables_few n e = rw e (head_claim_facts c s π head).room.few
+
 -- ---- 11
 
 module _ (asked room : ℕ) where
-  pub room_enough : asked ≤ room → says (Accepted 0) ≡ room_answer asked room
+  pub room_enough : asked ≤ room → accepted 0 ≡ room_answer asked room
   unfolding room_answer
-  room_enough l = passed_if _ _ 11 _ (le-ltb room asked l) (accepted_says 0)
+  room_enough l = passed_if _ _ 11 _ (le-ltb room asked l) refl
 
   enough : Passes (room_answer asked room) → asked ≤ room
   unfolding room_answer
@@ -136,7 +152,7 @@ module _ (c s l : List ℕ) (π : Profile) (room : ℕ) where
   input_passes f k =
       then_passes _ _ (formed_head c s l π f)
       (then_passes _ _ (formed_limits c s l π f)
-      (then_passes _ _ (passed (Accepted 0) _ (room_enough (length s) room k) 0 refl) (formed_rows c s l π f)))
+      (then_passes _ _ (accepted_passes _ 0 (sym (room_enough (length s) room k))) (formed_rows c s l π f)))
 
   module _ (h : Passes (input_answer c s l π room)) where
     parts : Passes (limits_answer (variables c) l) × Passes (room_answer (length s) room)

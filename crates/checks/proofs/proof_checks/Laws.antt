@@ -1,11 +1,12 @@
 -- Laws of the checks 8 to 10 and 12 to 15: what it says of a proof that it passes them, that it passes them under
 -- another profile, and how short its answers are.
+use Rattle.std.proofs.Common.{None}
 use mathlib.Core.Path.{◌≡◌, refl, sym}
-use mathlib.Core.Bool.{Bool, true, false, ◌&&◌, false≢true, and-eq-true_iff}
+use mathlib.Core.Bool.{Bool, true, false, not, ◌&&◌, false≢true, and-eq-true_iff}
 use mathlib.Core.List.{List}
 use Prim.Native.Nat.{ℕ, ◌<◌, ◌≤◌}
 use native.Mathlib.Omega.{arith}
-use lib.Dec.{eqb, leb}
+use lib.Dec.{eqb, ltb, leb}
 use lib.IntN.{pos}
 use lib.ListN.{length, get_or}
 use borrow.Author.Tests.{leb-true, le-leb, eqb-true, not-false}
@@ -18,8 +19,7 @@ use Rattle.bounds.specs.declared.profiles.Profile.{Profile}
 use Rattle.bounds.proofs.bounds.Laws.{within_bound, bound_within}
 use Rattle.answers.specs.Answers.{Passes, Short}
 use Rattle.answers.specs.Searches.{first}
-use Rattle.answers.specs.declared.searches.Found.TheVariants.{Nothing}
-use Rattle.answers.proofs.answers.Laws.{passes_if, passes_at, if_on, at_on, accepted_passes, short_accepted, short_if, short_at}
+use Rattle.answers.proofs.answers.Laws.{passes_if, passes_at, at_on, accepted_passes, short_accepted, short_if, short_at}
 use Rattle.answers.proofs.searches.Laws.{none_wrong, all_right}
 use Rattle.points.specs.Points.{same_point, has_midpoint, exponents_within}
 use Rattle.points.proofs.points.Laws.{within_larger}
@@ -27,9 +27,7 @@ use Rattle.sheets.specs.Layout.{variables, row_count, shape_of, proof_length}
 use Rattle.sheets.specs.declared.layout.Shape.{Shape}
 use Rattle.rows.specs.ProofSheet.{v_of, w_of, triple_of}
 use Rattle.rows.specs.declared.proof_sheet.Triple.{Triple}
-use Rattle.checks.specs.ProofChecks.{proof_header_right, header_answer, q_or_r, any_beyond, row_breaks, rows_answer, Within, HeaderFacts, ProofFacts}
-use Rattle.checks.specs.declared.proof_checks.RowRule.{RowRule}
-use Rattle.checks.specs.declared.proof_checks.RowRule.TheVariants.{Exponent, Midpoint, Unused, Weight}
+use Rattle.checks.specs.ProofChecks.{proof_header_right, header_answer, q_or_r, any_beyond, exponent_breaks, midpoint_breaks, unused_breaks, weight_breaks, rows_answer, Within, HeaderFacts, ProofFacts}
 
 -- ---- what each check says that is passed
 
@@ -67,34 +65,34 @@ module _ (s : List ℕ) (sh : Shape) (i : ℕ) where
   abbrev pub Ends : ℕ → Type 0
   Ends limit = (exponents_within limit (v_of s sh i) ≡ true) × (exponents_within limit (w_of s sh i) ≡ true)
 
-  ends_facts : (limit : ℕ) → row_breaks (Exponent limit) s sh i ≡ false → Ends limit
-  unfolding row_breaks
+  ends_facts : (limit : ℕ) → exponent_breaks limit s sh i ≡ false → Ends limit
+  unfolding exponent_breaks
   ends_facts limit h = let z = nor _ _ h in (not-false _ z.0, not-false _ z.1)
 
   ends_larger : (limit larger : ℕ) → limit ≤ larger → Ends limit → Ends larger
   ends_larger limit larger l h = (within_larger limit larger l _ h.0, within_larger limit larger l _ h.1)
 
-  ends_break : (limit : ℕ) → Ends limit → row_breaks (Exponent limit) s sh i ≡ false
-  unfolding row_breaks
+  ends_break : (limit : ℕ) → Ends limit → exponent_breaks limit s sh i ≡ false
+  unfolding exponent_breaks
   ends_break limit h = rw (h.0, h.1)
 
-  whole_fact : row_breaks Midpoint s sh i ≡ false → has_midpoint (v_of s sh i) (w_of s sh i) ≡ true
-  unfolding row_breaks
+  whole_fact : midpoint_breaks s sh i ≡ false → has_midpoint (v_of s sh i) (w_of s sh i) ≡ true
+  unfolding midpoint_breaks
   whole_fact h = not-false _ h
 
-  unused_facts : row_breaks Unused s sh i ≡ false → same_point (v_of s sh i) (w_of s sh i) ≡ true
+  unused_facts : unused_breaks s sh i ≡ false → same_point (v_of s sh i) (w_of s sh i) ≡ true
       → ((triple_of s sh i).q ≡ pos 0) × ((triple_of s sh i).r ≡ pos 0)
-  unfolding row_breaks q_or_r
+  unfolding unused_breaks q_or_r
   unused_facts h e =
       let z = nor _ _ (nand (same_point (v_of s sh i) (w_of s sh i)) _ h e) in
       (abs_zero _ (eqb-true _ _ (not-false _ z.0)), abs_zero _ (eqb-true _ _ (not-false _ z.1)))
 
-  weights_fact : (limit : ℕ) → row_breaks (Weight limit) s sh i ≡ false → Within limit (triple_of s sh i)
-  unfolding row_breaks
+  weights_fact : (limit : ℕ) → weight_breaks limit s sh i ≡ false → Within limit (triple_of s sh i)
+  unfolding weight_breaks
   weights_fact limit h = none_beyond limit _ h
 
-  weights_break : (limit : ℕ) → Within limit (triple_of s sh i) → row_breaks (Weight limit) s sh i ≡ false
-  unfolding row_breaks
+  weights_break : (limit : ℕ) → Within limit (triple_of s sh i) → weight_breaks limit s sh i ≡ false
+  unfolding weight_breaks
   weights_break limit w = within_none limit _ w
 
 -- byte 1
@@ -165,21 +163,21 @@ module _ (limit n : ℕ) (s : List ℕ) (h : Passes (header_answer limit n s)) w
   pub header_under : (other : ℕ) → row_count s ≤ other → Passes (header_answer other n s)
   unfolding header_answer
   header_under other l =
-      let p₈ = passes_if _ 8 _ refl h in
-      let p₉ = passes_if _ 9 _ refl p₈.1 in
-      rw (if_on _ 8 _ p₈.0, header_other_limit limit other n s l header_right, if_on false 9 _ refl) p₉.1
+      let p₈ = passes_if (ltb (length s) 8) 8 _ refl h in
+      let p₉ = passes_if (not (proof_header_right limit n s)) 9 _ refl p₈.1 in
+      rw (p₈.0, header_other_limit limit other n s l header_right) p₉.1
 
 -- ---- 12 to 15 are passed exactly where each is
 
 module _ (s : List ℕ) (π : Profile) (sh : Shape) where
-  abbrev Unbroken : RowRule → Type 0
-  Unbroken rule = first (row_breaks rule s sh) sh.k ≡ Nothing
+  abbrev Unbroken : (List ℕ → Shape → ℕ → Bool) → Type 0
+  Unbroken breaks = first (breaks s sh) sh.k ≡ None
 
   record Rows : Type 0 where
-    ends : Unbroken (Exponent π.exponent)
-    whole : Unbroken Midpoint
-    unused : Unbroken Unused
-    weights : Unbroken (Weight π.weight)
+    ends : Unbroken (exponent_breaks π.exponent)
+    whole : Unbroken midpoint_breaks
+    unused : Unbroken unused_breaks
+    weights : Unbroken (weight_breaks π.weight)
 
   rows_parts : Passes (rows_answer s π sh) → Rows
   unfolding rows_answer
@@ -233,10 +231,10 @@ module _ (s : List ℕ) (π : Profile) (h : Passes (rows_answer s π (shape_of s
   rows_under ρ ends weights =
       parts_rows s ρ sh
       (record {
-        ends = sym (all_right (row_breaks _ s sh) _ (λ i m. ends_break s sh i _ (ends i m)));
+        ends = sym (all_right (exponent_breaks _ s sh) _ (λ i m. ends_break s sh i _ (ends i m)));
         whole = p.whole;
         unused = p.unused;
-        weights = sym (all_right (row_breaks _ s sh) _ (λ i m. weights_break s sh i _ (weights i m)));
+        weights = sym (all_right (weight_breaks _ s sh) _ (λ i m. weights_break s sh i _ (weights i m)));
       })
 
 -- ---- every number is document 01's, and an index is below a count that two bytes give

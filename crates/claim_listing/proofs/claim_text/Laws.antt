@@ -6,7 +6,6 @@ use native.Mathlib.Omega.{arith}
 use lib.ListN.{length, get_or, length-append}
 use Rattle.integers.specs.Words.{Bytes}
 use Rattle.integers.proofs.Tests.{never}
-use Rattle.bounds.specs.Bounds.{most_terms}
 use Rattle.bounds.specs.Profiles.{full_profile}
 use Rattle.answers.specs.Answers.{says, Short}
 use Rattle.answers.specs.declared.answers.Verdict.{Verdict}
@@ -27,13 +26,13 @@ use Rattle.listings.proofs.Listings.{listing_short}
 use Rattle.listings.proofs.Lines.{Line, entry_apart, as_many}
 use Rattle.listings.proofs.Same.{Same, same_byte, same_then, same_entries, same_exponents, same_word, same_whole}
 use Rattle.listings.proofs.exponents.Laws.{exponents_apart, exponents_labelled, exponents_inline, exponents_short}
-use Rattle.claim_listing.specs.ClaimText.{floor_fields, head_fields, point_fields, monomial_fields, term_fields, terms_text, claim_fields, FormedClaim}
+use Rattle.claim_listing.specs.ClaimText.{longest, head_fields, term_fields, terms_text, claim_fields, FormedClaim}
 
 -- ---- what is put after what
 
 pub claim_pieces : (c : List ℕ) → listing (claim_fields c)
     ≡ fields_text (head_fields c) ++ (terms_text c (variables c) (term_count c) ++ ascii "\n")
-unfolding claim_fields terms_text
+unfolding claim_fields
 claim_pieces c =
     let f = term_fields c (variables c) (term_count c) in
     rw (
@@ -47,7 +46,7 @@ claim_pieces c =
 
 module _ (c : List ℕ) (n t i : ℕ) where
   term_labelled : Labelled (term_fields c n t i)
-  unfolding term_fields monomial_fields point_fields
+  unfolding term_fields
   term_labelled = (
     is_label _ refl,
     (
@@ -57,15 +56,15 @@ module _ (c : List ℕ) (n t i : ℕ) where
   )
 
   term_line : Line i (term_fields c n t i)
-  unfolding term_fields monomial_fields point_fields
+  unfolding term_fields
   term_line = (refl, refl, (refl, exponents_inline (ascii " exponents") (term_point c n i) refl))
 
   term_some : term_fields c n t i ≡ [] → ⊥
-  unfolding term_fields monomial_fields point_fields
+  unfolding term_fields
   term_some e = never (cc)
 
 pub claim_labelled : (c : List ℕ) → Labelled (claim_fields c)
-unfolding claim_fields head_fields floor_fields
+unfolding claim_fields head_fields
 claim_labelled c = (
   is_label _ refl,
   (
@@ -82,7 +81,7 @@ claim_labelled c = (
 
 module _ (c : List ℕ) (n t : ℕ) (f : ClaimFacts c n t) (b : Bytes c) where
   term_short : (i : ℕ) → i < t → length (fields_text (term_fields c n t i)) ≤ 74
-  unfolding term_fields monomial_fields point_fields
+  unfolding term_fields
   term_short i l =
       simp (fields_more, count_put, length-append, point_bytes) (omega (
         arith,
@@ -95,7 +94,7 @@ module _ (c : List ℕ) (n t : ℕ) (f : ClaimFacts c n t) (b : Bytes c) where
 
 head_short : (c : List ℕ) → ClaimFacts c (variables c) (term_count c) → Bytes c
     → length (fields_text (head_fields c)) ≤ 44
-unfolding head_fields floor_fields
+unfolding head_fields
 head_short c f b =
     simp (fields_more, fields_none, count_put, length-append) (omega (
       arith,
@@ -104,8 +103,7 @@ head_short c f b =
       word_short (ascii "\nfloor ") (floor_of c) (floor_fits c b),
     ))
 
-pub claim_short : (c : List ℕ) → FormedClaim c → length (listing (claim_fields c)) ≤ 45 + 74 * most_terms
-unfolding terms_text
+pub claim_short : (c : List ℕ) → FormedClaim c → length (listing (claim_fields c)) ≤ longest
 claim_short c h =
     let f = claim_facts c full_profile h.passes in
     let b = h.bytes in
@@ -131,7 +129,7 @@ text_short c room v e b =
 
 module _ (c d : List ℕ) (n t : ℕ) (i : ℕ) (e : term_fields c n t i ≡ term_fields d n t i) where
   term_same : (coefficient_of c n t i ≡ coefficient_of d n t i) × (term_point c n i ≡ term_point d n i)
-  unfolding term_fields monomial_fields point_fields
+  unfolding term_fields
   term_same =
       let p = split_number (split_count e).1 in
       let long : length (term_point c n i) ≡ length (term_point d n i) = point_length c n i ∙ sym (point_length d n i) in
@@ -185,7 +183,7 @@ module _ (c d : List ℕ) (fc : FormedClaim c) (fd : FormedClaim d) (e : claim_f
         ≡ together (table (term_fields d (variables d) (term_count d)) (term_count d))
 
   heads : Heads
-  unfolding claim_fields head_fields floor_fields
+  unfolding claim_fields head_fields
   heads =
       let p = split_count e in
       let q = split_count p.1 in

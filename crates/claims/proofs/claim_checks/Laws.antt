@@ -1,5 +1,6 @@
 -- Laws of the checks 27 and 1 to 7: what it says of a claim that it passes them, that it passes them under
 -- another profile and with another floor, what 2 asks without a mask, and how short its answers are.
+use Rattle.std.proofs.Common.{None}
 use mathlib.Core.Path.{◌≡◌, refl, sym, ◌∙◌, fun_ext}
 use mathlib.Core.Bool.{Bool, true, false, not, ◌&&◌, true≢false, and-eq-true_iff}
 use mathlib.Core.List.{List}
@@ -19,42 +20,37 @@ use Rattle.bounds.specs.Profiles.{InRange, in_range}
 use Rattle.bounds.specs.declared.profiles.Profile.{Profile}
 use Rattle.bounds.proofs.bounds.Laws.{within_bound, bound_within}
 use Rattle.bounds.proofs.profiles.Laws.{range_facts, facts_range}
-use Rattle.answers.specs.Answers.{says, Passes, Short}
+use Rattle.answers.specs.Answers.{accepted, Passes, Short}
 use Rattle.answers.specs.Searches.{first}
-use Rattle.answers.specs.declared.answers.Verdict.{Verdict}
-use Rattle.answers.specs.declared.answers.Verdict.TheVariants.{Accepted}
-use Rattle.answers.specs.declared.searches.Found.TheVariants.{Nothing}
-use Rattle.answers.proofs.answers.Laws.{passes_if, passes_at, if_on, at_on, accepted_passes, passed, number_accepted, number_if, number_at, short_accepted, short_if, short_at}
+use Rattle.answers.proofs.answers.Laws.{passes_if, passes_at, if_on, at_on, accepted_passes, told_passed, number_accepted, number_if, number_at, short_accepted, short_if, short_at}
 use Rattle.answers.proofs.searches.Laws.{none_wrong, all_right}
 use Rattle.points.specs.Points.{same_point, rises_to, exponents_within}
 use Rattle.points.proofs.points.Laws.{same_eq, rises_self, rises_trans, within_larger}
 use Rattle.sheets.specs.Layout.{variables, term_count, mask_of, ClaimRoom, claim_length}
 use Rattle.sheets.specs.ClaimSheet.{floor_of, with_floor, term_point, coefficient_of}
 use Rattle.sheets.proofs.claim_sheet.Laws.{floored_length, floored_floor, floored_before, floored_point, floored_coefficient}
-use Rattle.claims.specs.ClaimChecks.{term_breaks, terms_answer, claim_answer, ClaimFacts, counts_right, mask_right, claim_header_right}
-use Rattle.claims.specs.declared.claim_checks.TermRule.{TermRule}
-use Rattle.claims.specs.declared.claim_checks.TermRule.TheVariants.{Coefficient, Exponent, Order}
+use Rattle.claims.specs.ClaimChecks.{coefficient_breaks, exponent_breaks, order_breaks, terms_answer, claim_answer, ClaimFacts, counts_right, mask_right, claim_header_right}
 
 -- ---- what each check says that is passed
 
 module _ (c : List ℕ) (n t i : ℕ) where
-  coefficient_fact : term_breaks (Coefficient greatest_weight) c n t i ≡ false
+  coefficient_fact : coefficient_breaks greatest_weight c n t i ≡ false
       → nat_abs (coefficient_of c n t i) ≤ greatest_weight
-  unfolding term_breaks
+  unfolding coefficient_breaks
   coefficient_fact h = within_bound greatest_weight _ (nor (eqb (nat_abs (coefficient_of c n t i)) 0) _ h).1
 
-  exponents_fact : (limit : ℕ) → term_breaks (Exponent limit) c n t i ≡ false
+  exponents_fact : (limit : ℕ) → exponent_breaks limit c n t i ≡ false
       → exponents_within limit (term_point c n i) ≡ true
-  unfolding term_breaks
+  unfolding exponent_breaks
   exponents_fact limit h = not-false _ h
 
   exponents_break : (limit : ℕ) → exponents_within limit (term_point c n i) ≡ true
-      → term_breaks (Exponent limit) c n t i ≡ false
-  unfolding term_breaks
+      → exponent_breaks limit c n t i ≡ false
+  unfolding exponent_breaks
   exponents_break limit h = rw h
 
-  rising_fact : term_breaks Order c n t (suc i) ≡ false → rises_to (term_point c n i) (term_point c n (suc i)) ≡ true
-  unfolding term_breaks
+  rising_fact : order_breaks c n t (suc i) ≡ false → rises_to (term_point c n i) (term_point c n (suc i)) ≡ true
+  unfolding order_breaks
   rising_fact h =
       let e : suc i - 1 ≡ i = omega arith in
       let z = nand (ltb 0 (suc i)) _ h (lt-ltb 0 (suc i) (omega arith)) in
@@ -80,8 +76,8 @@ header_room c h sized =
 -- ---- a claim passes them exactly where it passes each
 
 module _ (c : List ℕ) (π : Profile) where
-  abbrev Unbroken : TermRule → Type 0
-  Unbroken rule = first (term_breaks rule c (variables c) (term_count c)) (term_count c) ≡ Nothing
+  abbrev Unbroken : (List ℕ → ℕ → ℕ → ℕ → Bool) → Type 0
+  Unbroken breaks = first (breaks c (variables c) (term_count c)) (term_count c) ≡ None
 
   record Parts : Type 0 where
     ranged : not (in_range π) ≡ false
@@ -89,9 +85,9 @@ module _ (c : List ℕ) (π : Profile) where
     headed : not (claim_header_right c) ≡ false
     sized : not (eqb (length c) (claim_length (variables c) (term_count c))) ≡ false
     floored : beyond greatest_weight (floor_of c) ≡ false
-    coefficients : Unbroken (Coefficient greatest_weight)
-    exponents : Unbroken (Exponent π.exponent)
-    order : Unbroken Order
+    coefficients : Unbroken (coefficient_breaks greatest_weight)
+    exponents : Unbroken (exponent_breaks π.exponent)
+    order : Unbroken order_breaks
 
   parts : Passes (claim_answer c π) → Parts
   unfolding claim_answer terms_answer
@@ -175,7 +171,7 @@ module _ (c : List ℕ) (π : Profile) (h : Passes (claim_answer c π)) where
         sized = p.sized;
         floored = p.floored;
         coefficients = p.coefficients;
-        exponents = sym (all_right (term_breaks _ c _ _) _ (λ i l. exponents_break c _ _ i _ (keep i l)));
+        exponents = sym (all_right (exponent_breaks _ c _ _) _ (λ i l. exponents_break c _ _ i _ (keep i l)));
         order = p.order;
       })
 
@@ -188,11 +184,18 @@ header_unmasked c z = rw (z, zero-div (2 ^ variables c))
 -- ---- with another floor within its bounds the claim passes as well
 
 module _ (c : List ℕ) (b : ℤ) where
-  breaks_floored : (rule : TermRule) (n t : ℕ) → term_breaks rule (with_floor c b) n t ≡ term_breaks rule c n t
-  unfolding term_breaks
-  breaks_floored (Coefficient limit) n t = fun_ext (λ i. rw (floored_coefficient c b n t i))
-  breaks_floored (Exponent limit) n t = fun_ext (λ i. rw (floored_point c b n i))
-  breaks_floored Order n t = fun_ext (λ i. rw (floored_point c b n i, floored_point c b n (i - 1)))
+  coefficients_floored : (limit n t : ℕ)
+      → coefficient_breaks limit (with_floor c b) n t ≡ coefficient_breaks limit c n t
+  unfolding coefficient_breaks
+  coefficients_floored limit n t = fun_ext (λ i. rw (floored_coefficient c b n t i))
+
+  exponents_floored : (limit n t : ℕ) → exponent_breaks limit (with_floor c b) n t ≡ exponent_breaks limit c n t
+  unfolding exponent_breaks
+  exponents_floored limit n t = fun_ext (λ i. rw (floored_point c b n i))
+
+  order_floored : (n t : ℕ) → order_breaks (with_floor c b) n t ≡ order_breaks c n t
+  unfolding order_breaks
+  order_floored n t = fun_ext (λ i. rw (floored_point c b n i, floored_point c b n (i - 1)))
 
   header_floored : claim_header_right (with_floor c b) ≡ claim_header_right c
   unfolding claim_header_right counts_right mask_right
@@ -218,15 +221,15 @@ module _ (c : List ℕ) (b : ℤ) where
         floored =
             rw (floored_floor c b (ltb-false _ _ p.long) (fits_within b greatest_weight w (lit< tt)))
             (bound_within _ b w);
-        coefficients = rw (en, et, breaks_floored (Coefficient greatest_weight)) p.coefficients;
-        exponents = rw (en, et, breaks_floored (Exponent π.exponent)) p.exponents;
-        order = rw (en, et, breaks_floored Order) p.order;
+        coefficients = rw (en, et, coefficients_floored greatest_weight) p.coefficients;
+        exponents = rw (en, et, exponents_floored π.exponent) p.exponents;
+        order = rw (en, et, order_floored) p.order;
       })
 
--- of a claim that a verdict accepts
-module _ (c : List ℕ) (π : Profile) (v : Verdict) (e : says v ≡ claim_answer c π) (j : ℕ) (h : v ≡ Accepted j) where
+-- of a claim that passes them, by the result of the check
+module _ (c : List ℕ) (π : Profile) (h : accepted 0 ≡ claim_answer c π) where
   pub claim_passed : ClaimFacts c (variables c) (term_count c)
-  claim_passed = claim_facts c π (passed v _ e j h)
+  claim_passed = claim_facts c π (told_passed _ h)
 
   pub claim_long : 8 ≤ length c
   claim_long = omega (arith, claim_passed.sized)

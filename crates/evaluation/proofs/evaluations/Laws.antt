@@ -1,5 +1,6 @@
 -- Laws of evaluations: what checks tell, and what their answer is where a value is given or refused.
-use mathlib.Core.Path.{◌≡◌, refl, sym, ◌∙◌, ap}
+use Rattle.std.proofs.Common.{None, Ok, Err}
+use mathlib.Core.Path.{◌≡◌, refl, sym, ◌∙◌}
 use mathlib.Core.Bool.{false, not}
 use mathlib.Core.List.{List}
 use Prim.Native.Nat.{ℕ, ◌<◌, ◌≤◌}
@@ -10,11 +11,10 @@ use lib.ListN.{length}
 use Rattle.integers.specs.Words.{Bytes}
 use Rattle.integers.proofs.Tests.{never}
 use Rattle.bounds.specs.declared.profiles.Profile.{Profile}
-use Rattle.answers.specs.Answers.{Answer, accepted, says, blameless, Passes, Short}
+use Rattle.answers.specs.Answers as A
+use Rattle.answers.specs.Answers.{Answer, accepted, blameless, Passes, Short}
 use Rattle.answers.specs.Searches.{first}
 use Rattle.answers.specs.declared.answers.Sheet.{Sheet}
-use Rattle.answers.specs.declared.answers.Verdict.TheVariants as Verdicts
-use Rattle.answers.specs.declared.searches.Found.TheVariants.{Nothing}
 use Rattle.answers.proofs.answers.Laws.{passes_or_fails, passes_if, passes_at, passes_then, then_on, if_on, at_on, short_accepted, short_if, short_at, short_then}
 use Rattle.squares.specs.Sums.{value_at}
 use Rattle.sheets.specs.Layout.{variables, term_count}
@@ -23,8 +23,6 @@ use Rattle.claims.specs.ClaimChecks.{claim_answer}
 use Rattle.claims.proofs.claim_checks.Laws.{claim_short}
 use Rattle.evaluation.specs.Evaluations as Spec
 use Rattle.evaluation.specs.Evaluations.{refusal, tells, told_by, too_large, too_large_answer, evaluation_answer, evaluation_of}
-use Rattle.evaluation.specs.declared.evaluations.Evaluation.{Evaluation}
-use Rattle.evaluation.specs.declared.evaluations.Evaluation.TheVariants.{Value, Refused}
 
 -- ---- what checks with answer a tell; z is the value that is meant
 
@@ -62,7 +60,7 @@ module _ (c : List ℕ) (π : Profile) (x : List ℤ) where
   module _ (h : Passes (evaluation_answer c π x)) where
     -- what it says of 27 and 1 to 7, of 20 and of 21
     pub each_passed : Passes (claim_answer c π) × (not (eqb (length x) (variables c)) ≡ false)
-        × (first (too_large c (variables c) (term_count c) x) (term_count c) ≡ Nothing)
+        × (first (too_large c (variables c) (term_count c) x) (term_count c) ≡ None)
     unfolding evaluation_answer too_large_answer
     each_passed =
         let p = passes_then _ _ h in
@@ -87,11 +85,11 @@ module _ (c : List ℕ) (π : Profile) (x : List ℤ) where
   unfolding evaluation_of
   value_passed z h = (value_told _ _ z h).0
 
-  module _ (r : Evaluation) (e : tells r ≡ evaluation_of c π x) where
-    pub tells_value : (z : ℤ) → r ≡ Value z → evaluation_of c π x ≡ Spec.value z
-    unfolding tells
-    tells_value z h = rw (← e, h)
+  pub tells_value : (z : ℤ) → tells (Ok z) ≡ evaluation_of c π x → evaluation_of c π x ≡ Spec.value z
+  unfolding tells
+  tells_value z e = sym e
 
-    pub tells_refusal : (sheet : Sheet) → r ≡ Refused sheet → says (Verdicts.Refused sheet) ≡ evaluation_answer c π x
-    unfolding tells evaluation_of
-    tells_refusal sheet h = refusal_told _ _ _ (sym e ∙ ap tells h)
+  pub tells_refusal : (sheet : Sheet) → tells (Err sheet) ≡ evaluation_of c π x
+      → A.refusal sheet ≡ evaluation_answer c π x
+  unfolding tells evaluation_of
+  tells_refusal sheet e = refusal_told _ _ _ (sym e)

@@ -1,4 +1,5 @@
 -- Laws of the search: what is told, the floors of a right range, and that 16 to 19 decide on each of them.
+use Rattle.std.proofs.Common.{Result, Ok, Err}
 use mathlib.Core.Path.{◌≡◌, refl, sym, ◌∙◌, ap}
 use mathlib.Core.Bool.{false}
 use mathlib.Core.List.{List}
@@ -6,18 +7,19 @@ use Prim.Native.Nat.{ℕ, ◌<◌, ◌≤◌}
 use native.Mathlib.Omega.{arith}
 use lib.IntN.{ℤ, pos, nat_abs, ◌-ℤ◌}
 use lib.ListN.{length}
-use lib.Signed.{◌≤ℤ◌}
-use Rattle.integers.proofs.Integers.{ring, ints, by_le, read_eq, lt_z_false, le_lt_z, abs_difference, abs_between}
+use lib.Dec.{ltb}
+use lib.Signed.{lt_z, ◌≤ℤ◌}
+use Rattle.integers.proofs.Integers.{ring, ints, by_le, read_eq, lt_z_false, le_lt_z, abs_difference, difference_nonneg, abs_between}
 use Rattle.integers.proofs.Tests.{nor}
 use Rattle.integers.specs.Words.{Bytes}
-use Rattle.bounds.specs.Bounds.{greatest_weight, greatest_span}
+use Rattle.bounds.specs.Bounds.{greatest_weight, greatest_span, beyond}
 use Rattle.bounds.specs.declared.profiles.Profile.{Profile}
-use Rattle.bounds.proofs.bounds.Laws.{within_bound, bound_within}
-use Rattle.answers.specs.Answers.{Answer, accepted, says, blameless, Passes, Short}
+use Rattle.bounds.proofs.bounds.Laws.{within_bound, bound_within, over_nonneg}
+use Rattle.answers.specs.Answers as Answers
+use Rattle.answers.specs.Answers.{Answer, accepted, blameless, Passes, Short}
 use Rattle.answers.specs.Searches.{first}
 use Rattle.answers.specs.declared.answers.Sheet.{Sheet}
-use Rattle.answers.specs.declared.answers.Verdict.TheVariants as Verdicts
-use Rattle.answers.proofs.answers.Laws.{number_accepted, number_if, number_then, passes_then, passes_if, then_passes, passed, passed_if, accepted_says, short_accepted, short_if, short_then}
+use Rattle.answers.proofs.answers.Laws.{number_accepted, number_if, number_then, passes_then, passes_if, then_passes, told_passed, passed_if, short_accepted, short_if, short_then}
 use Rattle.answers.proofs.searches.Laws.{first_same}
 use Rattle.checks.specs.Input.{input_answer, WellFormed}
 use Rattle.checks.proofs.input.Laws.{range_formed, input_formed, input_passes, input_short, input_other}
@@ -27,19 +29,18 @@ use Rattle.sharing.proofs.shifts.Laws.{sheets_checked}
 use Rattle.judging.proofs.check.Laws.{floored_answer}
 use Rattle.floors.specs.Search.{Told, found, refusal, tells, answer_of, range_wrong, range_answer, floor_count, floor_after, accepts, refused_before, aim_after, passes_after, Searchable}
 use Rattle.floors.specs.Promises.{RightRange}
-use Rattle.floors.specs.declared.search.Searched.{Searched}
-use Rattle.floors.specs.declared.search.Searched.TheVariants.{Found, Refused}
+use Rattle.floors.specs.declared.search.Highest.{Highest}
 
 -- ---- what is told
 
-module _ (r : Searched) (t : Told) (e : tells r ≡ t) where
-  pub tells_found : (floor : ℤ) (tried k : ℕ) → r ≡ Found floor tried k → t ≡ found floor tried k
+module _ (r : Result Highest Sheet) (t : Told) (e : tells r ≡ t) where
+  pub tells_found : (h : Highest) → r ≡ Ok h → t ≡ found h.floor h.tried h.rows
   unfolding tells
-  tells_found floor tried k h = sym e ∙ rw h
+  tells_found h q = sym e ∙ rw q
 
-  pub tells_refusal : (x : Sheet) → r ≡ Refused x → t ≡ refusal (says (Verdicts.Refused x))
+  pub tells_refusal : (x : Sheet) → r ≡ Err x → t ≡ refusal (Answers.refusal x)
   unfolding tells
-  tells_refusal x h = sym e ∙ rw h
+  tells_refusal x q = sym e ∙ rw q
 
 module _ (t : Told) where
   pub answer_found : (floor : ℤ) (tried k : ℕ) → t ≡ found floor tried k → answer_of t ≡ accepted k
@@ -65,6 +66,12 @@ module _ (lo hi : ℤ) where
         high = within_bound greatest_weight hi b.1;
         span = lt_z_false (pos greatest_span) (hi -ℤ lo) d.1;
       }
+
+  -- the last test of 22 by the size of the difference
+  pub span_tested : lt_z hi lo ≡ false
+      → lt_z (pos greatest_span) (hi -ℤ lo) ≡ ltb greatest_span (nat_abs (hi -ℤ lo))
+  unfolding beyond
+  span_tested h = sym (over_nonneg greatest_span (hi -ℤ lo) (difference_nonneg (lt_z_false hi lo h)))
 
   pub range_right : RightRange lo hi → range_wrong lo hi ≡ false
   unfolding range_wrong
@@ -99,6 +106,9 @@ module _ (lo hi : ℤ) (r : RightRange lo hi) where
 
     pub after_within : nat_abs (floor_after hi i) ≤ greatest_weight
     after_within = abs_between greatest_weight after_low after_high r.low r.high
+
+pub range_few : (lo hi : ℤ) → range_wrong lo hi ≡ false → nat_abs (hi -ℤ lo) ≤ greatest_span
+range_few lo hi h = span_few lo hi (right_range lo hi h)
 
 -- ---- sheets and a range that pass all checks before 16
 
@@ -142,7 +152,7 @@ module _ (c s ls : List ℕ) (π : Profile) (lo hi : ℤ) (room : ℕ) where
   unfolding range_answer
   range_passes f l r =
       then_passes _ _ (input_passes c s ls π room f l)
-      (passed (Verdicts.Accepted 0) _ (passed_if (Verdicts.Accepted 0) _ 22 _ r (accepted_says 0)) 0 refl)
+      (told_passed _ (passed_if (Answers.accepted 0) _ 22 _ r refl))
 
   pub range_short : {limit : ℕ} → 27 < limit → Bytes c → Bytes s → Short limit (range_answer c s ls π lo hi room)
   unfolding range_answer

@@ -1,4 +1,5 @@
 -- Laws of trials: from wherever they are begun, none of the tests fails exactly where 16 to 19 are passed.
+use Rattle.std.proofs.Common.{Some, None}
 use mathlib.Core.Path.{◌≡◌, sym, ◌∙◌}
 use mathlib.Core.Bool.{false, not, true≢false}
 use mathlib.Core.List.{List}
@@ -8,7 +9,6 @@ use native.Mathlib.Omega.{arith}
 use borrow.Author.Tests.{lt-ltb, le-ltb, not-false}
 use Rattle.answers.specs.Answers.{blameless, Passes}
 use Rattle.answers.specs.Searches.{first}
-use Rattle.answers.specs.declared.searches.Found.TheVariants.{At, Nothing}
 use Rattle.answers.proofs.answers.Laws.{passes_or_fails, accepted_passes}
 use Rattle.answers.proofs.searches.Laws.{none_wrong, first_inside}
 use Rattle.sheets.specs.Layout.{row_count}
@@ -85,12 +85,12 @@ module _ (limit : ℕ) (c s : List ℕ) (a : Aim) where
 
   -- from any of them on
   module _ (from : ℕ) (inside : from < test_count c s) where
-    pub cycle_passed : first (fails_from limit c s a from) (test_count c s) ≡ Nothing → Passes (weighed_answer limit c s a)
+    pub cycle_passed : first (fails_from limit c s a from) (test_count c s) ≡ None → Passes (weighed_answer limit c s a)
     unfolding fails_from
     cycle_passed h =
         none_fails (rotated_all (test_count c s) from inside (λ j. fails limit c s a j ≡ false) (none_wrong _ _ h))
 
-    pub cycle_failed : (i : ℕ) → first (fails_from limit c s a from) (test_count c s) ≡ At i
+    pub cycle_failed : (i : ℕ) → first (fails_from limit c s a from) (test_count c s) ≡ Some i
         → blameless (weighed_answer limit c s a) ≡ false
     unfolding fails_from
     cycle_failed i h =

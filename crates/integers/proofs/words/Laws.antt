@@ -61,7 +61,8 @@ whole : (u : ℕ) → u < 4294967296 → u % 256 + u / 256 % 256 * 256 + u / 655
 whole u h = omega arith
 
 -- the same bytes are the same word
-pub same_bits : (s t : List ℕ) (p : ℕ) → ((k : ℕ) → k < 4 → get_or s (p + k) 0 ≡ get_or t (p + k) 0) → u32_at s p ≡ u32_at t p
+pub same_bits : (s t : List ℕ) (p : ℕ) → ((k : ℕ) → k < 4 → get_or s (p + k) 0 ≡ get_or t (p + k) 0)
+    → u32_at s p ≡ u32_at t p
 unfolding u32_at
 same_bits s t p e =
     let e0 : get_or s p 0 ≡ get_or t p 0 = rw add-zero at (e 0 (omega arith)) in

@@ -1,8 +1,8 @@
--- Laws of judgements: rows pass 17 to 19 exactly where they are within the limit and hold; the loop over all rows.
-use mathlib.Core.Path.{◌≡◌, refl, sym, ◌∙◌}
+-- Laws of judgements: rows pass 17 to 19 exactly where they are within the limit and hold.
+use Rattle.std.proofs.Common.{None}
+use mathlib.Core.Path.{◌≡◌, refl, sym}
 use mathlib.Core.Bool.{Bool, true, false, cond, ◌||◌, false≢true}
-use Prim.Native.Nat.{ℕ, ◌+◌, ◌≤◌, ◌<◌}
-use native.Mathlib.Numerals.{add-one}
+use Prim.Native.Nat.{ℕ, ◌≤◌, ◌<◌}
 use native.Mathlib.Omega.{arith}
 use lib.Dec.{eqb}
 use lib.IntN.{ℤ, pos, ◌*ℤ◌}
@@ -12,52 +12,22 @@ use Rattle.integers.proofs.Integers.{lt_z_false, le_lt_z}
 use Rattle.integers.proofs.Tests.{never}
 use Rattle.bounds.specs.Bounds.{beyond}
 use Rattle.bounds.proofs.bounds.Laws.{within_bound, bound_within}
-use Rattle.answers.specs.Answers.{says, accepted, Passes, Short}
+use Rattle.answers.specs.Answers.{accepted, Passes, Short}
 use Rattle.answers.specs.Searches.{first}
-use Rattle.answers.specs.declared.answers.Verdict.{Verdict}
-use Rattle.answers.specs.declared.answers.Verdict.TheVariants.{Accepted}
-use Rattle.answers.specs.declared.searches.Found.TheVariants.{Nothing}
-use Rattle.answers.proofs.answers.Laws.{passes_at, passed_at, accepted_says, short_accepted, short_at}
-use Rattle.answers.proofs.searches.Laws.{first_start, first_more, none_wrong, all_right}
+use Rattle.answers.proofs.answers.Laws.{passes_at, passed_at, short_accepted, short_at}
+use Rattle.answers.proofs.searches.Laws.{none_wrong, all_right}
 use Rattle.squares.specs.Rows.{Row}
 use Rattle.squares.specs.Rows as Formal
 use Rattle.squares.specs.declared.rows.Weights.{Weights}
 use Rattle.squares.specs.declared.rows.Weights.TheVariants.{Pair, Lone}
-use Rattle.rows.specs.ProofSheet.{triple_for, by_value}
+use Rattle.rows.specs.ProofSheet.{triple_for}
 use Rattle.rows.specs.declared.proof_sheet.Triple.{Triple}
-use Rattle.rows.specs.declared.proof_sheet.Row as Value
-use Rattle.rows.proofs.proof_sheet.Laws.{for_lone, for_pair, value_weights}
+use Rattle.rows.proofs.proof_sheet.Laws.{for_lone, for_pair}
 use Rattle.checks.specs.ProofChecks.{any_beyond, Within}
 use Rattle.checks.proofs.proof_checks.Laws.{none_beyond, within_none}
-use Rattle.judgements.specs.Judgements.{negative, indefinite, judge_pair, judge_lone, judgement_of, number_of, judged_as, noted, firsts_to, judged_answer}
-use Rattle.judgements.specs.declared.judgements.Firsts.{Firsts}
+use Rattle.judgements.specs.Judgements.{negative, indefinite, judge_pair, judge_lone, judgement_of, number_of, judged_as, firsts_to, judged_answer}
 use Rattle.judgements.specs.declared.judgements.Judgement.{Judgement}
 use Rattle.judgements.specs.declared.judgements.Judgement.TheVariants.{Holds, Beyond, Negative, Indefinite}
-
--- ---- all rows, one after another
-
-module _ (limit : ℕ) (row : ℕ → Row) where
-  pub firsts_start : record { beyond = Nothing; negative = Nothing; indefinite = Nothing } ≡ firsts_to limit row 0
-  unfolding firsts_to
-  firsts_start = rw (first_start, first_start, first_start)
-
-  pub firsts_next : (i : ℕ) (f g : Firsts) (j : Judgement) → f ≡ firsts_to limit row i
-      → j ≡ judgement_of limit (row i).weights → g ≡ noted f j i → g ≡ firsts_to limit row (i + 1)
-  unfolding firsts_to noted judged_as
-  firsts_next i f g j ef ej eg = eg ∙ rw (ef, ej, add-one, first_more, first_more, first_more)
-
-module _ (limit : ℕ) (row : ℕ → Row) (f : Firsts) where
-  pub firsts_end : (i k : ℕ) → f ≡ firsts_to limit row i → k ≤ i → i ≤ k → f ≡ firsts_to limit row k
-  firsts_end i k h l m = let q : i ≡ k = omega arith in rw q at h
-
-  pub judged_is : (k m : ℕ) (v : Verdict) → says v ≡ judged_answer f k → f ≡ firsts_to limit row k → k ≡ m
-      → says v ≡ judged_answer (firsts_to limit row m) m
-  judged_is k m v ev ef ek = ev ∙ rw (ef, ek)
-
--- a row by value is judged as the row
-pub row_judged : (limit : ℕ) (row : Row) (a : Value.Row) (j : Judgement) → a ≡ by_value row
-    → j ≡ judgement_of limit a.weights → j ≡ judgement_of limit row.weights
-row_judged limit row a j ea ej = ej ∙ rw (value_weights _ a ea)
 
 -- whether it holds, by its judgement
 pub holds_judged_as : (limit : ℕ) (row : ℕ → Row) (i : ℕ) (j : Judgement) → j ≡ judgement_of limit (row i).weights
@@ -162,12 +132,11 @@ module _ (limit : ℕ) (row : ℕ → Row) (k : ℕ) where
   unfolding judged_answer firsts_to
   holds_accepted h =
       sym
-      (passed_at (Accepted k) Nothing _ 17 _ (none 17 (ne_eqb 0 17 (λ q. omega arith))) refl
-      (passed_at (Accepted k) Nothing _ 18 _ (none 18 (ne_eqb 0 18 (λ q. omega arith))) refl
-      (passed_at (Accepted k) Nothing _ 19 _ (none 19 (ne_eqb 0 19 (λ q. omega arith))) refl (accepted_says k))))
-      ∙ accepted_says k
+      (passed_at _ None _ 17 _ (none 17 (ne_eqb 0 17 (λ q. omega arith))) refl
+      (passed_at _ None _ 18 _ (none 18 (ne_eqb 0 18 (λ q. omega arith))) refl
+      (passed_at _ None _ 19 _ (none 19 (ne_eqb 0 19 (λ q. omega arith))) refl refl)))
     where
-      none : (number : ℕ) → eqb 0 number ≡ false → Nothing ≡ first (judged_as number limit row) k
+      none : (number : ℕ) → eqb 0 number ≡ false → None ≡ first (judged_as number limit row) k
       none number z = all_right _ k (λ i l. not_judged number i z (h i l))
 
   pub judged_accepted : ((i : ℕ) → i < k → Within limit (triple_for (row i).weights) × Formal.Holds (row i).weights)

@@ -1,16 +1,15 @@
 -- The steps of the whole check.
-use mathlib.Core.Path.{◌≡◌, ◌∙◌}
+use mathlib.Core.Path.{◌≡◌, sym, ◌∙◌}
 use mathlib.Core.List.{List, ◌++◌}
 use Prim.Native.Nat.{ℕ, ◌≤◌}
 use lib.ListN.{length, drop}
 use Rattle.integers.specs.Words.{Bytes}
 use Rattle.bounds.specs.Bounds.{greatest_weight}
 use Rattle.bounds.specs.declared.profiles.Profile.{Profile}
-use Rattle.answers.specs.Answers.{says, Passes}
+use Rattle.answers.specs.Answers.{Answer, accepted, refusal, says, Passes}
 use Rattle.answers.specs.declared.answers.Sheet.{Sheet}
 use Rattle.answers.specs.declared.answers.Verdict.{Verdict}
-use Rattle.answers.specs.declared.answers.Verdict.TheVariants.{Accepted, Refused}
-use Rattle.answers.proofs.answers.Laws.{then_refused, then_passed, passed, failed, accepted_numbers}
+use Rattle.answers.proofs.answers.Laws.{then_refused, then_passed, told_passed, told_failed, accepted_passes, accepted_numbers}
 use Rattle.sheets.specs.Layout.{variables, LimitsRoom}
 use Rattle.checks.specs.Input.{input_answer, WellFormed}
 use Rattle.checks.proofs.input.Laws.{range_formed, room_formed, input_formed}
@@ -24,16 +23,16 @@ use Rattle.judging.specs.Check.{targets_of, check_answer, output_of}
 use Rattle.judging.specs.Promises.{LongEnough, CheckPromises}
 use Rattle.judging.proofs.Promises.{accepted_enough, accepted_light, accepted_rows, check_promises}
 
--- ---- check: v is the verdict on 27, 1 to 15, 24 and 25
+-- ---- judged: what the checks 27, 1 to 15, 24 and 25 say
 
-module _ (c s l : List ℕ) (π : Profile) (room : ℕ) (v : Verdict) (e : says v ≡ input_answer c s l π room) where
-  pub check_input : (x : Sheet) → v ≡ Refused x → says v ≡ check_answer c s l π room
+module _ (c s l : List ℕ) (π : Profile) (room : ℕ) where
+  pub input_refused : (x : Sheet) → refusal x ≡ input_answer c s l π room → refusal x ≡ check_answer c s l π room
   unfolding check_answer
-  check_input x h = then_refused v _ e x h _
+  input_refused x h = then_refused _ x h _
 
-  module _ (j : ℕ) (h : v ≡ Accepted j) where
+  module _ (h : accepted 0 ≡ input_answer c s l π room) where
     formed : WellFormed c s l π
-    formed = input_formed c s l π room (passed v _ e j h)
+    formed = input_formed c s l π room (told_passed _ h)
 
     pub claim_read : 8 ≤ length c
     claim_read = claim_eight c s _ (sheets_checked c s l π formed)
@@ -47,46 +46,42 @@ module _ (c s l : List ℕ) (π : Profile) (room : ℕ) (v : Verdict) (e : says 
     pub limits_read : LimitsRoom l (variables c)
     limits_read = room_formed c s l π formed
 
-    -- a is the aim that was read, r the verdict on 16 to 19
+    -- a is the aim that was read, `said` what 16 to 19 say
     module _ (a : Aim) (ea : a ≡ aim_of c s l) where
       pub sheets_read : CheckedSheets c s a
       sheets_read = rw ea (sheets_checked c s l π formed)
 
-      pub check_weighed : (r : Verdict) → says r ≡ weighed_answer π.weight c s a → says r ≡ check_answer c s l π room
+      pub check_weighed : (said : Answer) → said ≡ weighed_answer π.weight c s a → said ≡ check_answer c s l π room
       unfolding check_answer
-      check_weighed r er = then_passed v _ e j h r _ (rw ea at er)
+      check_weighed said e = then_passed _ h said _ (rw ea at e)
 
-      pub writable : (r : Verdict) (k : ℕ) → says r ≡ weighed_answer π.weight c s a → r ≡ Accepted k → (out : List ℕ)
-          → length out ≡ room → Writable c s a out
+      pub writable : (k : ℕ) → accepted k ≡ weighed_answer π.weight c s a → (out : List ℕ) → length out ≡ room
+          → Writable c s a out
       unfolding targets_of
-      writable r k er hr out eo =
-          let passes = passed r _ (check_weighed r er) k hr in
+      writable k e out eo =
+          let passes = accepted_passes _ k (sym (check_weighed (accepted k) e)) in
           record {
             sheets = sheets_read;
             light = rw ea (accepted_light c s l π room passes);
             room = rw eo (accepted_enough c s l π room passes);
           }
 
--- ---- v is the verdict, o the output afterwards
+-- ---- o is the output afterwards
 
-module _ (c s l : List ℕ) (π : Profile) (out : List ℕ) (v : Verdict)
-    (e : says v ≡ check_answer c s l π (length out)) where
-  pub promises : Bytes s → (o : List ℕ) → o ≡ output_of c s l π out
+module _ (c s l : List ℕ) (π : Profile) (out : List ℕ) where
+  pub refused_output : (x : Sheet) → refusal x ≡ check_answer c s l π (length out) → out ≡ output_of c s l π out
+  unfolding output_of
+  refused_output x h = rw (told_failed _ x h)
+
+  pub accepted_output : (k : ℕ) → accepted k ≡ check_answer c s l π (length out) → (a : Aim) → a ≡ aim_of c s l
+      → (o : List ℕ) → o ≡ exact_proof (target_of c a) s ++ drop (length s) out → o ≡ output_of c s l π out
+  unfolding output_of targets_of
+  accepted_output k h a ea o eo = rw (accepted_passes _ k (sym h)) (rw ea at eo)
+
+  -- v is the verdict
+  pub promises : (v : Verdict) → says v ≡ check_answer c s l π (length out) → Bytes s → (o : List ℕ)
+      → o ≡ output_of c s l π out
       → CheckPromises c s l π out (LongEnough s out) (Passes (says v)) (says v).value o
-  promises =
+  promises v e =
       check_promises c s l π out _ _ _ (λ r. r) (λ h. rw e at h, λ h. rw e h)
       (λ h. (accepted_numbers _ _ (e ∙ accepted_rows c s l π (length out) h)).1)
-
-  module _ (x : Sheet) (h : v ≡ Refused x) where
-    pub refused_output : out ≡ output_of c s l π out
-    unfolding output_of
-    refused_output = rw (failed v _ e x h)
-
-  module _ (k : ℕ) (h : v ≡ Accepted k) (a : Aim) (ea : a ≡ aim_of c s l) where
-    passes : Passes (check_answer c s l π (length out))
-    passes = passed v _ e k h
-
-    pub accepted_output : (o : List ℕ) → o ≡ exact_proof (target_of c a) s ++ drop (length s) out
-        → o ≡ output_of c s l π out
-    unfolding output_of targets_of
-    accepted_output o eo = rw passes (rw ea at eo)

@@ -1,14 +1,14 @@
 -- Laws of what the limits add: how large it is, and that it is what their sum weighs at a point.
 use mathlib.Core.Path.{◌≡◌, refl, sym, ◌∙◌}
 use mathlib.Core.Bool.{Bool, true, false, cond}
-use mathlib.Core.Logic.{◌⊎◌, inl, inr}
+use mathlib.Core.Logic.{inl, inr}
 use Prim.Native.Nat.{ℕ, zero, suc, ◌*◌, ◌^◌, ◌<◌, ◌≤◌}
-use native.Mathlib.Nat.{mul-le-mul, pow-zero, pow-suc}
+use native.Mathlib.Nat.{mul-le-mul, pow-le-pow_left, pow-le-pow_right}
 use native.Mathlib.Omega.{arith}
 use lib.Dec.{eqb}
 use lib.IntN.{ℤ, pos, neg_ℤ, nat_abs, ◌+ℤ◌, +ℤ_idl, +ℤ_idr}
 use lib.ListN.{length, replicate, length-replicate}
-use lib.Pow.{pow_pos, pow-add}
+use lib.Pow.{pow_pos}
 use borrow.Author.Tests.{eq-eqb, ne_eqb, eqb-true}
 use Rattle.integers.proofs.Integers.{abs_add, abs_neg}
 use Rattle.bounds.specs.Bounds.{greatest_limit, greatest_multiplier}
@@ -28,34 +28,21 @@ use Rattle.limits.proofs.limit_checks.Laws.{power_some}
 
 -- ---- powers of L
 
-pub power_two : (b : ℕ) → b * b ≡ b ^ 2
-power_two b =
-    let one : b ^ 1 ≡ b = pow-suc b 0 ∙ rw (pow-zero b) (omega arith) in
-    sym (pow-suc b 1 ∙ rw one)
-
-pub power_four : (b : ℕ) → b * b * (b * b) ≡ b ^ 4
-power_four b = sym (pow-add b 2 2 ∙ rw (← (power_two b)))
-
-pub square_small : (b : ℕ) → b ≤ greatest_limit → b * b ≤ 2 ^ 20
-square_small b h = omega (arith, mul-le-mul h h)
-
-pub fourth_small : (b : ℕ) → b ≤ greatest_limit → b * b * (b * b) ≤ 2 ^ 40
-fourth_small b h = mul-le-mul {n₂ = 2 ^ 20} (square_small b h) (square_small b h)
+pub power_small : (b e : ℕ) → b ≤ greatest_limit → e ≤ 4 → b ^ e ≤ 2 ^ 40
+power_small b e h k =
+    let low : b ^ e ≤ greatest_limit ^ e = pow-le-pow_left h e in
+    let high : greatest_limit ^ e ≤ greatest_limit ^ 4 = pow-le-pow_right (omega arith) k in
+    omega arith
 
 module _ (l : Limit) (h : IsLimited l) where
-  raised_small : l.bound ^ l.power ≤ 2 ^ 40
-  raised_small = go h.right_power
-    where
-      go : (l.power ≡ 2) ⊎ (l.power ≡ 4) → l.bound ^ l.power ≤ 2 ^ 40
-      go (inl e) = rw (e, ← (power_two l.bound)) (omega (arith, square_small l.bound h.bound_within))
-      go (inr e) = rw (e, ← (power_four l.bound)) (fourth_small l.bound h.bound_within)
-
   pub fall_small : l.multiplier * l.bound ^ l.power ≤ 2 ^ 56
-  fall_small = mul-le-mul {n₂ = greatest_multiplier} h.multiplier_within raised_small
+  fall_small =
+      mul-le-mul {n₂ = greatest_multiplier} h.multiplier_within
+      (power_small l.bound l.power h.bound_within (power_some l h).1)
 
 -- ---- how large it is
 
-adds_small : (l : Limit) (i key : ℕ) → RightLimit l → nat_abs (limit_adds l i key) ≤ 2 ^ 56
+pub adds_small : (l : Limit) (i key : ℕ) → RightLimit l → nat_abs (limit_adds l i key) ≤ 2 ^ 56
 unfolding limit_adds
 adds_small l i key (inl u) = rw (eq-eqb l.power 0 u.power_none) (omega arith)
 adds_small l i key (inr h) =

@@ -1,7 +1,7 @@
 -- Laws of the checks 24 and 25: how large a power is, the test of a limit and its words, what it says of a sheet that
 -- it passes them, and how short their answers are.
 use mathlib.Core.Path.{◌≡◌, refl, sym, ◌∙◌}
-use mathlib.Core.Bool.{true, false, and-eq-true_iff}
+use mathlib.Core.Bool.{Bool, true, false, not, and-eq-true_iff}
 use mathlib.Core.List.{List}
 use mathlib.Core.Logic.{◌⊎◌, inl, inr, ◌↔◌}
 use Prim.Native.Nat.{ℕ, ◌<◌, ◌≤◌}
@@ -10,7 +10,8 @@ use native.Mathlib.Omega.{arith}
 use lib.ListN.{length}
 use borrow.Author.Tests.{eq-eqb, ne_eqb, eqb-true, le-leb, leb-true, not-false}
 use Rattle.bounds.specs.Bounds.{most_variables}
-use Rattle.answers.specs.Answers.{Passes, Short}
+use Rattle.answers.specs.Answers.{accepted, refuse_at, Passes, Short}
+use Rattle.answers.specs.Searches.{first}
 use Rattle.answers.proofs.answers.Laws.{number_accepted, number_if, number_at, passes_if, passes_at, if_on, at_on, accepted_passes, short_accepted, short_if, short_at}
 use Rattle.answers.proofs.searches.Laws.{none_wrong, all_right}
 use Rattle.squares.specs.declared.limits.Limit.{Limit}
@@ -94,6 +95,10 @@ module _ (l : Limit) where
       go (yes z) = unlimited_means z
       go (no d) = limited_means d
 
+  -- r is the test that finds a fault
+  pub limit_says : (r : Bool) → r ≡ not (limit_right l) → (r ≡ false) ↔ RightLimit l
+  limit_says r e = (λ h. limit_means.0 (not-false _ (sym e ∙ h)), λ h. e ∙ rw (limit_means.1 h))
+
 -- ---- a sheet that passes 24 and 25
 
 pub shaped_room : (n : ℕ) (l : List ℕ) → limits_shaped n l ≡ true → n ≤ most_variables → LimitsRoom l n
@@ -115,7 +120,9 @@ unfolding limits_answer limit_breaks
 limits_right n l h = record { right = λ i. go i (dec_lt i n) }
   where
     passed : (i : ℕ) → i < n → limit_breaks l n i ≡ false
-    passed = none_wrong _ n (passes_at _ 25 _ refl (passes_if _ 24 _ refl h).1).0
+    passed =
+        let later = refuse_at (first (limit_breaks l n) n) 25 (accepted 0) in
+        none_wrong _ n (passes_at _ 25 _ refl (passes_if (not (limits_shaped n l)) 24 later refl h).1).0
 
     go : (i : ℕ) → Dec (i < n) → RightLimit (limit_in (limits_of l n) i)
     go i (yes k) = rw (limit_read l n i k) ((limit_means (limit_of l n i)).0 (not-false _ (passed i k)))

@@ -2,43 +2,50 @@
 -- that limits no variable.
 use mathlib.Core.Path.{◌≡◌, refl, ◌∙◌}
 use mathlib.Core.List.{List, ◌∷◌}
-use Prim.Native.Nat.{ℕ, zero, suc, ◌+◌, ◌*◌, ◌<◌, ◌≤◌}
+use Prim.Native.Nat.{ℕ, zero, suc, ◌+◌, ◌-◌, ◌*◌, ◌<◌, ◌≤◌}
 use native.Mathlib.Decide.{dec_lt}
 use native.Mathlib.Omega.{arith}
-use lib.ListN.{length, get_or, replicate, length-replicate}
+use lib.ListN.{length, get_or, replicate, length-replicate, get_or-append}
+use lib.Seq.{get_or-append_right}
 use Rattle.integers.specs.Words.{u16_at, u32_at}
 use Rattle.integers.proofs.words.Laws.{u32_bytes}
-use Rattle.points.proofs.points.Laws.{zeros_get, padded_get, padded_past}
+use Rattle.bounds.specs.Bounds.{most_variables}
+use Rattle.points.specs.Lists.{table}
+use Rattle.points.proofs.Lists.{table_length, table_get}
+use Rattle.points.proofs.points.Laws.{zeros_get}
 use Rattle.squares.specs.Domains.{Unlimited}
 use Rattle.sheets.specs.Layout.{variables, power_at, bound_at, multiplier_at, limits_length}
-use Rattle.limits.specs.LimitsSheet.{limit_of, limits_of, limit_in, no_limits}
+use Rattle.limits.specs.LimitsSheet.{limit_of, unlimited, limits_of, limit_in, no_limits}
 use Rattle.limits.specs.LimitChecks.{IsUnlimited}
 
 module _ (l : List ℕ) (n i : ℕ) where
   -- its fields, where they stand
   pub power_byte : (limit_of l n i).power ≡ get_or l (power_at i) 0
-  unfolding limit_of
   power_byte = refl
 
   pub bound_word : (limit_of l n i).bound ≡ u16_at l (bound_at i)
-  unfolding limit_of
   bound_word = refl
 
   pub multiplier_word : (limit_of l n i).multiplier ≡ u32_at l (multiplier_at n i)
-  unfolding limit_of
   multiplier_word = refl
 
   pub limit_read : i < n → limit_in (limits_of l n) i ≡ limit_of l n i
-  unfolding limit_in limits_of
-  limit_read k = rw (padded_get _ n i k, padded_get _ n i k, padded_get _ n i k)
+  unfolding limits_of
+  limit_read k =
+      get_or-append (table (limit_of l n) n) _ unlimited i (rw table_length k) ∙ table_get (limit_of l n) unlimited n i k
+
+  past : n ≤ i → limit_in (limits_of l n) i ≡ unlimited
+  unfolding limits_of
+  past k =
+      get_or-append_right (table (limit_of l n) n) _ i unlimited (rw table_length k) ∙ rest_get (most_variables - n) _
+    where
+      rest_get : (m j : ℕ) → get_or (replicate m unlimited) j unlimited ≡ unlimited
+      rest_get zero j = refl
+      rest_get (suc m) zero = refl
+      rest_get (suc m) (suc j) = rest_get m j
 
   pub limit_past : n ≤ i → IsUnlimited (limit_in (limits_of l n) i)
-  unfolding limit_in limits_of
-  limit_past k = record {
-    power_none = padded_past _ n i k;
-    bound_none = padded_past _ n i k;
-    multiplier_none = padded_past _ n i k;
-  }
+  limit_past k = rw (past k) (record { power_none = refl; bound_none = refl; multiplier_none = refl })
 
 -- ---- the sheet that limits no variable
 
@@ -61,7 +68,6 @@ module _ (n : ℕ) where
   none_variables = refl
 
   pub none_limit : (m i : ℕ) → IsUnlimited (limit_of (no_limits n) m i)
-  unfolding limit_of
   none_limit m i = record {
     power_none = none_byte _ (omega arith);
     bound_none = rw (none_byte (bound_at i) (omega arith), none_byte (bound_at i + 1) (omega arith));

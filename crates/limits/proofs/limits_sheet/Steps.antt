@@ -1,43 +1,31 @@
--- The steps of reading limits, one and all by value.
+-- The steps of reading the limits of all variables.
 use mathlib.Core.Path.{◌≡◌, ◌∙◌}
-use mathlib.Core.List.{List}
-use Prim.Native.Nat.{ℕ, ◌+◌, ◌<◌, ◌≤◌}
+use mathlib.Core.List.{List, ◌++◌, append_assoc}
+use Prim.Native.Nat.{ℕ, suc, ◌+◌, ◌-◌, ◌<◌, ◌≤◌}
+use native.Mathlib.Numerals.{add-one}
 use native.Mathlib.Omega.{arith}
-use lib.ListN.{get_or, set, replicate}
-use Rattle.integers.specs.Words.{u16_at, u32_at}
+use lib.ListN.{set, replicate}
+use lib.Seq.{set_at}
 use Rattle.bounds.specs.Bounds.{most_variables}
 use Rattle.points.specs.Lists.{table}
-use Rattle.points.specs.Points.{padded}
-use Rattle.points.proofs.points.Laws.{filled_start, filled_next}
+use Rattle.points.proofs.Lists.{table_none, table_more, table_length}
 use Rattle.squares.specs.declared.limits.Limit.{Limit}
-use Rattle.sheets.specs.Layout.{place}
-use Rattle.limits.specs.LimitsSheet.{limit_of, limits_of}
+use Rattle.limits.specs.LimitsSheet.{limit_of, unlimited}
 
--- ---- limit_at: at, from and to are places, b and m what is read there
+-- ---- limits_of: what is filled, and one limit more
 
-pub limit_made : (l : List ℕ) (n i at from to b m : ℕ) → at ≡ place 1 i 3 → b ≡ u16_at l (at + 1) → from ≡ place 1 n 3
-    → to ≡ place from i 4 → m ≡ u32_at l to → record { power = get_or l at 0; bound = b; multiplier = m } ≡ limit_of l n i
-unfolding limit_of
-limit_made l n i at from to b m ea eb ef et em = rw (eb, em, et, ef, ea)
+module _ (l : List ℕ) (n : ℕ) where
+  abbrev pub filled_to : ℕ → List Limit
+  filled_to i = table (limit_of l n) i ++ replicate (most_variables - i) unlimited
 
--- ---- limits_of: what is filled of one field after k variables
+  pub filled_next : (i : ℕ) (x : List Limit) (a : Limit) → x ≡ filled_to i → a ≡ limit_of l n i → i < n
+      → n ≤ most_variables
+      → set x i a ≡ filled_to (i + 1)
+  filled_next i x a e h k few =
+      let left : most_variables - i ≡ suc (most_variables - (i + 1)) = omega arith in
+      let rest : List Limit = replicate (most_variables - (i + 1)) unlimited in
+      rw (e, h, left)
+      (set_at (table (limit_of l n) i) unlimited rest (limit_of l n i) i (table_length (limit_of l n) i)
+      ∙ rw (add-one i, table_more (limit_of l n), append_assoc))
 
-module _ (l : List ℕ) (n : ℕ) (field : Limit → ℕ) where
-  unfoldable pub filled_to : ℕ → List ℕ
-  filled_to k = padded (table (λ i. field (limit_of l n i)) k)
-
-  pub field_start : replicate most_variables 0 ≡ filled_to 0
-  unfolding filled_to
-  field_start = filled_start _
-
-  -- a is the limit of variable i, x what is filled
-  pub field_next : (i : ℕ) (a : Limit) (x : List ℕ) (v : ℕ) → a ≡ limit_of l n i → i < n → n ≤ most_variables
-      → x ≡ filled_to i → v ≡ field a → set x i v ≡ filled_to (i + 1)
-  unfolding filled_to
-  field_next i a x v ea k few h e = filled_next _ n i x v h k few (e ∙ rw ea)
-
-pub limits_end : (l : List ℕ) (n i : ℕ) (x y z : List ℕ) → x ≡ filled_to l n (λ a. a.power) i
-    → y ≡ filled_to l n (λ a. a.bound) i → z ≡ filled_to l n (λ a. a.multiplier) i → n ≤ i → i ≤ n
-    → record { powers = x; bounds = y; multipliers = z } ≡ limits_of l n
-unfolding limits_of filled_to
-limits_end l n i x y z ex ey ez k m = let q : i ≡ n = omega arith in rw (ex, ey, ez, q)
+pub ruleset filling = (table_none, filled_next)

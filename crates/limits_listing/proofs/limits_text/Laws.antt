@@ -1,7 +1,7 @@
 -- Laws of a limits sheet's text: its labels, how long it is, and that its fields tell the sheet.
 use mathlib.Core.Path.{◌≡◌, refl, sym, ◌∙◌}
 use mathlib.Core.Bool.{Bool, true, false, cond}
-use mathlib.Core.List.{List, [], ◌++◌, append_assoc}
+use mathlib.Core.List.{List, [], ◌∷◌, ◌++◌, append_assoc}
 use mathlib.Core.Logic.{inl, inr}
 use Prim.Native.Nat.{ℕ, ◌+◌, ◌*◌, ◌^◌, ◌<◌, ◌≤◌}
 use native.Mathlib.Omega.{arith}
@@ -31,14 +31,14 @@ use Rattle.listings.proofs.Listings.{listing_short}
 use Rattle.listings.proofs.Lines.{Line, entry_apart}
 use Rattle.listings.proofs.Same.{Same, same_byte, same_then, same_entries, same_short, same_count, same_whole}
 use Rattle.limits_listing.specs.OwnChecks.{own_answer}
-use Rattle.limits_listing.specs.LimitsText.{bound_fields, power_fields, limited_fields, line_fields, variable_fields, limit_fields, limits_fields, lines_text, FormedLimits}
+use Rattle.limits_listing.specs.LimitsText.{longest, line_fields, variable_fields, limit_fields, limits_fields, lines_text, FormedLimits}
 use Rattle.limits_listing.proofs.own_checks.Laws.{LimitsFacts, own_facts, own_short}
 
 -- ---- what is put after what
 
 pub limits_pieces : (l : List ℕ) → listing (limits_fields l)
     ≡ counted (ascii "limits\nvariables ") (variables l) ++ (lines_text l (variables l) (variables l) ++ ascii "\n")
-unfolding limits_fields lines_text
+unfolding limits_fields
 limits_pieces l =
     let n = variables l in
     rw (
@@ -56,10 +56,10 @@ limited_power : (a : Limit) → IsLimited a → a.power ≡ 0 → ⊥
 limited_power a h z = omega (arith, power_some a h)
 
 -- 10 and 1 characters for the index, 7 and 1 for the power, 7 and 4 for L, and 12 and 5 for m
-limited_short : (i power bound multiplier : ℕ) → i < 10 → power < 10 → bound < 10 ^ 4 → multiplier < 10 ^ 5
-    → length (fields_text (limited_fields i power bound multiplier)) ≤ 47
-unfolding limited_fields power_fields bound_fields
-limited_short i power bound multiplier hi hp hb hm =
+counts_short : (i power bound multiplier : ℕ) → i < 10 → power < 10 → bound < 10 ^ 4 → multiplier < 10 ^ 5
+    → length (fields_text (count (ascii "\nvariable ") i ∷ count (ascii " power ") power ∷ count (ascii " limit ") bound
+    ∷ count (ascii " multiplier ") multiplier ∷ [])) ≤ 47
+counts_short i power bound multiplier hi hp hb hm =
     simp (fields_more, fields_none, count_put, length-append) (omega (
       arith,
       counted_short (ascii "\nvariable ") 0 i hi,
@@ -88,29 +88,30 @@ module _ (i : ℕ) (a : Limit) where
   -- ---- labels, and lines
 
   variable_labelled : Labelled (variable_fields i a)
-  unfolding limited_fields power_fields bound_fields
+  unfolding line_fields
   variable_labelled =
       either (λ fields. Labelled fields) tt
       (is_label _ refl, (is_label _ refl, (is_label _ refl, (is_label _ refl, tt))))
 
   variable_line : Line i (variable_fields i a)
-  unfolding limited_fields power_fields bound_fields
+  unfolding line_fields
   variable_line = either (λ fields. Line i fields) tt (refl, refl, (refl, (refl, (refl, tt))))
 
   limited_line : line_fields i a ≡ [] → ⊥
-  unfolding limited_fields
+  unfolding line_fields
   limited_line e = never (cc)
 
   -- ---- how long it is
 
   variable_short : i < most_variables → RightLimit a → length (fields_text (variable_fields i a)) ≤ 47
+  unfolding line_fields
   variable_short k (inl u) = rw (unlimited_none u.power_none, fields_none) (omega arith)
   variable_short k (inr h) =
       let p : a.power ≤ 4 = (power_some a h).1 in
       let q : a.bound ≤ greatest_limit = h.bound_within in
       let r : a.multiplier ≤ greatest_multiplier = h.multiplier_within in
       rw (limited_some (limited_power a h))
-      (limited_short i _ _ _ (omega arith) (omega arith) (omega arith) (omega arith))
+      (counts_short i _ _ _ (omega arith) (omega arith) (omega arith) (omega arith))
 
 -- ---- a line, or that there is none, tells the limit, where that is as said
 
@@ -121,7 +122,7 @@ record SameLimit (a b : Limit) : Type 0 where
 
 module _ (i : ℕ) (a b : Limit) where
   limited_apart : line_fields i a ≡ line_fields i b → SameLimit a b
-  unfolding limited_fields power_fields bound_fields
+  unfolding line_fields
   limited_apart e =
       let p = split_count (split_count e).1 in
       let q = split_count p.1 in
@@ -152,8 +153,8 @@ limits_labelled l = (
 
 -- ---- how long the whole is
 
-pub limits_short : (l : List ℕ) → FormedLimits l → length (listing (limits_fields l)) ≤ 19 + 47 * most_variables
-unfolding lines_text limit_fields
+pub limits_short : (l : List ℕ) → FormedLimits l → length (listing (limits_fields l)) ≤ longest
+unfolding limit_fields
 limits_short l h =
     let n = variables l in
     let f = own_facts l h.passes in

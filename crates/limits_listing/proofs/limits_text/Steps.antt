@@ -1,24 +1,23 @@
 -- The steps of the functions that put the text of a limits sheet.
 use mathlib.Core.Path.{◌≡◌, refl}
 use mathlib.Core.List.{List, [], ◌∷◌, ◌++◌}
-use Prim.Native.Nat.{ℕ, ◌+◌, ◌*◌, ◌<◌, ◌≤◌}
+use Prim.Native.Nat.{ℕ, ◌+◌, ◌<◌, ◌≤◌}
 use native.Mathlib.Omega.{arith}
 use lib.ListN.{length}
 use Rattle.integers.specs.Words.{Bytes}
-use Rattle.bounds.specs.Bounds.{most_variables}
 use Rattle.answers.specs.Answers.{says, Passes}
 use Rattle.answers.specs.declared.answers.Verdict.{Verdict}
 use Rattle.squares.specs.declared.limits.Limit.{Limit}
 use Rattle.sheets.specs.Layout.{variables, LimitsRoom}
 use Rattle.limits.specs.LimitsSheet.{limit_of}
 use Rattle.text.specs.Text.{ascii, counted, Room, Written}
-use Rattle.text.proofs.text.Laws.{room_first, room_then, written_then, texts_start, texts_room, texts_next}
+use Rattle.text.proofs.text.Laws.{room_first, room_then, written_then, texts_room, texts_next}
 use Rattle.listings.specs.Fields.{fields_text, listing}
 use Rattle.listings.specs.Listings.{listing_answer, listing_after, ListingPromises}
 use Rattle.listings.proofs.Fields.{fields_none}
 use Rattle.listings.proofs.Listings.{listing_promises}
 use Rattle.limits_listing.specs.OwnChecks.{own_answer}
-use Rattle.limits_listing.specs.LimitsText.{line_fields, variable_fields, limit_fields, limits_fields, lines_text, FormedLimits}
+use Rattle.limits_listing.specs.LimitsText.{longest, line_fields, variable_fields, limit_fields, limits_fields, lines_text, FormedLimits}
 use Rattle.limits_listing.proofs.own_checks.Laws.{own_facts}
 use Rattle.limits_listing.proofs.limits_text.Laws.{limits_pieces, unlimited_none, limited_some, limits_labelled, limits_short, limits_apart}
 
@@ -39,34 +38,13 @@ module _ (i : ℕ) (a : Limit) (l : List ℕ) (from : ℕ) where
         → Written l from (fields_text (variable_fields i a)) o end
     limited_written o end w = rw (limited_some i a d) w
 
--- ---- lines_text: a is the limit that was read
-
-module _ (s l : List ℕ) (n from : ℕ) where
-  pub lines_start : Room l from (lines_text s n n) → Written l from (lines_text s n 0) l from
-  unfolding lines_text
-  lines_start r = texts_start _ l from (omega (arith, r.room))
-
-  module _ (i end : ℕ) (m : List ℕ) (w : Written l from (lines_text s n i) m end) where
-    pub lines_end : n ≤ i → i ≤ n → Written l from (lines_text s n n) m end
-    lines_end h g = let e : i ≡ n = omega arith in rw e at w
-
-    module _ (a : Limit) (ea : a ≡ limit_of s n i) where
-      pub line_room : Room l from (lines_text s n n) → i < n → Room m end (fields_text (variable_fields i a))
-      unfolding lines_text limit_fields
-      line_room r h = rw ea (texts_room (λ j. fields_text (limit_fields s n j)) i w n r h)
-
-      pub line_next : (o : List ℕ) (far : ℕ) → Written m end (fields_text (variable_fields i a)) o far
-          → Written l from (lines_text s n (i + 1)) o far
-      unfolding lines_text limit_fields
-      line_next o far u = texts_next (λ j. fields_text (limit_fields s n j)) i w (rw ea at u)
-
 -- ---- whole_text: n is what was read
 
 module _ (s : List ℕ) (h : Passes (own_answer s)) (n : ℕ) (en : n ≡ variables s) where
   pub lines_there : LimitsRoom s n
   lines_there = rw en (own_facts s h).room
 
-  module _ (l : List ℕ) (b : Bytes s) (el : length l ≡ 19 + 47 * most_variables) where
+  module _ (l : List ℕ) (b : Bytes s) (el : length l ≡ longest) where
     abbrev head : List ℕ
     head = counted (ascii "limits\nvariables ") n
 
@@ -84,17 +62,32 @@ module _ (s : List ℕ) (h : Passes (own_answer s)) (n : ℕ) (en : n ≡ variab
     pub head_room : Room l 0 head
     head_room = room_first _ later whole
 
-    module _ (k : List ℕ) (mid : ℕ) (w : Written l 0 head k mid) where
-      pub lines_room : Room k mid (lines_text s n n)
-      lines_room = room_first _ (ascii "\n") (room_then _ later whole w)
+    -- the lines of the first i variables are put, and a is the limit that was read
+    module _ (i : ℕ) (k o : List ℕ) (mid far : ℕ) (w : Written l 0 head k mid)
+        (u : Written k mid (lines_text s n i) o far) where
+      pub line_room : (a : Limit) → a ≡ limit_of s n i → i < n → Room o far (fields_text (variable_fields i a))
+      unfolding limit_fields
+      line_room a ea g =
+          rw ea
+          (texts_room (λ j. fields_text (limit_fields s n j)) i u n
+          (room_first _ (ascii "\n") (room_then _ later whole w)) g)
 
-      module _ (o : List ℕ) (far : ℕ) (u : Written k mid (lines_text s n n) o far) where
+      module _ (g : n ≤ i) (f : i ≤ n) where
+        all : Written k mid (lines_text s n n) o far
+        all = let e : i ≡ n = omega arith in rw e at u
+
         pub feed_room : Room o far (10 ∷ [])
-        feed_room = room_then _ (ascii "\n") (room_then _ later whole w) u
+        feed_room = room_then _ (ascii "\n") (room_then _ later whole w) all
 
         pub whole_written : (p : List ℕ) (end : ℕ) → Written o far (10 ∷ []) p end
             → Written l 0 (listing (limits_fields s)) p end
-        whole_written p end v = rw pieces (written_then _ later w (written_then _ (ascii "\n") u v))
+        whole_written p end v = rw pieces (written_then _ later w (written_then _ (ascii "\n") all v))
+
+pub line_next : (s k o p : List ℕ) (n i mid far end : ℕ) (a : Limit) → Written k mid (lines_text s n i) o far
+    → a ≡ limit_of s n i → Written o far (fields_text (variable_fields i a)) p end
+    → Written k mid (lines_text s n (i + 1)) p end
+unfolding limit_fields
+line_next s k o p n i mid far end a w ea u = texts_next (λ j. fields_text (limit_fields s n j)) i w (rw ea at u)
 
 -- ---- limits_text: r is the verdict, and `after` the buffer then
 

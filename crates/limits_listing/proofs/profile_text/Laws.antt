@@ -15,15 +15,15 @@ use Rattle.listings.proofs.Listings.{listing_short}
 use Rattle.listings.proofs.Fields.{listing_is, is_label, split_count, fields_none, fields_more}
 use Rattle.listings.proofs.Putting.{count_put}
 use Rattle.limits_listing.specs.OwnChecks.{profile_answer}
-use Rattle.limits_listing.specs.ProfileText.{weight_fields, bounds_fields, profile_fields}
+use Rattle.limits_listing.specs.ProfileText.{longest, profile_fields}
 use Rattle.limits_listing.proofs.own_checks.Laws.{passes_range, profile_answer_short}
 
 pub profile_labelled : (π : Profile) → Labelled (profile_fields π)
-unfolding profile_fields bounds_fields weight_fields
+unfolding profile_fields
 profile_labelled π = (is_label _ refl, (is_label _ refl, (is_label _ refl, tt)))
 
-pub profile_short : (π : Profile) → InRange π → length (listing (profile_fields π)) ≤ 48
-unfolding profile_fields bounds_fields weight_fields
+pub profile_short : (π : Profile) → InRange π → length (listing (profile_fields π)) ≤ longest
+unfolding profile_fields
 profile_short π f =
     simp (listing_is, fields_more, fields_none, count_put, length-append) (omega (
       arith,
@@ -41,7 +41,7 @@ text_short π room v e =
     (λ p. omega (arith, profile_short π (passes_range π p))))
 
 pub profile_apart : (π ρ : Profile) → InRange π → InRange ρ → profile_fields π ≡ profile_fields ρ → π ≡ ρ
-unfolding profile_fields bounds_fields weight_fields
+unfolding profile_fields
 profile_apart π ρ f g e =
     let p = split_count e in
     let q = split_count p.1 in

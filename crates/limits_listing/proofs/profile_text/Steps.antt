@@ -15,18 +15,17 @@ use Rattle.listings.specs.Listings.{listing_answer, listing_after, ListingPromis
 use Rattle.listings.proofs.Fields.{listing_is}
 use Rattle.listings.proofs.Listings.{listing_promises}
 use Rattle.limits_listing.specs.OwnChecks.{profile_answer}
-use Rattle.limits_listing.specs.ProfileText.{bounds_fields, profile_fields}
+use Rattle.limits_listing.specs.ProfileText.{longest, profile_fields}
 use Rattle.limits_listing.proofs.own_checks.Laws.{passes_range, range_passes}
 use Rattle.limits_listing.proofs.profile_text.Laws.{profile_labelled, profile_short, profile_apart}
 
 -- ---- whole_text
 
-module _ (π : Profile) (h : Passes (profile_answer π)) (l : List ℕ) (el : length l ≡ 48) where
+module _ (π : Profile) (h : Passes (profile_answer π)) (l : List ℕ) (el : length l ≡ longest) where
   abbrev bounds : List ℕ
-  bounds = fields_text (bounds_fields π.exponent π.weight π.rows)
+  bounds = fields_text (profile_fields π)
 
   listed : listing (profile_fields π) ≡ bounds ++ ascii "\n"
-  unfolding profile_fields
   listed = listing_is (profile_fields π)
 
   whole : Room l 0 (bounds ++ ascii "\n")

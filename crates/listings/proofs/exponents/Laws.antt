@@ -1,7 +1,7 @@
 -- Laws of exponents: their fields one after another, that these tell the exponents, their labels, and their lengths.
 use mathlib.Core.Path.{◌≡◌, refl, sym, ◌∙◌, ap, ap₂}
 use mathlib.Core.Bool.{false}
-use mathlib.Core.List.{List, [], ◌∷◌, ◌++◌, append_assoc}
+use mathlib.Core.List.{List, [], ◌∷◌, ◌++◌, append_assoc, append-nil}
 use Prim.Native.Nat.{ℕ, zero, suc, ◌+◌, ◌*◌, ◌<◌, ◌≤◌}
 use native.Mathlib.Omega.{arith}
 use lib.Dec.{eqb}
@@ -14,10 +14,10 @@ use Rattle.points.proofs.points.Laws.{bytes_table}
 use Rattle.text.specs.Text.{ascii, counted, texts_to}
 use Rattle.text.proofs.text.Laws.{numbered_is, texts_none, texts_more, texts_short}
 use Rattle.text.proofs.lines.Laws.{counted_short}
-use Rattle.listings.specs.Fields.{Field, exponent_fields, fields_text, of_numbers, IsLabel, Labelled}
+use Rattle.listings.specs.Fields.{Field, count, exponent_fields, fields_text, of_numbers, IsLabel, Labelled}
 use Rattle.listings.specs.Exponents.{spaced_at, spaced_text}
 use Rattle.listings.proofs.Fields.{split_count, fields_none, fields_more, fields_append}
-use Rattle.listings.proofs.Putting.{last_count}
+use Rattle.listings.proofs.Putting.{count_put}
 use Rattle.listings.proofs.Lines.{starts_line}
 
 spaced_append : (α β : List ℕ) → exponent_fields [] (α ++ β) ≡ exponent_fields [] α ++ exponent_fields [] β
@@ -31,7 +31,7 @@ spaced_none = fields_none
 
 spaced_one : (e : ℕ) → fields_text (exponent_fields [] (e ∷ [])) ≡ counted (ascii " ") e
 unfolding exponent_fields
-spaced_one e = last_count (ascii " ") e
+spaced_one e = rw (fields_more (count (ascii " ") e) [], fields_none, append-nil) (count_put (ascii " ") e)
 
 spaced_table : (g : ℕ → ℕ) (n : ℕ)
     → fields_text (exponent_fields [] (table g n)) ≡ texts_to (λ j. counted (ascii " ") (g j)) n
@@ -54,7 +54,6 @@ labelled label (e ∷ α) h = simp (fields_more, numbered_is, append_assoc)
 
 pub exponents_spaced : (label s : List ℕ) (at n : ℕ) → 1 ≤ n
     → fields_text (exponent_fields label (bytes_at s at n)) ≡ label ++ spaced_text s at n
-unfolding spaced_text
 exponents_spaced label s at n h =
     rw (bytes_table s at n)
     (labelled label (table g n) (rw (table_length g n) h) ∙ ap (λ (l : List ℕ). label ++ l) (spaced_table g n))
@@ -109,7 +108,6 @@ exponents_inline label (e ∷ α) h = (h, exponents_inline [] α refl)
 
 pub exponents_short : (label s : List ℕ) (at n : ℕ) → Bytes s → 1 ≤ n
     → length (fields_text (exponent_fields label (bytes_at s at n))) ≤ length label + n * 4
-unfolding spaced_text
 exponents_short label s at n b h =
     rw (exponents_spaced label s at n h, length-append label (spaced_text s at n))
     (omega (

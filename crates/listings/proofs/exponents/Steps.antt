@@ -11,40 +11,35 @@ use Rattle.listings.specs.Fields.{exponent_fields, fields_text}
 use Rattle.listings.specs.Exponents.{spaced_at, spaced_text}
 use Rattle.listings.proofs.exponents.Laws.{exponents_spaced}
 
--- ---- spaced: b is the byte that was read
+module _ (label s l : List ℕ) (at n from : ℕ) where
+  abbrev texts : ℕ → List ℕ
+  texts i = texts_to (spaced_at s at) i
 
-module _ (s l : List ℕ) (at from n : ℕ) where
-  pub spaced_start : Room l from (spaced_text s at n) → Written l from (texts_to (spaced_at s at) 0) l from
-  spaced_start r = texts_start (spaced_at s at) l from (omega (arith, r.room))
+  module _ (h : 1 ≤ n) (r : Room l from (fields_text (exponent_fields label (bytes_at s at n)))) where
+    both : Room l from (label ++ spaced_text s at n)
+    both = rw (exponents_spaced label s at n h) at r
 
-  module _ (i end : ℕ) (m : List ℕ) (w : Written l from (texts_to (spaced_at s at) i) m end) where
-    pub spaced_end : n ≤ i → i ≤ n → Written l from (spaced_text s at n) m end
-    unfolding spaced_text
-    spaced_end h g = let e : i ≡ n = omega arith in rw e at w
+    pub label_room : Room l from label
+    label_room = room_first label (spaced_text s at n) both
 
-    module _ (b : ℕ) (e : b ≡ get_or s (at + i) 0) where
-      pub spaced_room : Room l from (spaced_text s at n) → i < n → Room m end (counted (32 ∷ []) b)
-      unfolding spaced_text
-      spaced_room r h = rw e (texts_room (spaced_at s at) i w n r h)
+    -- b is the byte that was read
+    pub exponent_room : (m k : List ℕ) (mid i end b : ℕ) → Written l from label m mid → Written m mid (texts i) k end
+        → i < n → b ≡ get_or s (at + i) 0 → Room k end (counted (32 ∷ []) b)
+    exponent_room m k mid i end b w u l e =
+        rw e (texts_room (spaced_at s at) i u n (room_then label (spaced_text s at n) both w) l)
 
-      pub spaced_next : (o : List ℕ) (far : ℕ) → Written m end (counted (32 ∷ []) b) o far
-          → Written l from (texts_to (spaced_at s at) (i + 1)) o far
-      spaced_next o far u = texts_next (spaced_at s at) i w (rw e at u)
+  pub exponents_written : (m o : List ℕ) (mid i end : ℕ) → 1 ≤ n → Written l from label m mid
+      → Written m mid (texts i) o end → n ≤ i → i ≤ n
+      → Written l from (fields_text (exponent_fields label (bytes_at s at n))) o end
+  exponents_written m o mid i end h w u p q =
+      let e : i ≡ n = omega arith in
+      rw (exponents_spaced label s at n h) (written_then label (spaced_text s at n) w (rw e at u))
 
--- ---- exponents_text
+pub exponents_start : (s label l m : List ℕ) (at from mid : ℕ) → Written l from label m mid
+    → Written m mid (texts_to (spaced_at s at) 0) m mid
+exponents_start s label l m at from mid w = texts_start (spaced_at s at) m mid w.inside
 
-module _ (label s l : List ℕ) (at n from : ℕ) (h : 1 ≤ n) where
-  both : Room l from (fields_text (exponent_fields label (bytes_at s at n))) → Room l from (label ++ spaced_text s at n)
-  both r = rw (exponents_spaced label s at n h) at r
-
-  pub label_room : Room l from (fields_text (exponent_fields label (bytes_at s at n))) → Room l from label
-  label_room r = room_first label (spaced_text s at n) (both r)
-
-  module _ (m : List ℕ) (mid : ℕ) (w : Written l from label m mid) where
-    pub exponents_room : Room l from (fields_text (exponent_fields label (bytes_at s at n)))
-        → Room m mid (spaced_text s at n)
-    exponents_room r = room_then label (spaced_text s at n) (both r) w
-
-    pub exponents_written : (o : List ℕ) (end : ℕ) → Written m mid (spaced_text s at n) o end
-        → Written l from (fields_text (exponent_fields label (bytes_at s at n))) o end
-    exponents_written o end u = rw (exponents_spaced label s at n h) (written_then label (spaced_text s at n) w u)
+pub exponent_next : (s m k o : List ℕ) (at mid i end far b : ℕ) → Written m mid (texts_to (spaced_at s at) i) k end
+    → b ≡ get_or s (at + i) 0 → Written k end (counted (32 ∷ []) b) o far
+    → Written m mid (texts_to (spaced_at s at) (i + 1)) o far
+exponent_next s m k o at mid i end far b w e u = texts_next (spaced_at s at) i w (rw e at u)

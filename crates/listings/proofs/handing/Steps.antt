@@ -6,18 +6,16 @@ use native.Mathlib.Omega.{arith}
 use lib.ListN.{length}
 use lib.Seq.{sets-eq}
 use borrow.Author.Tests.{lt-ltb, le-ltb}
-use Rattle.answers.specs.Answers.{says}
-use Rattle.answers.specs.declared.answers.Sheet.TheVariants.{Buffer}
-use Rattle.answers.specs.declared.answers.Verdict.TheVariants.{Accepted, Refused}
-use Rattle.answers.proofs.answers.Laws.{refused_if, refused_says, passed_if, accepted_says}
+use Rattle.answers.specs.Answers.{accepted, refused}
+use Rattle.answers.proofs.answers.Laws.{refused_if, passed_if}
 use Rattle.text.specs.Text.{Room, Written}
 use Rattle.listings.specs.Handing.{handed_answer, handed}
 
 module _ (t l : List ℕ) where
   module _ (h : length l < length t) where
-    pub short_refused : says (Refused (Buffer 30 0)) ≡ handed_answer (length t) (length l)
+    pub short_refused : refused 30 0 ≡ handed_answer (length t) (length l)
     unfolding handed_answer
-    short_refused = refused_if _ _ 30 _ (lt-ltb (length l) (length t) h) (refused_says _ 30 0 refl)
+    short_refused = refused_if _ _ 30 _ (lt-ltb (length l) (length t) h) refl
 
     pub short_kept : l ≡ handed t l
     unfolding handed
@@ -28,11 +26,11 @@ module _ (t l : List ℕ) where
     whole_room = record { room = omega arith }
 
     module _ (m : List ℕ) (end : ℕ) (w : Written l 0 t m end) where
-      pub whole_accepted : says (Accepted end) ≡ handed_answer (length t) (length l)
+      pub whole_accepted : accepted end ≡ handed_answer (length t) (length l)
       unfolding handed_answer
       whole_accepted =
           let e : end ≡ length t = omega (arith, w.ends) in
-          passed_if _ _ 30 _ (le-ltb (length l) (length t) h) (rw e (accepted_says (length t)))
+          passed_if _ _ 30 _ (le-ltb (length l) (length t) h) (rw e)
 
       pub whole_written : m ≡ handed t l
       unfolding handed

@@ -17,7 +17,7 @@ use Rattle.bounds.specs.Bounds.{greatest_value}
 use Rattle.points.specs.Points.{Exponents, has_midpoint, midpoint_of, OddsMasked, keeps_sign, pure_at}
 use Rattle.points.proofs.points.Laws.{pure_first, pure_later, pure_elsewhere, masked_more, odds_more, keeps_means, midpoint_none, midpoint_more, whole_more, whole_sized}
 use Rattle.monomials.specs.Powers.{power_of, monomial_of, variable, Allowed, AllowedExactly, Represents, within}
-use Rattle.monomials.specs.declared.powers.Bounded.TheVariants.{Value, TooLarge}
+use Rattle.std.specs.Prelude.{Some, None}
 
 -- ---- powers
 
@@ -151,11 +151,11 @@ monomial_mean (x ∷ xs) (a ∷ v) (b ∷ w) t =
 -- ---- what an answer says
 
 module _ (z : ℤ) where
-  pub within_small : nat_abs z ≤ greatest_value → Value z ≡ within z
+  pub within_small : nat_abs z ≤ greatest_value → Some z ≡ within z
   unfolding within
   within_small h = rw (le-leb (nat_abs z) greatest_value h)
 
-  pub within_large : greatest_value < nat_abs z → TooLarge ≡ within z
+  pub within_large : greatest_value < nat_abs z → None ≡ within z
   unfolding within
   within_large h = rw (lt-leb (nat_abs z) greatest_value h)
 
@@ -163,6 +163,6 @@ module _ (z : ℤ) where
   unfolding within
   within_represents = go (leb (nat_abs z) greatest_value) refl
     where
-      go : (b : Bool) → leb (nat_abs z) greatest_value ≡ b → Represents (cond b (Value z) TooLarge) z
+      go : (b : Bool) → leb (nat_abs z) greatest_value ≡ b → Represents (cond b (Some z) None) z
       go true e = (refl, leb-true _ _ e)
       go false e = leb-false _ _ e

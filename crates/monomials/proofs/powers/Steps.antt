@@ -1,5 +1,5 @@
 -- The steps of saturated products: they respect the products of ℤ, and zero brings down what is too large.
-use mathlib.Core.Path.{◌≡◌, refl, sym, ◌∙◌, ap}
+use mathlib.Core.Path.{◌≡◌, refl, sym, ◌∙◌}
 use mathlib.Core.Bool.{Bool, true, false}
 use mathlib.Core.List.{List, [], ◌∷◌}
 use Prim.Native.Nat.{ℕ, zero, suc, ◌+◌, ◌-◌, ◌*◌, ◌/◌, ◌%◌, ◌≤◌, ◌<◌, min}
@@ -8,21 +8,18 @@ use native.Mathlib.Nat.{mul-le-mul_right, le-div_iff_mul-le, div-lt_iff_lt-mul}
 use native.Mathlib.Omega.{arith}
 use lib.Dec.{leb}
 use lib.IntN.{ℤ, pos, nat_abs, ◌*ℤ◌, *ℤ_comm, zero-*ℤ}
-use lib.ListN.{length, get_or, take, drop, length-take}
-use lib.Seq.{drop-cons, drop-nil, get_or-take}
+use lib.ListN.{length, get_or, drop}
+use lib.Seq.{drop-cons, drop-nil}
 use borrow.Author.Tests.{leb-true, leb-false, le-leb, lt-leb, lt-ltb, le-ltb}
 use mir.Syntax.{w64}
 use mir.Val.{Fits, SFits}
 use mir.Facts.{to_z-of_z}
 use Rattle.integers.proofs.Integers.{back, abs_mul, abs_zero, fits_within}
-use Rattle.bounds.specs.Bounds.{most_variables, greatest_value}
-use Rattle.points.specs.Points.{Exponents, exponents}
-use Rattle.points.specs.declared.points.Point.{Point}
-use Rattle.points.proofs.points.Laws.{exponents_counted, Places}
+use Rattle.bounds.specs.Bounds.{greatest_value}
+use Rattle.points.specs.Points.{Exponents}
+use Rattle.std.specs.Prelude.{Option}
 use Rattle.monomials.specs.Powers.{power_of, monomial_of, within, saturation, saturated, reduced}
-use Rattle.monomials.specs.declared.powers.Bounded.{Bounded}
-use Rattle.monomials.specs.declared.powers.Bounded.TheVariants.{Value, TooLarge}
-use Rattle.monomials.proofs.powers.Laws.{power_parity, within_small, within_large}
+use Rattle.monomials.proofs.powers.Laws.{power_parity, within_large}
 
 -- ---- saturated numbers
 
@@ -91,6 +88,8 @@ module _ (m n : ℕ) where
           let p = (div-lt_iff_lt-mul {k = m} (omega arith)).0 (leb-false n (greatest_value / m) e) in
           sym (lt-leb (m * n) greatest_value (omega (arith, p)))
 
+pub ruleset fit = (fits_room, fits_small, fits_none, fits_divided)
+
 -- product: m and n are the absolute values, t says whether their product fits
 module _ (x y x' y' : ℤ) (m n : ℕ) (t : Bool) (et : t ≡ leb (m * n) greatest_value) (em : m ≡ nat_abs x') (sx : x' ≡ x)
     (en : n ≡ nat_abs y') (sy : y' ≡ y) where
@@ -125,20 +124,23 @@ pub power_more : (b b' b'' y y' z z' : ℤ) (e : ℕ) → z' ≡ z → z ≡ sat
 power_more b b' b'' y y' z z' e sz ez t u ey s h =
     rw (sz, ez, t, u, ey, s, power_less b e h) (saturated_second b (power_of b (e - 1)))
 
--- reduced: m is the absolute value
+-- reduced
 module _ (x : ℤ) (e : ℕ) where
   pub reduced_low : e < 3 → e ≡ reduced x e
   unfolding reduced
   reduced_low h = rw (lt-ltb e 3 h)
 
-  module _ (x' : ℤ) (m : ℕ) (em : m ≡ nat_abs x') (s : x' ≡ x) (l : 3 ≤ e) where
-    pub reduced_same : 1 < m → e ≡ reduced x e
-    unfolding reduced
-    reduced_same h = rw (le-ltb e 3 l, lt-ltb 1 (nat_abs x) (rw (← s, ← em) h))
+  pub reduced_same : 1 < nat_abs x → e ≡ reduced x e
+  unfolding reduced
+  reduced_same h = go (dec_lt e 3)
+    where
+      go : Dec (e < 3) → e ≡ reduced x e
+      go (yes l) = rw (lt-ltb e 3 l)
+      go (no l) = rw (le-ltb e 3 (omega arith), lt-ltb 1 (nat_abs x) h)
 
-    pub reduced_parity : m ≤ 1 → 2 - e % 2 ≡ reduced x e
-    unfolding reduced
-    reduced_parity h = rw (le-ltb e 3 l, le-ltb 1 (nat_abs x) (rw (← s, ← em) h))
+  pub reduced_parity : 3 ≤ e → nat_abs x ≤ 1 → 2 - e % 2 ≡ reduced x e
+  unfolding reduced
+  reduced_parity l h = rw (le-ltb e 3 l, le-ltb 1 (nat_abs x) h)
 
   power_reduced : power_of x (reduced x e) ≡ power_of x e
   unfolding reduced
@@ -150,6 +152,8 @@ module _ (x : ℤ) (e : ℕ) where
       go (no h) (no k) =
           rw (le-ltb e 3 (omega arith), le-ltb 1 (nat_abs x) (omega arith))
           (power_parity x e (omega arith) (omega arith))
+
+pub ruleset reduces = (reduced_low, reduced_same, reduced_parity)
 
 -- monomial: the product of the powers from a variable on
 monomial_past : (x : List ℤ) (α : Exponents) (i : ℕ) → min (length α) (length x) ≤ i
@@ -170,59 +174,27 @@ monomial_cons : (x : List ℤ) (α : Exponents) (i : ℕ) → i < length x → i
 unfolding monomial_of
 monomial_cons x α i h k = rw (drop-cons x i (pos 0) h, drop-cons α i 0 k)
 
--- the variables from place i on, of eight exponents of which n count
-unfoldable pub From : List ℤ → List ℕ → ℕ → ℕ → ℤ
-From x e n i = monomial_of (drop i x) (drop i (take n e))
+-- nothing is multiplied yet past the last variable of both
+pub last_product : (x : List ℤ) (α : Exponents)
+    → saturated (monomial_of (drop (min (length α) (length x)) x) (drop (min (length α) (length x)) α)) ≡ pos 1
+last_product x α =
+    rw (monomial_past x α (min (length α) (length x)) (omega arith)) (sym (saturated_small (pos 1) (omega arith)))
 
-pub from_start : (x : List ℤ) (e : List ℕ) (n i : ℕ) → i ≡ min n (length x) → pos 1 ≡ saturated (From x e n i)
-unfolding From
-from_start x e n i h =
-    rw (monomial_past x (take n e) i (omega (arith, length-take n e))) (saturated_small (pos 1) (omega arith))
-
--- r is the power, v the product so far and q both
-pub from_next : (x : List ℤ) (e : List ℕ) (n i d : ℕ) (b b' b'' r r' v v' q q' : ℤ) → v ≡ saturated (From x e n i)
-    → v' ≡ v → 0 < i → i ≤ length x → i ≤ n → n ≤ most_variables → Places e
-    → b ≡ get_or x (i - 1) (pos 0) → b' ≡ b → d ≡ reduced b' (get_or e (i - 1) 0)
+-- one variable more: b is its offset, r the power, v the product so far and q both
+pub next_product : (x : List ℤ) (α : Exponents) (i d : ℕ) (b b' b'' r r' v v' q q' : ℤ)
+    → v ≡ saturated (monomial_of (drop i x) (drop i α)) → v' ≡ v → 0 < i → i ≤ length x → i ≤ length α
+    → b ≡ get_or x (i - 1) (pos 0) → b' ≡ b → d ≡ reduced b' (get_or α (i - 1) 0)
     → b'' ≡ b → r ≡ saturated (power_of b'' d) → r' ≡ r → q ≡ saturated (r' *ℤ v') → q' ≡ q
-    → q' ≡ saturated (From x e n (i - 1))
-unfolding From
-from_next x e n i d b b' b'' r r' v v' q q' ev sv l h k m le eb s ed t er sr eq sq =
+    → q' ≡ saturated (monomial_of (drop (i - 1) x) (drop (i - 1) α))
+next_product x α i d b b' b'' r r' v v' q q' ev sv l h k eb s ed t er sr eq sq =
     let j : suc (i - 1) ≡ i = omega arith in
-    let same : power_of b d ≡ power_of b (get_or e (i - 1) 0) = rw (ed, s) (power_reduced b (get_or e (i - 1) 0)) in
-    rw (
-      monomial_cons x (take n e) (i - 1) (omega arith) (omega (arith, length-take n e)),
-      j,
-      get_or-take n e (i - 1) 0 (omega arith),
-      sq,
-      eq,
-      sr,
-      sv,
-      er,
-      ev,
-      t,
-      same,
-      eb,
-    )
-    (saturated_both (power_of (get_or x (i - 1) (pos 0)) (get_or e (i - 1) 0)) (monomial_of (drop i x) (drop i (take n e))))
-
-pub from_end : (x : List ℤ) (p : Point) (n i : ℕ) (v : ℤ) → v ≡ saturated (From x p.exps n i) → i ≤ 0
-    → Places p.exps → n ≡ length (exponents p)
-    → v ≡ saturated (monomial_of x (exponents p))
-unfolding From
-from_end x p n i v ev h l en =
-    let z : i ≡ 0 = omega arith in
-    ev ∙ rw z (ap (λ (α : Exponents). saturated (monomial_of x α)) (exponents_counted p n en))
-
--- within: m is the absolute value
-module _ (x x' : ℤ) (m : ℕ) (em : m ≡ nat_abs x') (s : x' ≡ x) where
-  pub number_small : m ≤ greatest_value → Value x' ≡ within x
-  number_small h = rw s (within_small x (rw (← s, ← em) h))
-
-  pub number_large : greatest_value < m → TooLarge ≡ within x
-  number_large h = within_large x (rw (← s, ← em) h)
+    let same : power_of b d ≡ power_of b (get_or α (i - 1) 0) = rw (ed, s) (power_reduced b (get_or α (i - 1) 0)) in
+    rw (monomial_cons x α (i - 1) (omega arith) (omega arith), j, sq, eq, sr, sv, er, ev, t, same, eb)
+    (saturated_both (power_of (get_or x (i - 1) (pos 0)) (get_or α (i - 1) 0)) (monomial_of (drop i x) (drop i α)))
 
 -- term: y is the monomial m, z the product
-pub term_is : (c c' m y y' z z' : ℤ) (r : Bounded) → r ≡ within z' → z' ≡ z → z ≡ saturated (c' *ℤ y') → c' ≡ c → y' ≡ y
+pub term_is : (c c' m y y' z z' : ℤ) (r : Option ℤ) → r ≡ within z' → z' ≡ z → z ≡ saturated (c' *ℤ y') → c' ≡ c
+    → y' ≡ y
     → y ≡ saturated m → r ≡ within (c *ℤ m)
 term_is c c' m y y' z z' r er sz ez sc sy ey =
     er ∙ rw (sz, ez, sc, sy, ey, saturated_second c m) (within_saturated (c *ℤ m))

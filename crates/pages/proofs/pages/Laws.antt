@@ -21,7 +21,7 @@ use Rattle.text.specs.Columns.{spaces}
 use Rattle.text.proofs.text.Laws.{integer_short, texts_length, texts_byte, texts_same}
 use Rattle.text.proofs.columns.Laws.{column_length}
 use Rattle.report.specs.Reports.{shown_of, verdict_line}
-use Rattle.pages.specs.Pages.{page_width, page_lines, page_rows, Lined, page_line, later_columns, weight_columns, row_columns, row_shown, more_shown, table_text, table_line, page_of, verdict_page}
+use Rattle.pages.specs.Pages.{page_width, page_lines, page_rows, Lined, page_line, row_columns, row_shown, more_shown, table_text, table_line, page_of, verdict_page}
 
 pub line_length : (text : List ℕ) → length text ≤ page_width → length (page_line text) ≡ suc page_width
 unfolding page_line
@@ -41,20 +41,16 @@ weight_narrow z f = omega (ints, integer_short 9 z (omega (ints, sizes z)))
 pub index_narrow : (i : ℕ) → i < page_rows → length (integer (pos i)) ≤ 4
 index_narrow i h = omega (arith, integer_short 1 (pos i) (omega arith))
 
-weights_length : (x : Triple) → Narrow x → length (weight_columns x) ≡ 36
-unfolding weight_columns later_columns
-weights_length x f =
+row_length : (i : ℕ) (x : Triple) → i < page_rows → Narrow x → length (row_columns i x) ≡ 40
+unfolding row_columns
+row_length i x h f =
     simp length-append (omega (
       arith,
+      column_length 4 (pos i) (index_narrow i h),
       column_length 12 x.p (weight_narrow _ f.p_fits),
       column_length 12 x.q (weight_narrow _ f.q_fits),
       column_length 12 x.r (weight_narrow _ f.r_fits),
     ))
-
-row_length : (i : ℕ) (x : Triple) → i < page_rows → Narrow x → length (row_columns i x) ≡ 40
-unfolding row_columns
-row_length i x h f =
-    simp length-append (omega (arith, column_length 4 (pos i) (index_narrow i h), weights_length x f))
 
 module _ (x : ℕ → Triple) (k : ℕ) (narrow : (i : ℕ) → Narrow (x i)) where
   shown_short : (i : ℕ) → i < page_rows → length (row_shown x k i) ≤ 40

@@ -1,6 +1,6 @@
 -- The steps of the functions that put a page.
 use mathlib.Core.Path.{◌≡◌, refl, ◌∙◌, ap}
-use mathlib.Core.List.{List, [], ◌∷◌, ◌++◌}
+use mathlib.Core.List.{List, [], ◌∷◌}
 use Prim.Native.Nat.{ℕ, suc, ◌+◌, ◌*◌, ◌-◌, ◌<◌, ◌≤◌}
 use native.Mathlib.Omega.{arith}
 use lib.IntN.{ℤ, pos}
@@ -18,10 +18,10 @@ use Rattle.rows.specs.declared.proof_sheet.Triple.{Triple}
 use Rattle.rows.proofs.proof_sheet.Laws.{triple_narrow}
 use Rattle.text.specs.Text.{integer, texts_to, Written}
 use Rattle.text.specs.Columns.{spaces, column, Blank}
-use Rattle.text.proofs.text.Laws.{written_then, written_all, texts_start}
+use Rattle.text.proofs.text.Laws.{written_then, written_all, texts_start, texts_next}
 use Rattle.text.proofs.columns.Laws.{column_length, blank_then, blank_over}
 use Rattle.report.specs.Reports.{shown_of, Shows, verdict_line}
-use Rattle.pages.specs.Pages.{page_width, page_length, page_rows, Lined, page_line, later_columns, weight_columns, row_columns, row_shown, more_shown, table_text, table_line, page_of, verdict_page}
+use Rattle.pages.specs.Pages.{page_width, page_length, page_rows, Lined, page_line, row_columns, row_shown, more_shown, table_text, table_line, page_of, verdict_page}
 use Rattle.pages.proofs.pages.Laws.{weight_narrow, index_narrow, line_length, table_short, page_lined, verdict_shown}
 
 -- so many of the bytes that are blank
@@ -32,41 +32,8 @@ blank_part n m b h = record { inside = omega (arith, b.inside); blank = b.blank 
 nothing : (l : List ℕ) (at n : ℕ) → Blank l at n → Written l at [] l at
 nothing l at n b = record { bytes = refl; ends = omega arith; kept = refl; inside = omega (arith, b.inside) }
 
--- ---- columns: a prime marks a number as the machine reads it back
+-- ---- row_columns: a prime marks a number as the machine reads it back
 
-pub weight_fits : (z z' : ℤ) → z' ≡ z → SFits w32 z → length (integer z') ≤ 12
-weight_fits z z' e f = rw e (weight_narrow z f)
-
--- the first of two columns, or of three
-pub first_of_two : (l : List ℕ) (at : ℕ) → Blank l at 24 → Blank l at 12
-first_of_two l at b = blank_part 24 12 b (omega arith)
-
-pub first_of_three : (l : List ℕ) (at : ℕ) → Blank l at 36 → Blank l at 12
-first_of_three l at b = blank_part 36 12 b (omega arith)
-
--- and what follows it
-module _ (l m : List ℕ) (at mid : ℕ) (z z' : ℤ) (w : Written l at (column 12 z') m mid) (e : z' ≡ z)
-    (f : SFits w32 z) where
-  wide : length (column 12 z') ≡ 12
-  wide = column_length 12 z' (weight_fits z z' e f)
-
-  pub one_left : Blank l at 24 → Blank m mid 12
-  one_left b = blank_then (column 12 z') 24 12 b w (omega (arith, wide))
-
-  pub two_left : Blank l at 36 → Blank m mid 24
-  two_left b = blank_then (column 12 z') 36 24 b w (omega (arith, wide))
-
-module _ (l m o : List ℕ) (at mid end : ℕ) (q q' r r' : ℤ) (eq : q' ≡ q) (er : r' ≡ r) where
-  pub later_written : Written l at (column 12 q') m mid → Written m mid (column 12 r') o end
-      → Written l at (later_columns q r) o end
-  unfolding later_columns
-  later_written w u = written_then (column 12 q) (column 12 r) (rw eq at w) (rw er at u)
-
-  pub weights_written : (p p' : ℤ) → p' ≡ p → Written l at (column 12 p') m mid
-      → Written m mid (later_columns q' r') o end → Written l at (column 12 p ++ later_columns q r) o end
-  weights_written p p' ep w u = written_then (column 12 p) (later_columns q r) (rw ep at w) (rw (eq, er) at u)
-
--- row_columns
 module _ (i : ℕ) (h : i < page_rows) where
   index_is : to_z w64 i ≡ pos i
   index_is = to_z_pos w64 (omega arith)
@@ -74,18 +41,41 @@ module _ (i : ℕ) (h : i < page_rows) where
   pub index_fits : length (integer (to_z w64 i)) ≤ 4
   index_fits = rw index_is (index_narrow i h)
 
-  module _ (l m : List ℕ) (at mid : ℕ) (w : Written l at (column 4 (to_z w64 i)) m mid) where
-    pub weights_blank : Blank l at 40 → Blank m mid 36
-    weights_blank b =
-        blank_then (column 4 (to_z w64 i)) 40 36 b w (omega (arith, column_length 4 (to_z w64 i) index_fits))
-
-    pub row_written : (x : Triple) (o : List ℕ) (end : ℕ) → Written m mid (weight_columns x) o end
-        → Written l at (row_columns i x) o end
-    unfolding row_columns
-    row_written x o end u = written_then (column 4 (pos i)) (weight_columns x) (rw index_is at w) u
-
 pub index_blank : (l : List ℕ) (at : ℕ) → Blank l at 40 → Blank l at 4
 index_blank l at b = blank_part 40 4 b (omega arith)
+
+pub weight_fits : (z z' : ℤ) → z' ≡ z → SFits w32 z → length (integer z') ≤ 12
+weight_fits z z' e f = rw e (weight_narrow z f)
+
+module _ (i : ℕ) (x : Triple) (l m : List ℕ) (at a : ℕ) (w : Written l at (column 4 (to_z w64 i)) m a)
+    (h : i < page_rows) (b : Blank l at 40) where
+  weights_blank : Blank m a 36
+  weights_blank =
+      blank_then (column 4 (to_z w64 i)) 40 36 b w (omega (arith, column_length 4 (to_z w64 i) (index_fits i h)))
+
+  pub p_blank : Blank m a 12
+  p_blank = blank_part 36 12 weights_blank (omega arith)
+
+  module _ (n : List ℕ) (d : ℕ) (p' : ℤ) (u : Written m a (column 12 p') n d) (f : Narrow x) (ep : p' ≡ x.p) where
+    later_blank : Blank n d 24
+    later_blank =
+        blank_then (column 12 p') 36 24 weights_blank u (omega (arith, column_length 12 p' (weight_fits x.p p' ep f.p_fits)))
+
+    pub q_blank : Blank n d 12
+    q_blank = blank_part 24 12 later_blank (omega arith)
+
+    module _ (o : List ℕ) (e : ℕ) (q' : ℤ) (v : Written n d (column 12 q') o e) (eq : q' ≡ x.q) where
+      pub r_blank : Blank o e 12
+      r_blank =
+          blank_then (column 12 q') 24 12 later_blank v (omega (arith, column_length 12 q' (weight_fits x.q q' eq f.q_fits)))
+
+      pub row_written : (k : List ℕ) (end : ℕ) (r' : ℤ) → Written o e (column 12 r') k end → r' ≡ x.r
+          → Written l at (row_columns i x) k end
+      unfolding row_columns
+      row_written k end r' z er =
+          written_then (column 4 (pos i)) _ (rw (index_is i h) at w)
+          (written_then (column 12 x.p) _ (rw ep at u)
+          (written_then (column 12 x.q) (column 12 x.r) (rw eq at v) (rw er at z)))
 
 -- ---- row_shown: y is the triple that was read
 
@@ -141,35 +131,44 @@ module _ {l m : List ℕ} {at mid : ℕ} (t : List ℕ) (w : Written l at t m mi
 -- ---- lines 2 to 40, of a proof's rows
 
 module _ (s : List ℕ) (sh : Shape) where
+  abbrev lines : ℕ → List ℕ
+  lines i = texts_to (table_line (triple_of s sh) sh.k) i
+
   -- table_line
   module _ (i : ℕ) (l m : List ℕ) (at mid : ℕ) (w : Written l at (table_text (triple_of s sh) sh.k i) m mid) where
     pub table_written : Bytes s → Blank l at (suc page_width) → (o : List ℕ) (end : ℕ)
-        → Written m (at + page_width) (10 ∷ []) o end → Written l at (table_line (triple_of s sh) sh.k i) o end
+        → Written m (at + page_width) (10 ∷ []) o end
+        → Written l at (table_line (triple_of s sh) sh.k i) o (at + suc page_width)
     unfolding table_line
     table_written bs b o end u =
         let short = table_short (triple_of s sh) sh.k (λ j. triple_narrow s sh j bs) i in
-        line_written (table_text (triple_of s sh) sh.k i) w b (omega (arith, short)) u
+        let e : end ≡ at + suc page_width = omega (arith, u.ends) in
+        rw e at (line_written (table_text (triple_of s sh) sh.k i) w b (omega (arith, short)) u)
 
-  -- table: the first i lines are put, and end at mid
+  -- table: the first i lines are put
   pub table_start : (l : List ℕ) (at : ℕ) → Blank l at (suc page_rows * suc page_width)
-      → Written l at (texts_to (table_line (triple_of s sh) sh.k) 0) l at
-  table_start l at b = texts_start (table_line (triple_of s sh) sh.k) l at (omega (arith, b.inside))
+      → Written l at (lines 0) l (at + 0 * suc page_width)
+  table_start l at b =
+      let e : at + 0 * suc page_width ≡ at = omega arith in
+      rw e (texts_start (table_line (triple_of s sh) sh.k) l at (omega (arith, b.inside)))
 
-  module _ (l m : List ℕ) (at mid i : ℕ) (w : Written l at (texts_to (table_line (triple_of s sh) sh.k) i) m mid) where
-    pub table_end : i ≤ suc page_rows → page_rows < i
-        → Written l at (texts_to (table_line (triple_of s sh) sh.k) (suc page_rows)) m mid
+  module _ (l m : List ℕ) (at i : ℕ) (w : Written l at (lines i) m (at + i * suc page_width)) where
+    pub next_blank : Blank l at (suc page_rows * suc page_width) → i ≤ page_rows
+        → Blank m (at + i * suc page_width) (suc page_width)
+    next_blank b h =
+        blank_then (lines i) (suc page_rows * suc page_width) (suc page_width) b w (omega (arith, w.ends))
+
+    pub table_next : (o : List ℕ)
+        → Written m (at + i * suc page_width) (table_line (triple_of s sh) sh.k i) o
+        (at + i * suc page_width + suc page_width)
+        → Written l at (lines (i + 1)) o (at + (i + 1) * suc page_width)
+    table_next o u =
+        let e : at + (i + 1) * suc page_width ≡ at + i * suc page_width + suc page_width = omega arith in
+        rw e (texts_next (table_line (triple_of s sh) sh.k) i w u)
+
+    pub table_end : suc page_rows ≤ i → i ≤ suc page_rows
+        → Written l at (lines (suc page_rows)) m (at + suc page_rows * suc page_width)
     table_end g h = let e : i ≡ suc page_rows = omega arith in rw e at w
-
-pub next_blank : (m : List ℕ) (mid i : ℕ) → Blank m mid ((suc page_rows - i) * suc page_width) → i ≤ page_rows
-    → Blank m mid (suc page_width)
-next_blank m mid i b h = blank_part ((suc page_rows - i) * suc page_width) (suc page_width) b (omega arith)
-
-pub later_blank : (m o : List ℕ) (mid end i : ℕ) (t : List ℕ) → Written m mid t o end
-    → Blank m mid ((suc page_rows - i) * suc page_width) → end ≡ mid + suc page_width → i ≤ page_rows
-    → Blank o end ((suc page_rows - (i + 1)) * suc page_width)
-later_blank m o mid end i t w b e h =
-    blank_then t ((suc page_rows - i) * suc page_width) ((suc page_rows - (i + 1)) * suc page_width) b w
-    (omega (arith, w.ends))
 
 -- ---- lay_out: the first line ends before mid, its line feed before `later`
 
@@ -188,18 +187,18 @@ module _ (c s : List ℕ) (a : Answer) (l m : List ℕ) (mid : ℕ) (w : Written
       blank_then (page_line (verdict_line c s a)) page_length (suc page_rows * suc page_width) b first_written
       (omega (arith, line_length (verdict_line c s a) fits))
 
-  module _ (sh : Shape) (p : List ℕ) (end : ℕ) (el : length l ≡ page_length)
-      (v : Written o later (texts_to (table_line (triple_of s sh) sh.k) (suc page_rows)) p end) where
-    module _ (e : sh ≡ shown_of s a) (ev : end ≡ later + suc page_rows * suc page_width) where
-      pub page_written : p ≡ verdict_page c s a
-      unfolding verdict_page page_of
-      page_written = written_all _ (written_then _ _ first_written (rw e at v)) (omega (arith, ev, u.ends, el))
+  module _ (sh : Shape) (p : List ℕ) (el : length l ≡ page_length)
+      (v : Written o later (lines s sh (suc page_rows)) p (later + suc page_rows * suc page_width))
+      (e : sh ≡ shown_of s a) where
+    pub page_written : p ≡ verdict_page c s a
+    unfolding verdict_page page_of
+    page_written = written_all _ (written_then _ _ first_written (rw e at v)) (omega (arith, u.ends, el))
 
-      pub lines_lined : Bytes s → Lined p
-      lines_lined bs =
-          rw (page_written, verdict_shown c s a)
-          (page_lined (triple_of s (shown_of s a)) (shown_of s a).k (λ i. triple_narrow s (shown_of s a) i bs)
-          (verdict_line c s a) fits)
+    pub lines_lined : Bytes s → Lined p
+    lines_lined bs =
+        rw (page_written, verdict_shown c s a)
+        (page_lined (triple_of s (shown_of s a)) (shown_of s a).k (λ i. triple_narrow s (shown_of s a) i bs)
+        (verdict_line c s a) fits)
 
 -- ---- put_page
 

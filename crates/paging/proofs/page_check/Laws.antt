@@ -8,7 +8,7 @@ use borrow.Author.Tests.{eq-eqb, ne_eqb}
 use Rattle.integers.specs.Words.{Bytes}
 use Rattle.bounds.specs.declared.profiles.Profile.{Profile}
 use Rattle.answers.specs.Answers.{refused, Short}
-use Rattle.answers.proofs.answers.Laws.{if_on, if_stops, short_if}
+use Rattle.answers.proofs.answers.Laws.{if_on, short_if}
 use Rattle.judging.specs.Check.{check_answer, output_of}
 use Rattle.judging.proofs.Promises.{check_short}
 use Rattle.pages.specs.Pages.{page_length}
@@ -32,7 +32,7 @@ module _ (c s l : List ℕ) (π : Profile) (out page : List ℕ) where
   module _ (n : RightPage page → ⊥) where
     pub wrong_answer : page_answer c s l π (length out) (length page) ≡ refused 26 0
     unfolding page_answer
-    wrong_answer = if_stops _ 26 _ (rw (ne_eqb (length page) page_length n))
+    wrong_answer = rw (ne_eqb (length page) page_length n)
 
     pub wrong_output : page_output c s l π out (length page) ≡ out
     unfolding page_output

@@ -10,13 +10,15 @@ use native.Mathlib.Decide.{ℕ_discrete}
 use native.Mathlib.Numerals.{add-one}
 use native.Mathlib.Omega.{arith}
 use lib.Dec.{eqb, ltb, leb}
-use lib.ListN.{length, get_or, set, take, drop, replicate, length-replicate, length-set, length-append, replicate-append-replicate, get_or-append}
+use lib.ListN.{length, get_or, set, take, drop, replicate, length-replicate, length-set, length-append, length-take, length-drop, replicate-append-replicate, get_or-append}
 use lib.Pow.{shr-shr}
-use lib.Seq.{take-append_seam, get_or-append-add, set_at, set-append_left, get_or-set_other}
+use lib.Seq.{take-append_seam, get_or-append-add, set_at, set-append_left, get_or-set_other, ext_get_or, get_or-take, get_or-drop}
 use borrow.Author.Tests.{lt-ltb, le-ltb, ltb-true, ltb-false, le-leb, lt-leb, leb-true, eq-eqb, ne_eqb, eqb-true}
 use Rattle.bounds.specs.Bounds.{most_variables}
 use Rattle.points.specs.Lists.{table}
-use Rattle.points.specs.Points.{Exponents, exponents, padded, point_of, bytes_at, every, every_pair, same_point, rises_to, even_sum, has_midpoint, midpoint_of, Masked, OddsMasked, keeps_sign, pure_at, exponents_within}
+use Rattle.std.specs.List.{list_all}
+use Rattle.std.specs.Cmp.Lexicographic.{pointwise}
+use Rattle.points.specs.Points.{Exponents, exponents, padded, point_of, bytes_at, same_point, rises_to, even_sum, has_midpoint, midpoint_of, Masked, OddsMasked, keeps_sign, pure_at, exponents_within}
 use Rattle.points.specs.declared.points.Point.{Point}
 use Rattle.points.proofs.Lists.{table_length, table_get, table_split, table_same}
 
@@ -39,16 +41,16 @@ exponents_counted p n e = rw e (take_again p.n p.exps)
 -- ---- the same point
 
 pub same_eq : (v w : Exponents) → same_point v w ≡ true → v ≡ w
-unfolding same_point every_pair
+unfolding same_point
 same_eq [] [] e = refl
 same_eq [] (b ∷ w) e = absurd (false≢true e)
 same_eq (a ∷ v) [] e = absurd (false≢true e)
 same_eq (a ∷ v) (b ∷ w) e =
-    let q = (and-eq-true_iff (eqb a b) (every_pair eqb v w)).0 e in
+    let q = (and-eq-true_iff (eqb a b) (pointwise eqb v w)).0 e in
     ap₂ ◌∷◌ (eqb-true a b q.0) (same_eq v w q.1)
 
 pub same_refl : (v : Exponents) → same_point v v ≡ true
-unfolding same_point every_pair
+unfolding same_point
 same_refl [] = refl
 same_refl (a ∷ v) = rw (eq-eqb a a refl, same_refl v)
 
@@ -68,7 +70,8 @@ rises_self [] = refl
 rises_self (a ∷ v) = rw (le-ltb a a (omega arith)) (rises_self v)
 
 -- the first exponent decides, or the others do
-rises_first : (a b : ℕ) (v w : Exponents) → rises_to (a ∷ v) (b ∷ w) ≡ true → (a < b) ⊎ ((a ≡ b) × (rises_to v w ≡ true))
+rises_first : (a b : ℕ) (v w : Exponents) → rises_to (a ∷ v) (b ∷ w) ≡ true
+    → (a < b) ⊎ ((a ≡ b) × (rises_to v w ≡ true))
 unfolding rises_to
 rises_first a b v w = go (ltb a b) refl (ltb b a) refl
   where
@@ -93,7 +96,8 @@ rises_trans (a ∷ u) (b ∷ v) (c ∷ w) h k =
     rises_cons a c u w (go (rises_first a b u v h) (rises_first b c v w k) (rises_trans u v w))
   where
     go : (a < b) ⊎ ((a ≡ b) × (rises_to u v ≡ true)) → (b < c) ⊎ ((b ≡ c) × (rises_to v w ≡ true))
-        → (rises_to u v ≡ true → rises_to v w ≡ true → rises_to u w ≡ true) → (a < c) ⊎ ((a ≡ c) × (rises_to u w ≡ true))
+        → (rises_to u v ≡ true → rises_to v w ≡ true → rises_to u w ≡ true)
+        → (a < c) ⊎ ((a ≡ c) × (rises_to u w ≡ true))
     go (inl l) (inl m) f = inl (omega arith)
     go (inl l) (inr m) f = let e = m.0 in inl (omega arith)
     go (inr l) (inl m) f = let e = l.0 in inl (omega arith)
@@ -112,6 +116,14 @@ bytes_table s at n = refl
 pub bytes_get : (s : List ℕ) (at n i : ℕ) → i < n → get_or (bytes_at s at n) i 0 ≡ get_or s (at + i) 0
 unfolding bytes_at
 bytes_get s at n i h = table_get (λ j. get_or s (at + j) 0) 0 n i h
+
+-- they are that part of the list
+pub bytes_cut : (s : List ℕ) (at n : ℕ) → at + n ≤ length s → take (at + n - at) (drop at s) ≡ bytes_at s at n
+bytes_cut s at n l =
+    ext_get_or 0 (take (at + n - at) (drop at s)) (bytes_at s at n)
+    (omega (arith, length-take (at + n - at) (drop at s), length-drop at s, bytes_length s at n))
+    (λ i k. let j : i < n = omega (arith, length-take (at + n - at) (drop at s)) in
+    get_or-take (at + n - at) (drop at s) i 0 (omega arith) ∙ get_or-drop at s i 0 ∙ sym (bytes_get s at n i j))
 
 -- equal bytes are equal exponents
 pub bytes_same : (s t : List ℕ) (at n : ℕ) → ((i : ℕ) → i < n → get_or s (at + i) 0 ≡ get_or t (at + i) 0)
@@ -155,7 +167,7 @@ module _ (f : ℕ → ℕ) (n i : ℕ) where
       ap (λ (j : ℕ). get_or (padded (table f n)) j 0) e
       ∙ get_or-append-add (table f n) _ (i - n) 0 ∙ zeros_get (most_variables - length (table f n)) (i - n)
 
-padded_set : (L : List ℕ) (v : ℕ) → length L < most_variables → set (padded L) (length L) v ≡ padded (L ++ (v ∷ []))
+pub padded_set : (L : List ℕ) (v : ℕ) → length L < most_variables → set (padded L) (length L) v ≡ padded (L ++ (v ∷ []))
 unfolding padded
 padded_set L v h =
     let left : most_variables - length L ≡ suc (most_variables - suc (length L)) = omega arith in
@@ -186,7 +198,7 @@ zeros_point n h =
 
 -- its exponents are within any limit
 pub zeros_within : (limit n : ℕ) → exponents_within limit (replicate n 0) ≡ true
-unfolding exponents_within every
+unfolding exponents_within
 zeros_within limit zero = refl
 zeros_within limit (suc n) = rw (le-leb 0 limit (omega arith), zeros_within limit n)
 
@@ -231,7 +243,7 @@ pure_none (suc n) zero = refl
 pure_none (suc n) (suc i) = ap (◌∷◌ 0) (pure_none n i)
 
 pub pure_within : (limit n i e : ℕ) → e ≤ limit → exponents_within limit (pure_at n i e) ≡ true
-unfolding exponents_within every pure_at
+unfolding exponents_within pure_at
 pure_within limit zero i e h = refl
 pure_within limit (suc n) zero e h = rw (le-leb e limit h) (zeros_within limit n)
 pure_within limit (suc n) (suc i) e h = rw (le-leb 0 limit (omega arith)) (pure_within limit n i e h)
@@ -244,15 +256,15 @@ midpoint_none w = refl
 
 pub within_more : (limit a : ℕ) (α : Exponents) → exponents_within limit (a ∷ α) ≡ true
     → (a ≤ limit) × (exponents_within limit α ≡ true)
-unfolding exponents_within every
+unfolding exponents_within
 within_more limit a α h =
-    let q = (and-eq-true_iff (leb a limit) (every (λ b. leb b limit) α)).0 h in
+    let q = (and-eq-true_iff (leb a limit) (list_all (λ b. leb b limit) α)).0 h in
     (leb-true a limit q.0, q.1)
 
 -- what is within a limit is within a larger one
 pub within_larger : (limit larger : ℕ) → limit ≤ larger → (α : Exponents) → exponents_within limit α ≡ true
     → exponents_within larger α ≡ true
-unfolding exponents_within every
+unfolding exponents_within
 within_larger limit larger l [] h = refl
 within_larger limit larger l (a ∷ α) h =
     let q = within_more limit a α h in
@@ -264,14 +276,14 @@ module _ (a b : ℕ) (v w : Exponents) where
   midpoint_more = refl
 
   pub whole_more : has_midpoint (a ∷ v) (b ∷ w) ≡ true → ((a + b) % 2 ≡ 0) × (has_midpoint v w ≡ true)
-  unfolding has_midpoint every_pair even_sum
+  unfolding has_midpoint even_sum
   whole_more h =
-      let q = (and-eq-true_iff (eqb ((a + b) % 2) 0) (every_pair even_sum v w)).0 h in
+      let q = (and-eq-true_iff (eqb ((a + b) % 2) 0) (pointwise even_sum v w)).0 h in
       (eqb-true ((a + b) % 2) 0 q.0, q.1)
 
 -- points with a whole midpoint have as many variables
 pub whole_sized : (v w : Exponents) → has_midpoint v w ≡ true → length v ≡ length w
-unfolding has_midpoint every_pair
+unfolding has_midpoint
 whole_sized [] [] h = refl
 whole_sized [] (b ∷ w) h = absurd (false≢true h)
 whole_sized (a ∷ v) [] h = absurd (false≢true h)
@@ -292,18 +304,18 @@ midpoint_sized v w n h k = omega (arith, midpoint_length v w)
 -- and no exponent over the limit of theirs
 pub midpoint_within : (limit : ℕ) (v w : Exponents) → exponents_within limit v ≡ true → exponents_within limit w ≡ true
     → exponents_within limit (midpoint_of v w) ≡ true
-unfolding exponents_within every midpoint_of
+unfolding exponents_within midpoint_of
 midpoint_within limit [] w h k = refl
 midpoint_within limit (a ∷ v) [] h k = refl
 midpoint_within limit (a ∷ v) (b ∷ w) h k =
-    let p = (and-eq-true_iff (leb a limit) (every (λ e. leb e limit) v)).0 h in
-    let q = (and-eq-true_iff (leb b limit) (every (λ e. leb e limit) w)).0 k in
+    let p = (and-eq-true_iff (leb a limit) (list_all (λ e. leb e limit) v)).0 h in
+    let q = (and-eq-true_iff (leb b limit) (list_all (λ e. leb e limit) w)).0 k in
     let m : (a + b) / 2 ≤ limit = omega (arith, leb-true a limit p.0, leb-true b limit q.0) in
     rw (le-leb ((a + b) / 2) limit m, midpoint_within limit v w p.1 q.1)
 
 -- where it is the constant's point, so are both
 pub middle_constant : (n : ℕ) (v w : Exponents) → has_midpoint v w ≡ true → midpoint_of v w ≡ replicate n 0 → v ≡ w
-unfolding has_midpoint every_pair midpoint_of
+unfolding has_midpoint midpoint_of
 middle_constant n [] [] h e = refl
 middle_constant n [] (b ∷ w) h e = absurd (false≢true h)
 middle_constant n (a ∷ v) [] h e = absurd (false≢true h)
@@ -327,8 +339,8 @@ constant_kept mask zero = refl
 constant_kept mask (suc n) = rw (le-leb 0 (mask % 2) (omega arith), constant_kept (mask / 2) n)
 
 -- without a mask: "every exponent is even"
-pub keeps_even : (α : Exponents) → keeps_sign 0 α ≡ every (λ e. eqb (e % 2) 0) α
-unfolding keeps_sign every
+pub keeps_even : (α : Exponents) → keeps_sign 0 α ≡ list_all (λ e. eqb (e % 2) 0) α
+unfolding keeps_sign
 keeps_even [] = refl
 keeps_even (e ∷ α) = ap₂ ◌&&◌ (go (ℕ_discrete (e % 2) 0)) (keeps_even α)
   where

@@ -9,9 +9,10 @@ use Rattle.integers.specs.Words.{Bytes}
 use Rattle.bounds.specs.Bounds.{most_rows, most_variables}
 use Rattle.bounds.specs.Profiles.{InRange, full_profile}
 use Rattle.bounds.proofs.profiles.Laws.{full_range_lem, range_facts}
-use Rattle.answers.specs.Answers.{Passes, Short}
-use Rattle.answers.proofs.answers.Laws.{passes_if, passes_then, short_if, short_then}
-use Rattle.sheets.specs.Layout.{variables, shape_of}
+use Rattle.answers.specs.Answers.{accepted, Passes, Short}
+use Rattle.answers.proofs.answers.Laws.{passes_if, passes_then, told_passed, short_if, short_then}
+use Rattle.sheets.specs.Layout.{variables, shape_of, ProofRoom}
+use Rattle.sheets.specs.declared.layout.Shape.{Shape}
 use Rattle.checks.specs.ProofChecks.{header_answer, rows_answer, HeaderFacts, ProofFacts}
 use Rattle.checks.proofs.proof_checks.Laws.{unused_zero, header_facts, proof_facts, header_short, rows_short}
 use Rattle.listings.proofs.variables.Laws.{right_variables}
@@ -24,6 +25,11 @@ full_in_range = range_facts full_profile full_range_lem
 pub sized_facts : (s : List ℕ) → 1 ≤ variables s → variables s ≤ most_variables
     → Passes (header_answer most_rows (variables s) s) → HeaderFacts s (shape_of s)
 sized_facts s some few h = (header_facts most_rows (variables s) s (omega arith) some few h).1
+
+-- the same by the result of the check, where n and the shape are what was read
+pub rows_there : (s : List ℕ) (n : ℕ) (sh : Shape) → accepted 0 ≡ header_answer most_rows n s → n ≡ variables s
+    → sh ≡ shape_of s → 1 ≤ variables s → variables s ≤ most_variables → ProofRoom s sh
+rows_there s n sh h en es some few = rw es (sized_facts s some few (told_passed _ (rw en at h))).room
 
 module _ (s : List ℕ) (h : Passes (own_answer s)) where
   record Parts : Type 0 where

@@ -8,7 +8,6 @@ use lib.IntN.{pos}
 use lib.ListN.{length, get_or, length-append}
 use Rattle.integers.specs.Words.{Bytes}
 use Rattle.integers.proofs.Tests.{never}
-use Rattle.bounds.specs.Bounds.{most_rows}
 use Rattle.answers.specs.Answers.{says, Short}
 use Rattle.answers.specs.declared.answers.Verdict.{Verdict}
 use Rattle.points.specs.Lists.{table, All}
@@ -34,7 +33,7 @@ use Rattle.listings.proofs.Putting.{count_put}
 use Rattle.listings.proofs.Same.{Same, same_byte, same_then, same_entries, same_exponents, same_short, same_count, same_word, same_whole}
 use Rattle.listings.proofs.exponents.Laws.{first_label, exponents_first, exponents_apart, exponents_labelled, exponents_inline, exponents_short}
 use Rattle.proof_listing.specs.OwnChecks.{own_answer}
-use Rattle.proof_listing.specs.ProofText.{head_fields, second_fields, end_fields, weight_fields, pair_fields, lone_fields, kind_fields, row_fields, rows_text, proof_fields, FormedProof, lone_begins}
+use Rattle.proof_listing.specs.ProofText.{longest, head_fields, weight_fields, pair_fields, lone_fields, row_fields, rows_text, proof_fields, FormedProof, lone_begins}
 use Rattle.proof_listing.proofs.own_checks.Laws.{own_facts, own_unused, own_short}
 
 -- ---- what is put after what
@@ -45,7 +44,7 @@ weights_put x = simp (fields_more, fields_none, append-nil) (sym (weights_are x)
 
 pub proof_pieces : (s : List ℕ) → listing (proof_fields s)
     ≡ fields_text (head_fields s) ++ (rows_text s (shape_of s) ++ ascii "\n")
-unfolding proof_fields rows_text
+unfolding proof_fields
 proof_pieces s =
     let f = row_fields s (shape_of s) in
     rw (
@@ -57,11 +56,14 @@ proof_pieces s =
 
 -- ---- labels, and lines
 
--- a lone row and a pair, whatever holds of both
+-- a lone row and a pair
+abbrev kind_fields : List ℕ → Shape → ℕ → List Field
+kind_fields s sh i = cond (same_point (v_of s sh i) (w_of s sh i)) (lone_fields s sh i) (pair_fields s sh i)
+
+-- whatever holds of both
 module _ (P : List Field → Type 0) (s : List ℕ) (sh : Shape) (i : ℕ) (lone : P (lone_fields s sh i))
     (pair : P (pair_fields s sh i)) where
   either : P (kind_fields s sh i)
-  unfolding kind_fields
   either = go (same_point (v_of s sh i) (w_of s sh i))
     where
       go : (b : Bool) → P (cond b (lone_fields s sh i) (pair_fields s sh i))
@@ -73,10 +75,11 @@ module _ (s : List ℕ) (sh : Shape) (i : ℕ) where
   kind_all : (P : Field → Type 0) → All P (exponent_fields lone_begins (v_of s sh i))
       → All P (exponent_fields (ascii " pair v") (v_of s sh i)) → All P (exponent_fields (ascii " w") (w_of s sh i))
       → All P (weight_fields (triple_of s sh i)) → All P (kind_fields s sh i)
-  unfolding lone_fields pair_fields end_fields second_fields weight_fields
+  unfolding lone_fields pair_fields weight_fields
   kind_all P l v w x =
       either (All P) s sh i (all_append P (exponent_fields lone_begins (v_of s sh i)) _ l (x.0, tt))
-      (all_append P (end_fields s sh i) _ (all_append P (exponent_fields (ascii " pair v") (v_of s sh i)) _ v w) x)
+      (all_append P (exponent_fields (ascii " pair v") (v_of s sh i)) _ v
+      (all_append P (exponent_fields (ascii " w") (w_of s sh i)) _ w x))
 
   row_labelled : Labelled (row_fields s sh i)
   unfolding row_fields weight_fields
@@ -115,7 +118,7 @@ proof_labelled s = (
 
 module _ (s : List ℕ) (sh : Shape) (f : HeaderFacts s sh) (b : Bytes s) (i : ℕ) where
   kind_short : length (fields_text (kind_fields s sh i)) ≤ 115
-  unfolding lone_fields pair_fields end_fields second_fields weight_fields
+  unfolding lone_fields pair_fields weight_fields
   kind_short =
       let x = triple_narrow s sh i b in
       let u = exponents_short lone_begins s (v_at sh i) sh.n b f.some in
@@ -150,8 +153,7 @@ head_short s f =
       counted_short (ascii "\nscale ") 6 (scale_of s) (omega (arith, f.scale_within)),
     ))
 
-pub proof_short : (s : List ℕ) → FormedProof s → length (listing (proof_fields s)) ≤ 32 + 123 * most_rows
-unfolding rows_text
+pub proof_short : (s : List ℕ) → FormedProof s → length (listing (proof_fields s)) ≤ longest
 proof_short s h =
     let f = (own_facts s h.passes).header in
     rw (proof_pieces s)
@@ -218,9 +220,9 @@ module _ (s z : List ℕ) (sh : Shape) (i : ℕ) (some : 1 ≤ sh.n) where
       }
 
   pair_same : pair_fields s sh i ≡ pair_fields z sh i → RowSame s z sh i
-  unfolding pair_fields end_fields second_fields weight_fields
+  unfolding pair_fields weight_fields
   pair_same e =
-      let v = exponents_apart (ascii " pair v") (v_of s sh i) (v_of z sh i) _ _ v_long (simp append_assoc at e) in
+      let v = exponents_apart (ascii " pair v") (v_of s sh i) (v_of z sh i) _ _ v_long e in
       let w = exponents_apart (ascii " w") (w_of s sh i) (w_of z sh i) _ _ w_long v.1 in
       let p = split_number w.1 in
       let q = split_number p.1 in
@@ -234,14 +236,13 @@ module _ (s z : List ℕ) (sh : Shape) (i : ℕ) (some : 1 ≤ sh.n) where
       (exponents_first lone_begins (v_of l sh i) _ (rw (v_counts l) some))
 
   pair_letter : (l : List ℕ) → letter (pair_fields l sh i) ≡ 112
-  unfolding pair_fields end_fields
+  unfolding pair_fields
   pair_letter l =
-      ap letter (append_assoc (exponent_fields (ascii " pair v") (v_of l sh i)) _ _)
-      ∙ ap (λ (label : List ℕ). get_or label 1 0)
+      ap (λ (label : List ℕ). get_or label 1 0)
       (exponents_first (ascii " pair v") (v_of l sh i) _ (rw (v_counts l) some))
 
   row_same : Unused s → Unused z → row_fields s sh i ≡ row_fields z sh i → RowSame s z sh i
-  unfolding row_fields kind_fields
+  unfolding row_fields
   row_same us uz e = go (lone? s) (lone? z) refl refl (split_count e).1
     where
       go : (a b : Bool) → lone? s ≡ a → lone? z ≡ b

@@ -1,5 +1,5 @@
 -- The steps of the functions that put a proof's text.
-use mathlib.Core.Path.{◌≡◌, refl}
+use mathlib.Core.Path.{◌≡◌, refl, ap}
 use mathlib.Core.Bool.{Bool, true, false}
 use mathlib.Core.List.{List, [], ◌∷◌, ◌++◌}
 use Prim.Native.Nat.{ℕ, ◌+◌, ◌*◌, ◌<◌, ◌≤◌}
@@ -8,44 +8,29 @@ use native.Mathlib.Omega.{arith}
 use lib.IntN.{ℤ}
 use lib.ListN.{length}
 use Rattle.integers.specs.Words.{Bytes}
-use Rattle.bounds.specs.Bounds.{most_rows}
 use Rattle.answers.specs.Answers.{says, Passes}
 use Rattle.answers.specs.declared.answers.Verdict.{Verdict}
 use Rattle.points.specs.Points.{bytes_at, exponents, point_of, same_point}
 use Rattle.points.specs.declared.points.Point.{Point}
 use Rattle.points.proofs.points.Laws.{exponents_of}
-use Rattle.sheets.specs.Layout.{variables, shape_of, v_at, ProofRoom}
+use Rattle.sheets.specs.Layout.{shape_of, v_at, ProofRoom}
 use Rattle.sheets.specs.declared.layout.Shape.{Shape}
-use Rattle.rows.specs.ProofSheet.{scale_of, v_of, w_of, triple_of}
+use Rattle.rows.specs.ProofSheet.{v_of, w_of, triple_of}
 use Rattle.rows.specs.declared.proof_sheet.Triple.{Triple}
 use Rattle.rows.proofs.proof_sheet.Laws.{v_bytes, w_bytes}
 use Rattle.text.specs.Text.{ascii, counted, numbered, texts_to, Room, Written}
 use Rattle.text.specs.Lines.{weights_text}
-use Rattle.text.proofs.text.Laws.{room_first, room_then, written_then, texts_start, texts_room}
-use Rattle.listings.specs.Fields.{exponent_fields, fields_text, listing}
+use Rattle.text.proofs.text.Laws.{room_first, room_then, written_then, texts_room}
+use Rattle.listings.specs.Fields.{number, exponent_fields, fields_text, listing}
 use Rattle.listings.specs.Listings.{listing_answer, listing_after, ListingPromises}
 use Rattle.listings.proofs.Listings.{listing_promises}
-use Rattle.listings.proofs.Putting.{after_count, count_written, second_room, both_written, last_number, last_count}
+use Rattle.listings.proofs.Putting.{Puts, puts_count, puts_number, field_room, after_field, field_then, field_last, first_room, rest_room, both_written}
 use Rattle.proof_listing.specs.OwnChecks.{own_answer}
-use Rattle.proof_listing.specs.ProofText.{head_fields, second_fields, end_fields, pair_fields, lone_fields, kind_fields, row_fields, rows_text, proof_fields, FormedProof, lone_begins}
+use Rattle.proof_listing.specs.ProofText.{longest, head_fields, pair_fields, lone_fields, row_fields, rows_text, proof_fields, FormedProof, lone_begins}
 use Rattle.proof_listing.proofs.own_checks.Laws.{own_facts}
 use Rattle.proof_listing.proofs.proof_text.Laws.{weights_put, proof_pieces, proof_labelled, proof_short, proof_apart}
 
--- ---- head_text: n and S are what was read
-
-module _ (s l k : List ℕ) (from mid n : ℕ) (en : n ≡ variables s)
-    (w : Written l from (counted (ascii "proof\nvariables ") n) k mid) (S : ℕ) (eS : S ≡ scale_of s) where
-  pub scale_room : Room l from (fields_text (head_fields s)) → Room k mid (counted (ascii "\nscale ") S)
-  unfolding head_fields
-  scale_room r = rw eS (rw (last_count (ascii "\nscale ") (scale_of s)) at (after_count _ (variables s) n _ en w r))
-
-  pub head_written : (o : List ℕ) (end : ℕ) → Written k mid (counted (ascii "\nscale ") S) o end
-      → Written l from (fields_text (head_fields s)) o end
-  unfolding head_fields
-  head_written o end u =
-      count_written _ (variables s) n _ en w (rw (last_count (ascii "\nscale ") (scale_of s)) (rw eS at u))
-
--- ---- v_text and w_text: `at` is where the row's points begin
+-- ---- pair_text and lone_text: `at` is where the row's points begin, x is the triple that was read
 
 module _ (s : List ℕ) (sh : Shape) (i at : ℕ) (e : at ≡ v_at sh i) where
   module _ (r : ProofRoom s sh) (h : i < sh.k) where
@@ -55,99 +40,91 @@ module _ (s : List ℕ) (sh : Shape) (i at : ℕ) (e : at ≡ v_at sh i) where
     pub w_inside : at + sh.n + sh.n ≤ length s
     w_inside = omega (arith, r.long, mul-le-mul_right (2 * sh.n) h)
 
+  v_put : v_of s sh i ≡ bytes_at s at sh.n
+  v_put = rw e (v_bytes s sh i)
+
+  w_put : w_of s sh i ≡ bytes_at s (at + sh.n) sh.n
+  w_put = rw e (w_bytes s sh i)
+
   module _ (l : List ℕ) (from : ℕ) where
-    module _ (label : List ℕ) where
-      pub v_room : Room l from (fields_text (exponent_fields label (v_of s sh i)))
-          → Room l from (fields_text (exponent_fields label (bytes_at s at sh.n)))
-      v_room r = rw (e, ← v_bytes s sh i) r
+    pub v_room : Room l from (fields_text (pair_fields s sh i))
+        → Room l from (fields_text (exponent_fields (ascii " pair v") (bytes_at s at sh.n)))
+    unfolding pair_fields
+    v_room r = rw (← v_put) (first_room _ _ r)
 
-      pub v_written : (o : List ℕ) (end : ℕ)
-          → Written l from (fields_text (exponent_fields label (bytes_at s at sh.n))) o end
-          → Written l from (fields_text (exponent_fields label (v_of s sh i))) o end
-      v_written o end w = rw (v_bytes s sh i, ← e) w
+    module _ (k : List ℕ) (mid : ℕ)
+        (w : Written l from (fields_text (exponent_fields (ascii " pair v") (bytes_at s at sh.n))) k mid) where
+      pub w_room : Room l from (fields_text (pair_fields s sh i))
+          → Room k mid (fields_text (exponent_fields (ascii " w") (bytes_at s (at + sh.n) sh.n)))
+      unfolding pair_fields
+      w_room r = rw (← w_put) (first_room _ _ (rest_room _ _ (rw (← v_put) at w) r))
 
-    pub w_room : Room l from (fields_text (second_fields s sh i))
-        → Room l from (fields_text (exponent_fields (ascii " w") (bytes_at s (at + sh.n) sh.n)))
-    unfolding second_fields
-    w_room r = rw (e, ← w_bytes s sh i) r
+      module _ (m : List ℕ) (far : ℕ)
+          (u : Written k mid (fields_text (exponent_fields (ascii " w") (bytes_at s (at + sh.n) sh.n))) m far)
+          (x : Triple) (ex : x ≡ triple_of s sh i) where
+        pub weights_room : Room l from (fields_text (pair_fields s sh i)) → Room m far (weights_text x)
+        unfolding pair_fields
+        weights_room r =
+            rw ex
+            (rw (weights_put (triple_of s sh i))
+            at (rest_room _ _ (rw (← w_put) at u) (rest_room _ _ (rw (← v_put) at w) r)))
 
-    pub w_written : (o : List ℕ) (end : ℕ)
-        → Written l from (fields_text (exponent_fields (ascii " w") (bytes_at s (at + sh.n) sh.n))) o end
-        → Written l from (fields_text (second_fields s sh i)) o end
-    unfolding second_fields
-    w_written o end w = rw (w_bytes s sh i, ← e) w
+        pub pair_written : (o : List ℕ) (end : ℕ) → Written m far (weights_text x) o end
+            → Written l from (fields_text (pair_fields s sh i)) o end
+        unfolding pair_fields
+        pair_written o end z =
+            both_written _ _ (rw (← v_put) at w)
+            (both_written _ _ (rw (← w_put) at u) (rw (weights_put (triple_of s sh i)) (rw ex at z)))
 
--- ---- pair_text: x is the triple that was read
+    pub lone_room : Room l from (fields_text (lone_fields s sh i))
+        → Room l from (fields_text (exponent_fields lone_begins (bytes_at s at sh.n)))
+    unfolding lone_fields
+    lone_room r = rw (← v_put) (first_room _ _ r)
 
-module _ (s l k : List ℕ) (sh : Shape) (i from mid : ℕ) (w : Written l from (fields_text (end_fields s sh i)) k mid)
-    (x : Triple) (ex : x ≡ triple_of s sh i) where
-  pub weights_room : Room l from (fields_text (pair_fields s sh i)) → Room k mid (weights_text x)
-  unfolding pair_fields
-  weights_room r = rw ex (rw (weights_put (triple_of s sh i)) at (second_room (end_fields s sh i) _ w r))
+    -- p is what the machine reads back of the triple's first number
+    module _ (k : List ℕ) (mid : ℕ)
+        (w : Written l from (fields_text (exponent_fields lone_begins (bytes_at s at sh.n))) k mid) (x : Triple) (p : ℤ)
+        (ex : x ≡ triple_of s sh i) (back : p ≡ x.p) where
+      weight : Puts (numbered (ascii " p ") p) (number (ascii " p ") (triple_of s sh i).p)
+      weight = puts_number _ _ x.p p back (ap (λ (x : Triple). x.p) ex)
 
-  pub pair_written : (o : List ℕ) (end : ℕ) → Written k mid (weights_text x) o end
-      → Written l from (fields_text (pair_fields s sh i)) o end
-  unfolding pair_fields
-  pair_written o end u = both_written (end_fields s sh i) _ w (rw (weights_put (triple_of s sh i)) (rw ex at u))
+      pub weight_room : Room l from (fields_text (lone_fields s sh i)) → Room k mid (numbered (ascii " p ") p)
+      unfolding lone_fields
+      weight_room r = field_room k mid _ _ weight [] (rest_room _ _ (rw (← v_put) at w) r)
 
--- ---- lone_text: x is the triple that was read, and p what the machine reads back of its first number
+      pub lone_written : (o : List ℕ) (end : ℕ) → Written k mid (numbered (ascii " p ") p) o end
+          → Written l from (fields_text (lone_fields s sh i)) o end
+      unfolding lone_fields
+      lone_written o end u = both_written _ _ (rw (← v_put) at w) (field_last k mid _ _ weight o end u)
 
-module _ (s l k : List ℕ) (sh : Shape) (i from mid : ℕ)
-    (w : Written l from (fields_text (exponent_fields lone_begins (v_of s sh i))) k mid) (x : Triple) (p : ℤ)
-    (ex : x ≡ triple_of s sh i) (back : p ≡ x.p) where
-  pub lone_room : Room l from (fields_text (lone_fields s sh i)) → Room k mid (numbered (ascii " p ") p)
-  unfolding lone_fields
-  lone_room r = rw (back, ex) (rw (last_number (ascii " p ") _) at (second_room _ _ w r))
-
-  pub lone_written : (o : List ℕ) (end : ℕ) → Written k mid (numbered (ascii " p ") p) o end
-      → Written l from (fields_text (lone_fields s sh i)) o end
-  unfolding lone_fields
-  lone_written o end u = both_written _ _ w (rw (last_number (ascii " p ") _) (rw (back, ex) at u))
-
--- ---- is_lone and kind_text: v and w are the points that were read
+-- ---- is_lone and row_text: v and w are the points that were read
 
 pub lone_is : (s : List ℕ) (sh : Shape) (i : ℕ) (v w : Point) (r : Bool) → v ≡ point_of (v_of s sh i)
-    → w ≡ point_of (w_of s sh i) → r ≡ same_point (exponents v) (exponents w) → r ≡ same_point (v_of s sh i) (w_of s sh i)
+    → w ≡ point_of (w_of s sh i) → r ≡ same_point (exponents v) (exponents w)
+    → r ≡ same_point (v_of s sh i) (w_of s sh i)
 lone_is s sh i v w r ev ew er = rw (ev, ew, exponents_of (v_of s sh i), exponents_of (w_of s sh i)) at er
 
-module _ (s l : List ℕ) (sh : Shape) (i from : ℕ) (r : Bool) (er : r ≡ same_point (v_of s sh i) (w_of s sh i)) where
+module _ (s l k : List ℕ) (sh : Shape) (i from mid : ℕ) (w : Written l from (counted (ascii "\nrow ") i) k mid)
+    (r : Bool) (er : r ≡ same_point (v_of s sh i) (w_of s sh i)) where
   module _ (t : r ≡ true) where
-    pub lone_kind : Room l from (fields_text (kind_fields s sh i)) → Room l from (fields_text (lone_fields s sh i))
-    unfolding kind_fields
-    lone_kind h = rw (← er, t) at h
+    pub lone_next : Room l from (fields_text (row_fields s sh i)) → Room k mid (fields_text (lone_fields s sh i))
+    unfolding row_fields
+    lone_next h = rw (← er, t) at (after_field l from _ _ (puts_count _ i i refl) k mid w _ h)
 
-    pub kind_lone : (o : List ℕ) (end : ℕ) → Written l from (fields_text (lone_fields s sh i)) o end
-        → Written l from (fields_text (kind_fields s sh i)) o end
-    unfolding kind_fields
-    kind_lone o end w = rw (← er, t) w
+    pub lone_row : (o : List ℕ) (end : ℕ) → Written k mid (fields_text (lone_fields s sh i)) o end
+        → Written l from (fields_text (row_fields s sh i)) o end
+    unfolding row_fields
+    lone_row o end u = field_then l from _ _ (puts_count _ i i refl) k mid w _ o end (rw (← er, t) u)
 
   module _ (t : r ≡ false) where
-    pub pair_kind : Room l from (fields_text (kind_fields s sh i)) → Room l from (fields_text (pair_fields s sh i))
-    unfolding kind_fields
-    pair_kind h = rw (← er, t) at h
+    pub pair_next : Room l from (fields_text (row_fields s sh i)) → Room k mid (fields_text (pair_fields s sh i))
+    unfolding row_fields
+    pair_next h = rw (← er, t) at (after_field l from _ _ (puts_count _ i i refl) k mid w _ h)
 
-    pub kind_pair : (o : List ℕ) (end : ℕ) → Written l from (fields_text (pair_fields s sh i)) o end
-        → Written l from (fields_text (kind_fields s sh i)) o end
-    unfolding kind_fields
-    kind_pair o end w = rw (← er, t) w
-
--- ---- rows_text
-
-module _ (s l : List ℕ) (sh : Shape) (from : ℕ) where
-  abbrev lines : ℕ → List ℕ
-  lines i = texts_to (λ j. fields_text (row_fields s sh j)) i
-
-  pub rows_start : Room l from (rows_text s sh) → Written l from (lines 0) l from
-  rows_start r = texts_start _ l from (omega (arith, r.room))
-
-  module _ (i end : ℕ) (m : List ℕ) (w : Written l from (lines i) m end) where
-    pub row_room : Room l from (rows_text s sh) → i < sh.k → Room m end (fields_text (row_fields s sh i))
-    unfolding rows_text
-    row_room r h = texts_room (λ j. fields_text (row_fields s sh j)) i w sh.k r h
-
-    pub rows_end : sh.k ≤ i → i ≤ sh.k → Written l from (rows_text s sh) m end
-    unfolding rows_text
-    rows_end h g = let e : i ≡ sh.k = omega arith in rw e at w
+    pub pair_row : (o : List ℕ) (end : ℕ) → Written k mid (fields_text (pair_fields s sh i)) o end
+        → Written l from (fields_text (row_fields s sh i)) o end
+    unfolding row_fields
+    pair_row o end u = field_then l from _ _ (puts_count _ i i refl) k mid w _ o end (rw (← er, t) u)
 
 -- ---- whole_text: sh is the shape that was read
 
@@ -162,7 +139,7 @@ module _ (s : List ℕ) (h : Passes (own_answer s)) where
     pub some_there : 1 ≤ sh.n
     some_there = rw es (own_facts s h).header.some
 
-  module _ (l : List ℕ) (b : Bytes s) (el : length l ≡ 32 + 123 * most_rows) where
+  module _ (l : List ℕ) (b : Bytes s) (el : length l ≡ longest) where
     abbrev later : List ℕ
     later = rows_text s (shape_of s) ++ ascii "\n"
 
@@ -174,19 +151,25 @@ module _ (s : List ℕ) (h : Passes (own_answer s)) where
     pub head_room : Room l 0 (fields_text (head_fields s))
     head_room = room_first _ later whole
 
-    module _ (k : List ℕ) (mid : ℕ) (w : Written l 0 (fields_text (head_fields s)) k mid) (sh : Shape)
-        (es : sh ≡ shape_of s) where
-      pub rows_room : Room k mid (rows_text s sh)
-      rows_room = rw es (room_first _ (ascii "\n") (room_then _ later whole w))
+    -- the lines of the first i rows are put
+    module _ (sh : Shape) (i : ℕ) (es : sh ≡ shape_of s) (k o : List ℕ) (mid far : ℕ)
+        (w : Written l 0 (fields_text (head_fields s)) k mid)
+        (u : Written k mid (texts_to (λ j. fields_text (row_fields s sh j)) i) o far) where
+      pub row_room : i < sh.k → Room o far (fields_text (row_fields s sh i))
+      row_room g =
+          texts_room (λ j. fields_text (row_fields s sh j)) i u sh.k
+          (rw es (room_first _ (ascii "\n") (room_then _ later whole w))) g
 
-      module _ (o : List ℕ) (far : ℕ) (u : Written k mid (rows_text s sh) o far) where
+      module _ (g : sh.k ≤ i) (f : i ≤ sh.k) where
+        all : Written k mid (rows_text s (shape_of s)) o far
+        all = let e : i ≡ sh.k = omega arith in rw (e, es) at u
+
         pub feed_room : Room o far (10 ∷ [])
-        feed_room = room_then _ (ascii "\n") (room_then _ later whole w) (rw es at u)
+        feed_room = room_then _ (ascii "\n") (room_then _ later whole w) all
 
         pub whole_written : (p : List ℕ) (end : ℕ) → Written o far (10 ∷ []) p end
             → Written l 0 (listing (proof_fields s)) p end
-        whole_written p end v =
-            rw (proof_pieces s) (written_then _ later w (written_then _ (ascii "\n") (rw es at u) v))
+        whole_written p end v = rw (proof_pieces s) (written_then _ later w (written_then _ (ascii "\n") all v))
 
 -- ---- proof_text: r is its verdict, and `after` the buffer then
 

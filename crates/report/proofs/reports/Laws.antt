@@ -17,7 +17,7 @@ use Rattle.text.specs.Text.{ascii}
 use Rattle.text.specs.Lines.{accepted_line, row_line, refused_line}
 use Rattle.text.proofs.text.Laws.{texts_none, texts_same}
 use Rattle.text.proofs.lines.Laws.{accepted_begins, refused_begins}
-use Rattle.report.specs.Reports.{ended, shape_with, shown_of, verdict_line, row_text, rows_text, report_lines, has_rows, reportable, report_text, lines_of}
+use Rattle.report.specs.Reports.{ended, shape_with, shown_of, verdict_line, row_text, report_lines, has_rows, reportable, report_text, lines_of}
 
 -- ---- what a verdict shows
 
@@ -53,7 +53,7 @@ refused_word number index = refused_begins number index (ascii "\n")
 module _ (c s : List ℕ) where
   pub refused_lines : (a : Answer) → blameless a ≡ false
       → report_text c s a ≡ ended (refused_line a.number a.value)
-  unfolding report_text reportable report_lines rows_text
+  unfolding report_text reportable report_lines
   refused_lines a h =
       rw (h, refused_line_lem c s a h, none_shown s a h, texts_none (row_text s (record { n = 0; k = 0 })))
       (append-nil (ended (refused_line a.number a.value)))
@@ -75,7 +75,7 @@ module _ (c s : List ℕ) where
     pub accepted_lines_lem : (S : ℕ) (x : ℕ → Triple) → scale_of s ≡ S
         → ((i : ℕ) → i < k → triple_of s (shape_with s k) i ≡ x i)
         → report_text c s (accepted k) ≡ ended (accepted_line k S (floor_of c)) ++ lines_of x k
-    unfolding report_text report_lines rows_text row_text lines_of
+    unfolding report_text report_lines row_text lines_of
     accepted_lines_lem S x es ex =
         rw (has_report, accepted_line_lem c s (accepted k) k refl, all_shown s (accepted k) k refl, es)
         (ap (λ (l : List ℕ). ended (accepted_line k S (floor_of c)) ++ l)

@@ -11,13 +11,13 @@ use borrow.Author.Tests.{le-leb, lt-leb, leb-true}
 use mir.Syntax.{w32, w64}
 use mir.Val.{Fits}
 use Rattle.integers.specs.Words.{Bytes}
-use Rattle.bounds.specs.Bounds.{most_variables, most_rows}
+use Rattle.bounds.specs.Bounds.{most_rows}
 use Rattle.answers.specs.Answers.{Answer, says, Passes}
 use Rattle.answers.specs.declared.answers.Sheet.{Sheet}
 use Rattle.answers.specs.declared.answers.Verdict.{Verdict}
 use Rattle.answers.specs.declared.answers.Verdict.TheVariants.{Accepted, Refused}
 use Rattle.answers.proofs.answers.Laws.{failed, passed, accepted_says, accepted_value}
-use Rattle.sheets.specs.Layout.{variables, proof_length, ProofRoom}
+use Rattle.sheets.specs.Layout.{variables, ProofRoom}
 use Rattle.sheets.specs.ClaimSheet.{floor_of}
 use Rattle.sheets.specs.declared.layout.Shape.{Shape}
 use Rattle.sheets.proofs.claim_sheet.Laws.{floor_fits}
@@ -129,11 +129,9 @@ module _ (s l : List ℕ) (sh : Shape) (at : ℕ) where
     row_shown_lem h l = h.rows (omega arith)
 
     pub next_room : Room l at (rows_text s sh) → i < sh.k → Room m mid (row_text s sh i)
-    unfolding rows_text
     next_room r h = texts_room (row_text s sh) i w sh.k r h
 
     pub rows_end : sh.k ≤ i → i ≤ sh.k → Written l at (rows_text s sh) m mid
-    unfolding rows_text
     rows_end h g = let e : i ≡ sh.k = omega arith in rw e at w
 
 -- no more rows are shown than a proof can have
@@ -152,31 +150,8 @@ row_short s sh i b h =
     simp length-append (omega (arith, line_short i x (omega arith) f.p_fits f.q_fits f.r_fits))
 
 rows_short : (s : List ℕ) (sh : Shape) → Bytes s → sh.k ≤ most_rows → length (rows_text s sh) ≤ most_rows * 50
-unfolding rows_text
 rows_short s sh b h =
     omega (arith, texts_short (row_text s sh) 50 sh.k (λ i l. row_short s sh i b (omega arith)))
-
--- ---- a proof that has k rows
-
-module _ (s : List ℕ) (k : ℕ) where
-  pub no_header : length s < 8 → false ≡ has_rows s k
-  unfolding has_rows
-  no_header h = rw (lt-leb 8 (length s) h)
-
-  module _ (q : 8 ≤ length s) (n : ℕ) (en : n ≡ variables s) where
-    pub many_variables : most_variables < n → false ≡ has_rows s k
-    unfolding has_rows
-    many_variables h = rw (le-leb 8 (length s) q, ← en, lt-leb n most_variables h)
-
-    module _ (few : n ≤ most_variables) where
-      pub many_rows_lem : most_rows < k → false ≡ has_rows s k
-      unfolding has_rows
-      many_rows_lem h = rw (le-leb 8 (length s) q, ← en, le-leb n most_variables few, lt-leb k most_rows h)
-
-      pub rows_fit : k ≤ most_rows → (l : ℕ) → l ≡ proof_length (record { n = n; k = k })
-          → leb l (length s) ≡ has_rows s k
-      unfolding has_rows
-      rows_fit h l el = rw (le-leb 8 (length s) q, ← en, le-leb n most_variables few, le-leb k most_rows h, el)
 
 -- ---- sheets that have what a report prints: of v, which is an acceptance of k rows
 
@@ -186,7 +161,7 @@ module _ (c s : List ℕ) (v : Verdict) where
   refusal_reported x h = rw (failed v _ refl x h)
 
   module _ (k : ℕ) (h : v ≡ Accepted k) where
-    pub no_claim : length c < 8 → false ≡ reportable c s (says v)
+    pub no_claim : length c < 8 → leb 8 (length c) ≡ reportable c s (says v)
     unfolding reportable
     no_claim l = rw (passed v _ refl k h, lt-leb 8 (length c) l)
 

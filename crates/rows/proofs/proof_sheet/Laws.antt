@@ -11,8 +11,7 @@ use Rattle.integers.specs.Words.{Bytes, u32_at, i32_at}
 use Rattle.integers.proofs.words.Laws.{same_bits, u32_bound, i32_fits}
 use Rattle.integers.proofs.Tests.{never}
 use Rattle.points.specs.Lists.{table}
-use Rattle.points.specs.Points.{bytes_at, point_of, same_point, has_midpoint}
-use Rattle.points.specs.declared.points.Point.{Point}
+use Rattle.points.specs.Points.{bytes_at, same_point, has_midpoint}
 use Rattle.points.proofs.points.Laws.{bytes_length, bytes_same}
 use Rattle.squares.specs.Rows as Formal
 use Rattle.squares.specs.Decomposition.{Placed, Whole}
@@ -20,7 +19,7 @@ use Rattle.squares.specs.declared.rows.Weights.{Weights}
 use Rattle.squares.specs.declared.rows.Weights.TheVariants.{Pair, Lone}
 use Rattle.sheets.specs.Layout.{shape_of, place, v_at, w_at, triple_at, ProofRoom}
 use Rattle.sheets.specs.declared.layout.Shape.{Shape}
-use Rattle.rows.specs.ProofSheet.{scale_of, v_of, w_of, words_at, triple_of, weights_of, row_of, rows_of, by_value, triple_for, Suits, Narrow}
+use Rattle.rows.specs.ProofSheet.{scale_of, v_of, w_of, triple_of, weights_of, row_of, rows_of, by_value, triple_for, Suits, Narrow}
 use Rattle.rows.specs.declared.proof_sheet.Row.{Row}
 use Rattle.rows.specs.declared.proof_sheet.Triple.{Triple}
 
@@ -32,16 +31,13 @@ triple_inside s sh i at room l e = omega (arith, mul-le-mul_right 12 l)
 
 pub for_pair : (a : Weights) (p p' q q' r r' : ℤ) → a ≡ Pair p q r → p' ≡ p → q' ≡ q → r' ≡ r
     → record { p = p'; q = q'; r = r' } ≡ triple_for a
-unfolding triple_for
 for_pair a p p' q q' r r' e ep eq er = rw (e, ep, eq, er)
 
 pub for_lone : (a : Weights) (p p' : ℤ) → a ≡ Lone p → p' ≡ p → record { p = p'; q = pos 0; r = pos 0 } ≡ triple_for a
-unfolding triple_for
 for_lone a p p' e ep = rw (e, ep)
 
 -- weights that suit a row are read back as they are
 pub suits_read : (lone : Bool) (a : Weights) → Suits lone a → weights_of lone (triple_for a) ≡ a
-unfolding weights_of triple_for
 suits_read true (Lone p) h = refl
 suits_read false (Pair p q r) h = refl
 suits_read true (Pair p q r) h = absurd h
@@ -50,31 +46,25 @@ suits_read false (Lone p) h = absurd h
 -- and a lone row's triple is written as it was, where q and r are zero
 pub lone_again : (lone : Bool) (x : Triple) → (lone ≡ true → (x.q ≡ pos 0) × (x.r ≡ pos 0))
     → triple_for (weights_of lone x) ≡ x
-unfolding weights_of triple_for
 lone_again true x h = let z = h refl in sym (ap₂ (λ (q r : ℤ). record { p = x.p; q = q; r = r }) z.0 z.1)
 lone_again false x h = refl
 
 -- ---- fields, where they stand
 
 pub scale_word : (s : List ℕ) → scale_of s ≡ u32_at s 4
-unfolding scale_of
 scale_word s = refl
 
 pub v_bytes : (s : List ℕ) (sh : Shape) (i : ℕ) → v_of s sh i ≡ bytes_at s (v_at sh i) sh.n
-unfolding v_of
 v_bytes s sh i = refl
 
 pub w_bytes : (s : List ℕ) (sh : Shape) (i : ℕ) → w_of s sh i ≡ bytes_at s (w_at sh i) sh.n
-unfolding w_of
 w_bytes s sh i = refl
 
 -- a scale and a row's numbers have 32 bits
 pub scale_bound : (s : List ℕ) → Bytes s → scale_of s < 4294967296
-unfolding scale_of
 scale_bound s b = u32_bound s 4 b
 
 pub triple_narrow : (s : List ℕ) (sh : Shape) (i : ℕ) → Bytes s → Narrow (triple_of s sh i)
-unfolding triple_of words_at
 triple_narrow s sh i b =
     let at = triple_at sh i in
     record { p_fits = i32_fits s at b; q_fits = i32_fits s (at + 4) b; r_fits = i32_fits s (at + 8) b }
@@ -82,56 +72,28 @@ triple_narrow s sh i b =
 -- the three numbers of a row, where they stand
 module _ (s : List ℕ) (sh : Shape) (i at : ℕ) (e : at ≡ triple_at sh i) where
   pub p_there : i32_at s at ≡ (triple_of s sh i).p
-  unfolding triple_of words_at
   p_there = rw e
 
   pub q_there : i32_at s (at + 4) ≡ (triple_of s sh i).q
-  unfolding triple_of words_at
   q_there = rw e
 
   pub r_there : i32_at s (at + 8) ≡ (triple_of s sh i).r
-  unfolding triple_of words_at
   r_there = rw e
 
--- ---- three numbers, and what is read from the same bytes
-
-module _ (s : List ℕ) (at : ℕ) where
-  pub words_p : (words_at s at).p ≡ i32_at s at
-  unfolding words_at
-  words_p = refl
-
-  pub words_q : (words_at s at).q ≡ i32_at s (at + 4)
-  unfolding words_at
-  words_q = refl
-
-  pub words_r : (words_at s at).r ≡ i32_at s (at + 8)
-  unfolding words_at
-  words_r = refl
-
-  pub words_are : (p q r : ℤ) → i32_at s at ≡ p → i32_at s (at + 4) ≡ q → i32_at s (at + 8) ≡ r
-      → words_at s at ≡ record { p = p; q = q; r = r }
-  unfolding words_at
-  words_are p q r ep eq er = rw (ep, eq, er)
-
-pub triple_at_lem : (s : List ℕ) (sh : Shape) (i : ℕ) → triple_of s sh i ≡ words_at s (triple_at sh i)
-unfolding triple_of
-triple_at_lem s sh i = refl
+-- ---- what is read from the same bytes
 
 -- s and z have the same header and points
 module _ (s z : List ℕ) (sh : Shape) (same : (j : ℕ) → j < place 8 sh.k (2 * sh.n) → get_or s j 0 ≡ get_or z j 0) where
   pub scale_same : scale_of s ≡ scale_of z
-  unfolding scale_of
   scale_same = same_bits s z 4 (λ j l. same (4 + j) (omega arith))
 
   module _ (i : ℕ) (l : i < sh.k) where
     pub v_same : v_of s sh i ≡ v_of z sh i
-    unfolding v_of
     v_same =
         bytes_same s z (v_at sh i) sh.n
         (λ j m. same (v_at sh i + j) (omega (arith, mul-le-mul_right (2 * sh.n) l)))
 
     pub w_same : w_of s sh i ≡ w_of z sh i
-    unfolding w_of
     w_same =
         bytes_same s z (w_at sh i) sh.n
         (λ j m. same (w_at sh i + j) (omega (arith, mul-le-mul_right (2 * sh.n) l)))
@@ -139,23 +101,12 @@ module _ (s z : List ℕ) (sh : Shape) (same : (j : ℕ) → j < place 8 sh.k (2
 -- ---- rows by their index
 
 module _ (s : List ℕ) (sh : Shape) (i : ℕ) where
-  pub row_is : row_of s sh i
-      ≡ record {
-        v = v_of s sh i;
-        w = w_of s sh i;
-        weights = weights_of (same_point (v_of s sh i) (w_of s sh i)) (triple_of s sh i);
-      }
-  unfolding row_of
-  row_is = refl
-
   -- a lone row has one weight, a pair three
   pub row_lone : same_point (v_of s sh i) (w_of s sh i) ≡ true → (row_of s sh i).weights ≡ Lone (triple_of s sh i).p
-  unfolding row_of weights_of
   row_lone h = rw h
 
   pub row_pair : same_point (v_of s sh i) (w_of s sh i) ≡ false
       → (row_of s sh i).weights ≡ Pair (triple_of s sh i).p (triple_of s sh i).q (triple_of s sh i).r
-  unfolding row_of weights_of
   row_pair h = rw h
 
   -- and the other way round
@@ -177,26 +128,15 @@ module _ (s : List ℕ) (sh : Shape) (i : ℕ) where
       go true e = let g = row_lone e in never (cc)
       go false e = let g = row_pair e in (refl, cc, cc, cc)
 
-  pub row_v : (row_of s sh i).v ≡ v_of s sh i
-  unfolding row_of
-  row_v = refl
-
-  pub row_w : (row_of s sh i).w ≡ w_of s sh i
-  unfolding row_of
-  row_w = refl
-
   pub v_length : length (v_of s sh i) ≡ sh.n
-  unfolding v_of
   v_length = bytes_length s (v_at sh i) sh.n
 
   pub w_length : length (w_of s sh i) ≡ sh.n
-  unfolding w_of
   w_length = bytes_length s (w_at sh i) sh.n
 
 -- a row has its two points, a pair with a whole midpoint
 pub row_placed : (s : List ℕ) (sh : Shape) (i : ℕ) → has_midpoint (v_of s sh i) (w_of s sh i) ≡ true
     → Placed sh.n (row_of s sh i)
-unfolding row_of weights_of
 row_placed s sh i h = record {
   v_length = v_length s sh i;
   w_length = w_length s sh i;
@@ -208,24 +148,8 @@ row_placed s sh i h = record {
     go false = h
 
 -- a row by value
-module _ (a : Formal.Row) (b : Row) (e : b ≡ by_value a) where
-  pub value_v : b.v ≡ point_of a.v
-  unfolding by_value
-  value_v = rw e
-
-  pub value_w : b.w ≡ point_of a.w
-  unfolding by_value
-  value_w = rw e
-
-  pub value_weights : b.weights ≡ a.weights
-  unfolding by_value
-  value_weights = rw e
-
-pub by_value_lem : (a : Formal.Row) (v w : Point) (x : Weights) → v ≡ point_of a.v → w ≡ point_of a.w → x ≡ a.weights
-    → record { v = v; w = w; weights = x } ≡ by_value a
-unfolding by_value
-by_value_lem a v w x ev ew ex = rw (ev, ew, ex)
+pub value_weights : (a : Formal.Row) (b : Row) → b ≡ by_value a → b.weights ≡ a.weights
+value_weights a b e = rw e
 
 pub rows_table : (s : List ℕ) (sh : Shape) → sh ≡ shape_of s → table (row_of s sh) sh.k ≡ rows_of s
-unfolding rows_of
 rows_table s sh e = rw e

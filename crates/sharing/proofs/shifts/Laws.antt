@@ -22,7 +22,7 @@ use Rattle.squares.proofs.rows.Laws.{slots_pair, slots_lone}
 use Rattle.sheets.specs.Layout.{variables, row_count, shape_of}
 use Rattle.sheets.specs.declared.layout.Shape.{Shape}
 use Rattle.rows.specs.ProofSheet.{v_of, w_of, row_of, rows_of, Suits}
-use Rattle.rows.proofs.proof_sheet.Laws.{row_placed, row_lone, row_pair, row_v, row_w, v_length, w_length, rows_table}
+use Rattle.rows.proofs.proof_sheet.Laws.{row_placed, row_lone, row_pair, v_length, w_length, rows_table}
 use Rattle.checks.specs.ProofChecks.{ProofFacts}
 use Rattle.checks.specs.Input.{WellFormed}
 use Rattle.checks.proofs.input.Laws.{claim_formed, same_formed, proof_formed, limits_formed}
@@ -119,11 +119,11 @@ whole_stays τ L before v w (Lone p) h = tt
 module _ (τ : Exponents → ℤ) (s : List ℕ) (i : ℕ) where
   keeps_v : (shifted_row τ s i).v ≡ v_of s (shape_of s) i
   unfolding shifted_row shift_row
-  keeps_v = row_v s (shape_of s) i
+  keeps_v = refl
 
   keeps_w : (shifted_row τ s i).w ≡ w_of s (shape_of s) i
   unfolding shifted_row shift_row
-  keeps_w = row_w s (shape_of s) i
+  keeps_w = refl
 
   pub keeps_kind : Suits (same_point (v_of s (shape_of s) i) (w_of s (shape_of s) i)) (shifted_row τ s i).weights
   unfolding shifted_row shift_row shifted_weights
@@ -189,8 +189,7 @@ module _ (τ : Exponents → ℤ) (s : List ℕ) (exact : AddsUp (variables s) �
   unfolding shifted_row shift_row
   row_stays i =
       let a : Row = row_of s (shape_of s) i in
-      rw (weights_stay (slots_before s i) a.v a.w a.weights (rw row_v (v_length s (shape_of s) i))
-      (rw row_w (w_length s (shape_of s) i)))
+      rw (weights_stay (slots_before s i) a.v a.w a.weights (v_length s (shape_of s) i) (w_length s (shape_of s) i))
 
   pub rows_stay : shifted_rows τ s ≡ rows_of s
   unfolding shifted_rows

@@ -29,7 +29,7 @@ use Rattle.sheets.specs.Layout.{variables, row_count, shape_of, ProofRoom}
 use Rattle.sheets.specs.declared.layout.Shape.{Shape}
 use Rattle.rows.specs.ProofSheet.{v_of, w_of, triple_of, row_of, rows_of, by_value}
 use Rattle.rows.specs.declared.proof_sheet.Row.{Row}
-use Rattle.rows.proofs.proof_sheet.Laws.{lone_of, pair_of, row_v, row_w, value_v, value_w, value_weights, by_value_lem}
+use Rattle.rows.proofs.proof_sheet.Laws.{lone_of, pair_of}
 use Rattle.checks.specs.ProofChecks.{ProofFacts}
 use Rattle.targets.specs.Targets.{target_of}
 use Rattle.targets.specs.Carried.{Carried}
@@ -43,34 +43,34 @@ use Rattle.sharing.proofs.Sharing.{count_nil, count_cons}
 use Rattle.sharing.proofs.slots.Laws.{all_slots, among, v_carried, w_carried, middle_carried, tally_small, key_bound, held_at}
 use Rattle.sharing.proofs.shifts.Laws.{proof_checked}
 
--- ---- moved: z is the target, y the share
+-- ---- moved: z is the target, s the sum, e the error
 
-module _ (z z' : ℤ) (h : Holding) (ha : nat_abs z ≤ 2 ^ 51 + 2 ^ 59) (hs : nat_abs h.sum ≤ 2 ^ 42) (ea : z' ≡ z) where
-  error_small : nat_abs (z -ℤ h.sum) ≤ 2 ^ 61
-  error_small = omega (arith, abs_sub z h.sum)
+pub small_back : (s : ℤ) → nat_abs s ≤ 2 ^ 60 → back s ≡ s
+small_back s h = to_z-of_z {w = w64} (fits_within s (2 ^ 60) h (lit< tt))
 
-  sum_back : back h.sum ≡ h.sum
-  sum_back = to_z-of_z (fits_within {w = w64} h.sum (2 ^ 42) hs (lit< tt))
+pub error_back : (z s : ℤ) → nat_abs z ≤ 2 ^ 60 → nat_abs s ≤ 2 ^ 60 → back (z -ℤ s) ≡ z -ℤ s
+error_back z s hz hs = to_z-of_z {w = w64} (fits_within (z -ℤ s) (2 ^ 61) (omega (arith, abs_sub z s)) (lit< tt))
 
-  pub error_fits : SFits w64 (z' -ℤ back h.sum)
-  error_fits = rw (ea, sum_back) (fits_within (z -ℤ h.sum) (2 ^ 61) error_small (lit< tt))
+pub error_small : (z s : ℤ) → nat_abs z ≤ 2 ^ 60 → nat_abs s ≤ 2 ^ 60 → nat_abs (z -ℤ s) ≤ 2 ^ 61
+error_small z s hz hs = omega (arith, abs_sub z s)
 
-  module _ (x x' e y y' : ℤ) (ey : y ≡ share e h.count h.rank) (hx : nat_abs x ≤ greatest_weight)
-      (ee : e ≡ back (z' -ℤ back h.sum)) (ex : x' ≡ x) (by : y' ≡ y) where
-    error_is : e ≡ z -ℤ h.sum
-    error_is = ee ∙ to_z-of_z error_fits ∙ rw (ea, sum_back)
+pub error_fits : (z s : ℤ) → nat_abs z ≤ 2 ^ 60 → nat_abs s ≤ 2 ^ 60 → SFits w64 (z -ℤ s)
+error_fits z s hz hs = fits_within (z -ℤ s) (2 ^ 61) (error_small z s hz hs) (lit< tt)
 
-    share_is : y' ≡ share (z -ℤ h.sum) h.count h.rank
-    share_is = by ∙ ey ∙ rw error_is
+pub moved_fits : (x e : ℤ) (count rank : ℕ) → nat_abs x ≤ greatest_weight → nat_abs e ≤ 2 ^ 61
+    → SFits w64 (x +ℤ share e count rank)
+moved_fits x e count rank hx he =
+    let d : ℤ = share e count rank in
+    fits_within (x +ℤ d) (2 ^ 62) (omega (arith, share_abs e count rank, abs_add x d)) (lit< tt)
 
-    pub moved_fits : SFits w64 (x' +ℤ y')
-    moved_fits =
-        let d : ℤ = share (z -ℤ h.sum) h.count h.rank in
-        let g = share_abs (z -ℤ h.sum) h.count h.rank in
-        rw (ex, share_is) (fits_within (x +ℤ d) (2 ^ 62) (omega (arith, error_small, g, abs_add x d)) (lit< tt))
-
-    pub moved_is : back (x' +ℤ y') ≡ x +ℤ share (z -ℤ h.sum) h.count h.rank
-    moved_is = to_z-of_z moved_fits ∙ rw (ex, share_is)
+pub moved_is : (h : Holding) (z z' x x' e y y' : ℤ) → nat_abs z ≤ 2 ^ 51 + 2 ^ 59 → nat_abs h.sum ≤ 2 ^ 42
+    → nat_abs x ≤ greatest_weight → e ≡ back (z' -ℤ back h.sum) → y ≡ share e h.count h.rank → z' ≡ z → x' ≡ x → y' ≡ y
+    → back (x' +ℤ y') ≡ x +ℤ share (z -ℤ h.sum) h.count h.rank
+moved_is h z z' x x' e y y' hz hs hx ee ey bz bx by =
+    let error = error_back z h.sum (omega arith) (omega arith) in
+    let small = error_small z h.sum (omega arith) (omega arith) in
+    rw (bx, by, ey, ee, bz, small_back h.sum (omega arith), error)
+    (to_z-of_z {w = w64} (moved_fits x (z -ℤ h.sum) h.count h.rank hx small))
 
 -- ---- shifted: sh is what the proof sheet says
 
@@ -219,14 +219,14 @@ module _ (c s : List ℕ) (t : Aim) (i : ℕ) (given : CheckedSheets c s t) (l :
 
       pub lone_held : Held (exponents v)
       lone_held =
-          own_held (exponents v) ((exponents v, p) ∷ []) (rw (lone_row, slots_lone, row_v, v_is))
+          own_held (exponents v) ((exponents v, p) ∷ []) (rw (lone_row, slots_lone, v_is))
           (rw (count_cons, same_refl) (omega arith))
 
       pub lone_shifted : (p' x x' : ℤ)
           → x ≡ shifted_at v p'
           → x' ≡ x → p' ≡ p → Lone x' ≡ (shifted_row (target_of c t) s i).weights
       unfolding shifted_row shift_row shifted_weights
-      lone_shifted p' x x' ex bx bp = rw (lone_row, row_v, rank_none, bx, ex, bp, v_is)
+      lone_shifted p' x x' ex bx bp = rw (lone_row, rank_none, bx, ex, bp, v_is)
 
     -- a pair
     module _ (p q r : ℤ) (e : a ≡ Pair p q r) where
@@ -256,7 +256,7 @@ module _ (c s : List ℕ) (t : Aim) (i : ℕ) (given : CheckedSheets c s t) (l :
 
       pair_held : (γ : Exponents) → 0 < count γ ((α, p) ∷ (β, q) ∷ (midpoint_of α β, r) ∷ [])
           → Held γ
-      pair_held γ h = own_held γ _ (rw (pair_row, slots_pair, row_v, row_w)) h
+      pair_held γ h = own_held γ _ (rw (pair_row, slots_pair)) h
 
       pub p_held : Held (exponents v)
       p_held = pair_held (exponents v) (rw (v_is, count_cons, same_refl) (omega arith))
@@ -280,8 +280,6 @@ module _ (c s : List ℕ) (t : Aim) (i : ℕ) (given : CheckedSheets c s t) (l :
         pair_shifted p' q' r' x x' y y' z z' ex ey ez bx by bz bp bq br =
             rw (
               pair_row,
-              row_v,
-              row_w,
               bx,
               ex,
               by,
@@ -309,15 +307,16 @@ module _ (c s : List ℕ) (t : Aim) (i : ℕ) (sh : Shape) (given : CheckedSheet
   room_here = (proof_checked c s t given sh e).header.room
 
   module _ (row : Row) (er : row ≡ by_value (row_of s sh i)) where
-    pub is_row : (v w : Point) (a : Weights) → v ≡ row.v → w ≡ row.w → a ≡ row.weights → IsRow s i v w a
-    is_row v w a ev ew ea = record {
-      v_is = ev ∙ value_v _ row er ∙ rw (row_v, e);
-      w_is = ew ∙ value_w _ row er ∙ rw (row_w, e);
-      weights_are = ea ∙ value_weights _ row er ∙ rw e;
-    }
+    pub is_row : IsRow s i row.v row.w row.weights
+    is_row = rw (er, e) (record { v_is = refl; w_is = refl; weights_are = refl })
 
-    pub row_shifted : (v w : Point) (x : Weights) → x ≡ (shifted_row (target_of c t) s i).weights → v ≡ row.v → w ≡ row.w
-        → record { v = v; w = w; weights = x } ≡ by_value (shifted_row (target_of c t) s i)
+    pub row_shifted : (x : Weights) → x ≡ (shifted_row (target_of c t) s i).weights
+        → record { v = row.v; w = row.w; weights = x } ≡ by_value (shifted_row (target_of c t) s i)
     unfolding shifted_row shift_row
-    row_shifted v w x ex ev ew =
-        by_value_lem _ v w x (ev ∙ value_v _ row er ∙ rw e) (ew ∙ value_w _ row er ∙ rw e) ex
+    row_shifted x ex = rw (er, ex, e)
+
+-- ---- what each function rests on
+
+pub ruleset moving = (small_back, error_back, error_small, error_fits, moved_fits)
+
+pub ruleset row_shifting = (row_here, room_here, is_row, row_shifted)

@@ -1,4 +1,5 @@
 -- Laws of slots: those of one row more, how much they can weigh, and that the slots with a point's key are those there.
+use Rattle.std.proofs.Common.{None}
 use mathlib.Core.Path.{◌≡◌, refl, ◌∙◌, ap}
 use mathlib.Core.Bool.{Bool, true, false, cond}
 use mathlib.Core.List.{List, [], ◌∷◌, ◌++◌}
@@ -12,7 +13,6 @@ use borrow.Author.Tests.{ltb-true, ltb-false}
 use Rattle.integers.proofs.Integers.{abs_add}
 use Rattle.bounds.specs.Bounds.{greatest_exponent, greatest_weight}
 use Rattle.answers.specs.Searches.{first}
-use Rattle.answers.specs.declared.searches.Found.TheVariants.{Nothing}
 use Rattle.answers.proofs.searches.Laws.{none_wrong}
 use Rattle.points.specs.Lists.{table, All}
 use Rattle.points.specs.Points.{Exponents, same_point, midpoint_of}
@@ -26,7 +26,7 @@ use Rattle.squares.proofs.rows.Laws.{slots_pair, slots_lone}
 use Rattle.sheets.specs.Layout.{shape_of}
 use Rattle.sheets.specs.declared.layout.Shape.{Shape}
 use Rattle.rows.specs.ProofSheet.{v_of, w_of, triple_of, row_of, rows_of}
-use Rattle.rows.proofs.proof_sheet.Laws.{row_lone, row_pair, row_v, row_w, v_length, w_length, rows_table}
+use Rattle.rows.proofs.proof_sheet.Laws.{row_lone, row_pair, v_length, w_length, rows_table}
 use Rattle.checks.specs.ProofChecks.{ProofFacts}
 use Rattle.targets.specs.Carried.{Carried}
 use Rattle.targets.proofs.Carried.{carried_same, carried_low}
@@ -49,14 +49,14 @@ module _ (s : List ℕ) (sh : Shape) (i : ℕ) where
   pub lone_slots : same_point (v_of s sh i) (w_of s sh i) ≡ true
       → slots_to s sh (suc i) ≡ slots_to s sh i ++ ((v_of s sh i, (triple_of s sh i).p) ∷ [])
   unfolding slots_to
-  lone_slots h = gathered_more slots_of (row_of s sh) i ∙ rw (row_lone s sh i h, row_v s sh i, slots_lone)
+  lone_slots h = gathered_more slots_of (row_of s sh) i ∙ rw (row_lone s sh i h, slots_lone)
 
   pub pair_slots : same_point (v_of s sh i) (w_of s sh i) ≡ false
       → slots_to s sh (suc i) ≡ slots_to s sh i ++ ((v_of s sh i, (triple_of s sh i).p) ∷ (w_of s sh i, (triple_of s sh i).q)
       ∷ (midpoint_of (v_of s sh i) (w_of s sh i), (triple_of s sh i).r) ∷ [])
   unfolding slots_to
   pair_slots h =
-      gathered_more slots_of (row_of s sh) i ∙ rw (row_pair s sh i h, row_v s sh i, row_w s sh i, slots_pair)
+      gathered_more slots_of (row_of s sh) i ∙ rw (row_pair s sh i h, slots_pair)
 
   -- those of the rows before and the row's own are among all
   pub among : (α : Exponents) → i < sh.k
@@ -207,7 +207,7 @@ module _ (s : List ℕ) (sh : Shape) (α : Exponents) where
   unfolding holds_point
   point_held i l h = omega (arith, ltb-true 0 (count α (slots_of (row_of s sh i))) h, among s sh i α l)
 
-  pub point_unheld : first (holds_point s sh α) sh.k ≡ Nothing → count α (slots_to s sh sh.k) ≡ 0
+  pub point_unheld : first (holds_point s sh α) sh.k ≡ None → count α (slots_to s sh sh.k) ≡ 0
   unfolding slots_to holds_point
   point_unheld h = go sh.k (omega arith)
     where

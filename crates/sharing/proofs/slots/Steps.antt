@@ -26,7 +26,7 @@ use Rattle.squares.proofs.rows.Laws.{slots_pair, slots_lone}
 use Rattle.sheets.specs.Layout.{triple_at}
 use Rattle.sheets.specs.declared.layout.Shape.{Shape}
 use Rattle.rows.specs.ProofSheet.{v_of, w_of, triple_of, row_of}
-use Rattle.rows.proofs.proof_sheet.Laws.{triple_inside, p_there, q_there, r_there, row_lone, row_pair, row_v, row_w}
+use Rattle.rows.proofs.proof_sheet.Laws.{triple_inside, p_there, q_there, r_there, row_lone, row_pair}
 use Rattle.checks.specs.ProofChecks.{Within, ProofFacts}
 use Rattle.targets.specs.Carried.{Carried, CarriedKey}
 use Rattle.targets.proofs.Carried.{carried_same, carried_low}
@@ -160,13 +160,11 @@ module _ (s : List ℕ) (sh : Shape) (i : ℕ) (f : ProofFacts s sh) (l : i < sh
         go true e =
             let q = same_eq (v_of s sh i) (w_of s sh i) e in
             let d : key_of (w_of s sh i) + key_of (w_of s sh i) ≡ key_of (w_of s sh i) * 2 = omega arith in
-            rw (row_lone s sh i e, row_v, slots_lone, count_cons, count_nil, q, d, halved, w_at_lem)
+            rw (row_lone s sh i e, slots_lone, count_cons, count_nil, q, d, halved, w_at_lem)
             (once (at (w_of s sh i)))
         go false e =
             rw (
               row_pair s sh i e,
-              row_v,
-              row_w,
               slots_pair,
               count_cons,
               count_cons,
@@ -256,7 +254,8 @@ module _ (s : List ℕ) (sh : Shape) (i : ℕ) (f : ProofFacts s sh) (l : i < sh
 
         module _ (past : key ≡ v → ⊥) where
           pub later_added : (r : Tally) (step : ℕ) → eqb key w || eqb (v + w) (key * 2) ≡ true
-              → step ≡ step_to (eqb key w) → r ≡ more (i32_at s (at + step)) a → r ≡ tally_of key (slots_to s sh (i + 1))
+              → step ≡ step_to (eqb key w) → r ≡ more (i32_at s (at + step)) a
+              → r ≡ tally_of key (slots_to s sh (i + 1))
           later_added r step t e h = h ∙ sym (row_added ∙ rw (ne_eqb key v past, t, e))
 
           pub none_added : eqb key w || eqb (v + w) (key * 2) ≡ false → a ≡ tally_of key (slots_to s sh (i + 1))
@@ -264,13 +263,14 @@ module _ (s : List ℕ) (sh : Shape) (i : ℕ) (f : ProofFacts s sh) (l : i < sh
 
 -- ---- scan, slots_with and held
 
-pub scan_end : (s : List ℕ) (sh : Shape) (key i to : ℕ) (b : Tally) → b ≡ tally_of key (slots_to s sh i) → to ≤ i → i ≤ to
-    → b ≡ tally_of key (slots_to s sh to)
-scan_end s sh key i to b h l m = let q : i ≡ to = omega arith in rw q at h
-
-pub scan_start : (s : List ℕ) (sh : Shape) (key : ℕ) → record { sum = pos 0; count = 0 } ≡ tally_of key (slots_to s sh 0)
+pub scan_start : (s : List ℕ) (sh : Shape) (key : ℕ)
+    → record { sum = pos 0; count = 0 } ≡ tally_of key (slots_to s sh 0)
 unfolding tally_of
 scan_start s sh key = rw (no_slots s sh, tally_nil)
+
+pub count_small : (s : List ℕ) (sh : Shape) (key i : ℕ) → ProofFacts s sh → i ≤ sh.k
+    → (tally_of key (slots_to s sh i)).count ≤ 768
+count_small s sh key i f l = (tally_small s sh f key i l).1
 
 module _ (s : List ℕ) (sh : Shape) (f : ProofFacts s sh) (key : ℕ) where
   pub carried_bound : CarriedKey sh.n key → key < 2 ^ 63
@@ -282,15 +282,15 @@ module _ (s : List ℕ) (sh : Shape) (f : ProofFacts s sh) (key : ℕ) where
   pub all_fits : (all : Tally) → all ≡ tally_of key (slots_to s sh sh.k) → Fits w32 all.count
   all_fits all e = rw e (omega (arith, (tally_small s sh f key sh.k (omega arith)).1))
 
-  module _ (i own : ℕ) (before all : Tally) (eb : before ≡ tally_of key (slots_to s sh i)) (l : i < sh.k) where
-    pub before_fits : Fits w32 before.count
-    before_fits = rw eb (omega (arith, (tally_small s sh f key i (omega arith)).1))
+pub held_is : (s : List ℕ) (sh : Shape) (key i own : ℕ) (before all : Tally) (z : ℤ)
+    → before ≡ tally_of key (slots_to s sh i) → all ≡ tally_of key (slots_to s sh sh.k) → z ≡ all.sum
+    → record { sum = z; count = all.count; rank = before.count + own }
+    ≡ holding_of key (slots_to s sh sh.k) (slots_to s sh i) own
+unfolding holding_of
+held_is s sh key i own before all z eb ea ez = rw (ez, eb, ea)
 
-    pub rank_fits : own < 65536 → Fits w32 (before.count + own)
-    rank_fits h = rw eb (omega (arith, (tally_small s sh f key i (omega arith)).1))
+-- ---- what add and held rest on
 
-    pub held_is : (z : ℤ) → all ≡ tally_of key (slots_to s sh sh.k) → z ≡ all.sum
-        → record { sum = z; count = all.count; rank = before.count + own }
-        ≡ holding_of key (slots_to s sh sh.k) (slots_to s sh i) own
-    unfolding holding_of
-    held_is z ea ez = rw (ez, eb, ea)
+pub ruleset adding = (sum_fits, slot_more)
+
+pub ruleset holding = (scan_start, count_small, held_is)

@@ -1,25 +1,22 @@
 -- The steps of the functions that find a target: the term with a key is the one at the point. A prime marks a number as
 -- the machine reads it back.
+use Rattle.std.proofs.Common.{Option, Some, None}
 use mathlib.Core.Path.{◌≡◌, refl, sym, ◌∙◌, ap, ap₂}
 use mathlib.Core.Bool.{Bool, true, false, cond}
 use mathlib.Core.List.{List}
 use Prim.Native.Nat.{ℕ, zero, suc, ◌+◌, ◌^◌, ◌<◌, ◌≤◌}
-use native.Mathlib.Nat.{mul-le-mul, le_refl}
+use native.Mathlib.Nat.{le_refl}
 use native.Mathlib.Numerals.{add-one}
 use native.Mathlib.Omega.{arith}
 use lib.Dec.{eqb, lit<}
-use lib.IntN.{ℤ, pos, neg_ℤ, nat_abs, ◌+ℤ◌, ◌-ℤ◌, ◌*ℤ◌, +ℤ_idr, +ℤ_idl}
+use lib.IntN.{ℤ, pos, nat_abs, ◌+ℤ◌, ◌-ℤ◌, ◌*ℤ◌, +ℤ_idr, +ℤ_idl}
 use lib.ListN.{replicate}
-use lib.Signed.{lt_z}
-use borrow.Author.Tests.{eq-eqb, ne_eqb}
 use mir.Syntax.{w64}
-use mir.Val.{SFits, to_z}
-use mir.Facts.{to_z_pos, to_z-of_z}
-use Rattle.integers.proofs.Integers.{back, abs_add, abs_sub, abs_neg, abs_mul, fits_within, lt_z_true, lt_z_false}
-use Rattle.bounds.specs.Bounds.{most_variables, greatest_weight, greatest_scale}
+use mir.Val.{SFits}
+use mir.Facts.{to_z-of_z}
+use Rattle.integers.proofs.Integers.{back, abs_add, fits_within}
+use Rattle.bounds.specs.Bounds.{most_variables}
 use Rattle.answers.specs.Searches.{first}
-use Rattle.answers.specs.declared.searches.Found.{Found}
-use Rattle.answers.specs.declared.searches.Found.TheVariants.{At, Nothing}
 use Rattle.answers.proofs.searches.Laws.{first_start, first_here, first_stays, first_next, first_inside, first_stop, all_right}
 use Rattle.points.specs.Lists.{table}
 use Rattle.points.specs.Points.{Exponents, exponents, same_point, keeps_sign}
@@ -29,134 +26,20 @@ use Rattle.points.proofs.points.Laws.{same_eq, same_refl, apart_sym}
 use Rattle.keys.specs.Keys.{key_of}
 use Rattle.squares.specs.Sums.{Sum, coefficient}
 use Rattle.squares.specs.Targets.{lowered, worst}
-use Rattle.squares.proofs.Targets.{worst_kept, worst_negative, worst_positive, target_is, lowered_constant, lowered_other}
+use Rattle.squares.proofs.Targets.{target_is, lowered_constant, lowered_other}
 use Rattle.squares.proofs.Sums.{coefficient_nil, coefficient_cons, coefficient_append}
-use Rattle.sheets.specs.Layout.{variables, term_count, mask_of, ClaimRoom, LimitsRoom}
-use Rattle.sheets.specs.ClaimSheet.{floor_of, term_point, coefficient_of, term_of, terms_of}
+use Rattle.sheets.specs.Layout.{variables, term_count, mask_of}
+use Rattle.sheets.specs.ClaimSheet.{term_point, coefficient_of, term_of, terms_of}
 use Rattle.sheets.proofs.claim_sheet.Laws.{terms_table, term_point_lem, term_coefficient}
-use Rattle.rows.specs.ProofSheet.{scale_of}
-use Rattle.limits.specs.LimitsSheet.{limits_of}
 use Rattle.limits.specs.LimitChecks.{RightLimits}
 use Rattle.limits.specs.Additions.{limits_add}
-use Rattle.limits.specs.declared.limits_sheet.Limits.{Limits}
 use Rattle.limits.proofs.additions.Laws.{limits_small, constant_tested, additions_are}
 use Rattle.claims.specs.ClaimChecks.{ClaimFacts}
 use Rattle.claims.proofs.claim_checks.Laws.{points_differ}
-use Rattle.targets.specs.Targets.{AimWithin, Targeted, aim_of, at_floor, target_of, has_key, lowered_by, coefficient_found, coefficient_with, target_with}
+use Rattle.targets.specs.Targets.{AimWithin, Targeted, target_of, has_key, lowered_by, coefficient_found, coefficient_with, target_with}
 use Rattle.targets.specs.Carried.{Carried}
 use Rattle.targets.specs.declared.targets.Aim.{Aim}
 use Rattle.targets.proofs.Carried.{term_carried, carried_below, carried_same}
-
--- ---- lowered_by: x is a coefficient
-
-difference_small : (x b : ℤ) → nat_abs x ≤ greatest_weight → nat_abs b ≤ greatest_weight → nat_abs (x -ℤ b) ≤ 2 ^ 31
-difference_small x b hx hb = omega (arith, abs_sub x b)
-
-module _ (x x' : ℤ) (a : Aim) (key : ℕ) (hx : nat_abs x ≤ greatest_weight) (ha : AimWithin a) (ex : x' ≡ x) where
-  floor_back : back a.floor ≡ a.floor
-  floor_back = to_z-of_z (fits_within {w = w64} a.floor greatest_weight ha.floor_within (lit< tt))
-
-  pub lowered_fits : SFits w64 (x' -ℤ back a.floor)
-  lowered_fits =
-      rw (ex, floor_back) (fits_within (x -ℤ a.floor) (2 ^ 31) (difference_small x a.floor hx ha.floor_within)
-      (lit< tt))
-
-  pub lowered_here : key ≡ 0 → back (x' -ℤ back a.floor) ≡ lowered_by a key x
-  unfolding lowered_by
-  lowered_here h = to_z-of_z lowered_fits ∙ rw (ex, floor_back, eq-eqb key 0 h)
-
-  pub constant_small : nat_abs (back (x' -ℤ back a.floor)) ≤ 2 ^ 31
-  constant_small = rw (to_z-of_z lowered_fits, ex, floor_back) (difference_small x a.floor hx ha.floor_within)
-
-module _ (x x' : ℤ) (ex : x' ≡ x) where
-  pub lowered_elsewhere : (a : Aim) (key : ℕ) → (key ≡ 0 → ⊥) → x' ≡ lowered_by a key x
-  unfolding lowered_by
-  lowered_elsewhere a key h = rw (ex, ne_eqb key 0 h)
-
-  pub other_small : nat_abs x ≤ greatest_weight → nat_abs x' ≤ 2 ^ 31
-  other_small h = rw ex (omega arith)
-
--- ---- worst: x is a coefficient
-
-module _ (keeps : Bool) (x x' : ℤ) (ex : x' ≡ x) where
-  pub kept_is : keeps ≡ true → x' ≡ worst keeps x
-  kept_is h = ex ∙ worst_kept keeps x h
-
-  pub negative_is : keeps ≡ false → lt_z x' (pos 0) ≡ true → x' ≡ worst keeps x
-  negative_is h t = ex ∙ worst_negative keeps x h (rw ex at (lt_z_true x' (pos 0) t))
-
-  module _ (h : nat_abs x ≤ 2 ^ 31) where
-    negated_small : nat_abs (pos 0 -ℤ x) ≤ 2 ^ 31
-    negated_small = rw (+ℤ_idl (neg_ℤ x), abs_neg x) h
-
-    pub negated_fits : SFits w64 (pos 0 -ℤ x')
-    negated_fits = rw ex (fits_within (pos 0 -ℤ x) (2 ^ 31) negated_small (lit< tt))
-
-    pub positive_is : keeps ≡ false → lt_z x' (pos 0) ≡ false → back (pos 0 -ℤ x') ≡ worst keeps x
-    positive_is k t = to_z-of_z negated_fits ∙ rw ex (worst_positive keeps x k (rw ex at (lt_z_false x' (pos 0) t)))
-
-    pub positive_small : nat_abs (back (pos 0 -ℤ x')) ≤ 2 ^ 31
-    positive_small = rw (to_z-of_z negated_fits, ex) negated_small
-
--- ---- scaled: x is a number with the worst sign
-
-module _ (S : ℕ) (x x' : ℤ) (hS : S ≤ greatest_scale) (h : nat_abs x ≤ 2 ^ 31) (ex : x' ≡ x) where
-  scale_is : to_z w64 S ≡ pos S
-  scale_is = to_z_pos w64 (omega arith)
-
-  product_small : nat_abs (pos S *ℤ x) ≤ 2 ^ 51
-  product_small = rw (abs_mul (pos S) x) (mul-le-mul {n₂ = greatest_scale} hS h)
-
-  pub product_fits : SFits w64 (to_z w64 S *ℤ x')
-  product_fits = rw (scale_is, ex) (fits_within (pos S *ℤ x) (2 ^ 51) product_small (lit< tt))
-
-  pub product_is : back (to_z w64 S *ℤ x') ≡ pos S *ℤ x
-  product_is = to_z-of_z product_fits ∙ rw (scale_is, ex)
-
-  pub scaled_small : nat_abs (back (to_z w64 S *ℤ x')) ≤ 2 ^ 51
-  scaled_small = rw product_is product_small
-
--- ---- aim_of and at_floor: b, S and r are what the sheets say
-
-module _ (c l : List ℕ) (n : ℕ) (en : n ≡ variables c) where
-  pub limits_asked : LimitsRoom l (variables c) → LimitsRoom l n
-  limits_asked h = rw en h
-
-  pub aim_is : (s : List ℕ) (b b' : ℤ) (S : ℕ) (r : Limits) → b ≡ floor_of c → S ≡ scale_of s → r ≡ limits_of l n → b' ≡ b
-      → record { floor = b'; scale = S; limits = r } ≡ aim_of c s l
-  unfolding aim_of
-  aim_is s b b' S r eb eS er e = rw (e, eb, eS, er, en)
-
-pub at_floor_is : (a : Aim) (b b' : ℤ) → b' ≡ b
-    → record { floor = b'; scale = a.scale; limits = a.limits } ≡ at_floor a b
-unfolding at_floor
-at_floor_is a b b' e = rw e
-
--- ---- has_key
-
-pub key_tested : (c : List ℕ) (n i key k : ℕ) → k ≡ key_of (term_point c n i) → eqb key k ≡ has_key c n key i
-unfolding has_key
-key_tested c n i key k e = rw e
-
--- ---- coefficient_with: f is what was found
-
-module _ (c : List ℕ) (n t key : ℕ) (f : Found) (ef : f ≡ first (has_key c n key) t) where
-  pub none_with : f ≡ Nothing → pos 0 ≡ coefficient_with c n t key
-  unfolding coefficient_with coefficient_found
-  none_with h = rw (← ef, h)
-
-  module _ (i : ℕ) (h : f ≡ At i) where
-    pub found_inside : i < t
-    found_inside = (first_inside (has_key c n key) t i (sym ef ∙ h)).0
-
-    pub found_with : (x x' : ℤ) → x ≡ coefficient_of c n t i → x' ≡ x → x' ≡ coefficient_with c n t key
-    unfolding coefficient_with coefficient_found
-    found_with x x' ex e = e ∙ ex ∙ rw (← ef, h)
-
--- x is the coefficient of term i
-pub term_small : (c : List ℕ) (n t i : ℕ) (x x' : ℤ) → ClaimFacts c n t → x ≡ coefficient_of c n t i → x' ≡ x → i < t
-    → nat_abs x' ≤ greatest_weight
-term_small c n t i x x' facts ex e l = rw (e, ex) (facts.coefficient_within i l)
 
 -- ---- the term found by its key is the one at the point
 
@@ -180,7 +63,7 @@ module _ (c : List ℕ) (n t : ℕ) (facts : ClaimFacts c n t) (α : Exponents) 
       (rw (term_point_lem, term_coefficient, key_there m l, +ℤ_idr))
 
   -- a later term is at another point
-  later : (i m : ℕ) → m < t → first here m ≡ At i → here m ≡ false
+  later : (i m : ℕ) → m < t → first here m ≡ Some i → here m ≡ false
   unfolding here
   later i m l e =
       let f = first_inside here m i e in
@@ -193,16 +76,16 @@ module _ (c : List ℕ) (n t : ℕ) (facts : ClaimFacts c n t) (α : Exponents) 
   found_coefficient (suc m) l =
       go (first here m) refl (here m) refl (found_coefficient m (omega arith)) ∙ sym (term_more m l)
     where
-      go : (f : Found) → first here m ≡ f → (b : Bool) → here m ≡ b
+      go : (f : Option ℕ) → first here m ≡ f → (b : Bool) → here m ≡ b
           → coefficient_found c n t (first here m) ≡ coefficient α (terms m)
           → coefficient_found c n t (first here (suc m))
           ≡ coefficient α (terms m) +ℤ cond (here m) (coefficient_of c n t m) (pos 0)
-      go (At i) e b h ih =
+      go (Some i) e b h ih =
           rw (first_stays here m i e, later i m l e, +ℤ_idr) (rw e at ih)
-      go Nothing e true h ih =
+      go None e true h ih =
           rw (first_here here m e h, h, ← ih, e) (sym (+ℤ_idl (coefficient_of c n t m)))
-      go Nothing e false h ih =
-          let s : first here (suc m) ≡ Nothing = rw add-one at (first_next here m false e (sym h) refl) in
+      go None e false h ih =
+          let s : first here (suc m) ≡ None = rw add-one at (first_next here m false e (sym h) refl) in
           rw (s, h, ← ih, e)
 
   -- the coefficient at a key is that of the polynomial at the point, and that of a term the one at its point
@@ -217,7 +100,7 @@ module _ (c : List ℕ) (n t : ℕ) (facts : ClaimFacts c n t) (α : Exponents) 
       earlier : (j : ℕ) → j < i → here j ≡ false
       earlier j m = key_there j (omega arith) ∙ rw e (apart_sym _ _ (points_differ c n t facts j i m l))
 
-      found : At i ≡ first here t
+      found : Some i ≡ first here t
       found =
           first_stop here t i true l (sym (all_right here i earlier))
           (sym (key_there i l ∙ rw e (same_refl (term_point c n i)))) refl
@@ -277,9 +160,6 @@ module _ (c : List ℕ) (n t : ℕ) (en : n ≡ variables c) (et : t ≡ term_co
   pub facts_here : ClaimFacts c n t
   facts_here = rw (en, et) given.claim
 
-  pub room_here : ClaimRoom c n t
-  room_here = facts_here.room
-
   carried : Carried n α
   carried = rw en given.point
 
@@ -298,6 +178,3 @@ module _ (c : List ℕ) (n t : ℕ) (en : n ≡ variables c) (et : t ≡ term_co
     term_made i ex l e =
         let l' : i < t = rw et l in
         made (ex ∙ term_there c n t facts_here α carried i l' (rw en e))
-
-pub term_inside : (c : List ℕ) (t i : ℕ) → t ≡ term_count c → i < term_count c → i < t
-term_inside c t i e l = rw e l

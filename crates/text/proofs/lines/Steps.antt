@@ -1,23 +1,14 @@
--- The steps of the functions that put lines.
+-- The step of the functions that put lines.
 use mathlib.Core.Path.{◌≡◌}
 use mathlib.Core.List.{List, ◌++◌}
 use Prim.Native.Nat.{ℕ}
 use lib.IntN.{ℤ}
 use Rattle.text.specs.Text.{numbered, Room, Written}
-use Rattle.text.specs.Lines.{scale_text, later_text}
-use Rattle.text.proofs.text.Laws.{written_then, numbered_room, numbered_then}
+use Rattle.text.proofs.text.Laws.{numbered_room}
 
--- accepted_line: a is what stands before the scale
-pub scale_then : (a l m o : List ℕ) (at mid end scale : ℕ) (floor floor' : ℤ) → Written l at a m mid
-    → Written m mid (scale_text scale floor') o end → floor' ≡ floor → Written l at (a ++ scale_text scale floor) o end
-scale_then a l m o at mid end scale floor floor' w u e = written_then a (scale_text scale floor) w (rw e at u)
-
--- weights_text
-module _ (label l m : List ℕ) (at mid : ℕ) (p p' q q' r r' : ℤ) (w : Written l at (numbered label p') m mid)
-    (ep : p' ≡ p) (eq : q' ≡ q) (er : r' ≡ r) where
-  pub later_room : Room l at (numbered label p ++ later_text q r) → Room m mid (later_text q' r')
-  later_room h = rw (eq, er) (numbered_room label p p' w ep (later_text q r) h)
-
-  pub later_then : (o : List ℕ) (end : ℕ) → Written m mid (later_text q' r') o end
-      → Written l at (numbered label p ++ later_text q r) o end
-  later_then o end u = numbered_then label p p' w ep (later_text q r) (rw (eq, er) at u)
+-- weights_text: room for the third weight, as the machine reads it back
+pub third_room : (a b d l m o : List ℕ) (at mid end : ℕ) (p p' q q' r r' : ℤ) → Written l at (numbered a p') m mid
+    → Written m mid (numbered b q') o end → p' ≡ p → q' ≡ q → r' ≡ r
+    → Room l at (numbered a p ++ (numbered b q ++ numbered d r)) → Room o end (numbered d r')
+third_room a b d l m o at mid end p p' q q' r r' w u ep eq er h =
+    rw er (numbered_room b q q' u eq (numbered d r) (numbered_room a p p' w ep _ h))

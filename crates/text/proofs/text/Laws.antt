@@ -1,6 +1,5 @@
 -- Laws of text put over a buffer, one piece after another, and of how long numbers are.
 use mathlib.Core.Path.{◌≡◌, refl, sym, ◌∙◌, ap}
-use mathlib.Core.Bool.{true, false, true≢false}
 use mathlib.Core.List.{List, [], ◌∷◌, ◌++◌, append-nil}
 use Prim.Native.Nat.{ℕ, zero, suc, ◌+◌, ◌*◌, ◌/◌, ◌%◌, ◌^◌, ◌<◌, ◌≤◌}
 use native.Mathlib.Decide.{dec_lt, le_ind}
@@ -8,10 +7,13 @@ use native.Mathlib.Nat.{pow-succ', mul-le-mul_right}
 use native.Mathlib.Numerals.{add-one}
 use native.Mathlib.Omega.{arith}
 use lib.IntN.{ℤ, pos, negsuc, nat_abs}
+use mir.Syntax.{w64}
+use mir.Val.{Fits, SFits}
+use Rattle.std.specs.Fmt.{decimal, signed_decimal}
+use Rattle.std.proofs.lemmas.Fmt.{AppendsLastDigit, decimal_from_appends, length-decimal-le_succ}
 use lib.ListN.{length, get_or, set, length-append, drop_of_length-le, get_or-append}
 use lib.Seq.{sets, sets-eq, get_or-append-add}
-use lib.Signed.{lt_z}
-use borrow.Author.Tests.{lt-ltb, le-ltb, ltb-true}
+use borrow.Author.Tests.{lt-ltb, le-ltb}
 use Rattle.text.specs.Text.{digits, natural, integer, counted, numbered, texts_to, Room, Written}
 
 -- ---- one text after another
@@ -174,26 +176,31 @@ unfolding integer
 integer_short k (pos n) h = omega (arith, natural_short k n h)
 integer_short k (negsuc n) h = omega (arith, natural_short k (suc n) h)
 
--- a number's text by its absolute value m; z' is what the machine reads back of z
-module _ (z z' : ℤ) (m : ℕ) (em : m ≡ nat_abs z') (back : z' ≡ z) where
-  abs_is : m ≡ nat_abs z
-  abs_is = em ∙ ap nat_abs back
+-- std's text of a number of 64 bits is ours
+natural_appends : AppendsLastDigit digits
+natural_appends = record {
+  one = λ k n h. digits_last k n h ∙ ap (λ (d : ℕ). (48 + d) ∷ []) (omega arith);
+  more = digits_before;
+}
 
-  pub unsigned : lt_z z' (pos 0) ≡ false → integer z ≡ natural m
-  unfolding integer
-  unsigned t = rw abs_is (go z (rw back at t))
-    where
-      go : (z : ℤ) → lt_z z (pos 0) ≡ false → integer z ≡ natural (nat_abs z)
-      go (pos n) t = refl
-      go (negsuc n) t = absurd (true≢false t)
+natural_decimal : (n : ℕ) → n < 2 ^ 64 → natural n ≡ decimal n
+unfolding natural
+natural_decimal n h =
+    let e = length-decimal-le_succ n h in
+    decimal_from_appends digits natural_appends (suc n) n h (omega arith)
 
-  pub minus : lt_z z' (pos 0) ≡ true → integer z ≡ (45 ∷ []) ++ natural m
-  unfolding integer
-  minus t = rw abs_is (go z (rw back at t))
-    where
-      go : (z : ℤ) → lt_z z (pos 0) ≡ true → integer z ≡ 45 ∷ natural (nat_abs z)
-      go (pos n) t = absurd (omega (arith, ltb-true n 0 t))
-      go (negsuc n) t = refl
+pub integer_decimal : (z : ℤ) → SFits w64 z → integer z ≡ signed_decimal z
+unfolding integer
+integer_decimal (pos n) f = natural_decimal n (omega (arith, f))
+integer_decimal (negsuc n) f = ap (λ (t : List ℕ). 45 ∷ t) (natural_decimal (suc n) (omega (arith, f)))
+
+pub counted_decimal : (label : List ℕ) (n : ℕ) → Fits w64 n → counted label n ≡ label ++ decimal n
+unfolding counted
+counted_decimal label n f = ap (λ (t : List ℕ). label ++ t) (natural_decimal n (omega (arith, f.fits)))
+
+pub numbered_decimal : (label : List ℕ) (z : ℤ) → SFits w64 z → numbered label z ≡ label ++ signed_decimal z
+unfolding numbered
+numbered_decimal label z f = ap (λ (t : List ℕ). label ++ t) (integer_decimal z f)
 
 -- a label and a number as the machine reads it back, and the text after it
 module _ {l m : List ℕ} {at mid : ℕ} (label : List ℕ) (z z' : ℤ) (w : Written l at (numbered label z') m mid)

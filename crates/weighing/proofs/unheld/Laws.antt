@@ -1,4 +1,5 @@
 -- Laws of check 16: it is passed exactly where every target that is not zero has a slot.
+use Rattle.std.proofs.Common.{None}
 use mathlib.Core.Path.{◌≡◌, refl, sym, ◌∙◌, ap, fun_ext}
 use mathlib.Core.Bool.{Bool, true, false, not, cond, ◌&&◌, true≢false}
 use mathlib.Core.List.{List}
@@ -11,10 +12,8 @@ use lib.ListN.{length, replicate, length-replicate}
 use borrow.Author.Tests.{eq-eqb, ne_eqb, lt-ltb, le-ltb, ltb-true, eqb-true}
 use Rattle.integers.proofs.Integers.{abs_zero}
 use Rattle.integers.specs.Words.{Bytes}
-use Rattle.answers.specs.Answers.{Passes, Short}
-use Rattle.answers.specs.declared.searches.Found.TheVariants.{Nothing}
-use Rattle.answers.specs.declared.answers.Verdict.TheVariants.{Accepted}
-use Rattle.answers.proofs.answers.Laws.{passes_at, passed_at, accepted_says, passed, short_accepted, short_at}
+use Rattle.answers.specs.Answers.{accepted, Passes, Short}
+use Rattle.answers.proofs.answers.Laws.{passes_at, passed_at, accepted_passes, short_accepted, short_at}
 use Rattle.answers.proofs.searches.Laws.{none_wrong, all_right}
 use Rattle.points.specs.Lists.{All}
 use Rattle.points.specs.Points.{Exponents, same_point, pure_at}
@@ -68,7 +67,7 @@ module _ (c : List ℕ) (limits : Limits) (n t i : ℕ) where
       go false true e = pure (i - suc t)
       go false false e = constant
 
-  point_sized : length (point_for c limits n t i) ≡ n
+  pub point_sized : length (point_for c limits n t i) ≡ n
   point_sized =
       point_each (λ α. length α ≡ n) (λ l. point_length c n i) (length-replicate {A = ℕ} n 0)
       (λ j. pure_length n j (limit_in limits j).power)
@@ -76,11 +75,11 @@ module _ (c : List ℕ) (limits : Limits) (n t i : ℕ) where
 -- ---- a point with no target, one that is held, and one that is neither
 
 module _ (τ : Exponents → ℤ) (s : List ℕ) (α : Exponents) where
-  pub zero_met : eqb (nat_abs (τ α)) 0 ≡ true → unheld_at τ s α ≡ false
+  zero_met : eqb (nat_abs (τ α)) 0 ≡ true → unheld_at τ s α ≡ false
   unfolding unheld_at
   zero_met h = rw h
 
-  pub held_met : 0 < count α (slots (rows_of s)) → unheld_at τ s α ≡ false
+  held_met : 0 < count α (slots (rows_of s)) → unheld_at τ s α ≡ false
   unfolding unheld_at
   held_met h = rw (ne_eqb (count α (slots (rows_of s))) 0 (λ q. omega arith)) (go (eqb (nat_abs (τ α)) 0))
     where
@@ -108,7 +107,7 @@ module _ (c s : List ℕ) (a : Aim) where
   unfolding unheld_answer
   none_passes h =
       let none = all_right (unheld c s a) (point_count n t) h in
-      passed (Accepted 0) _ (passed_at _ Nothing _ 16 _ none refl (accepted_says 0)) 0 refl
+      accepted_passes _ 0 (sym (passed_at (accepted 0) None _ 16 _ none refl refl))
 
   pub passes_none : Passes (unheld_answer c s a) → (i : ℕ) → i < point_count n t → unheld c s a i ≡ false
   unfolding unheld_answer

@@ -19,9 +19,9 @@ use Rattle.squares.specs.Rows.{Row}
 use Rattle.squares.specs.declared.rows.Weights.{Weights}
 use Rattle.sheets.specs.Layout.{shape_of, place, triple_at, proof_length, ProofRoom}
 use Rattle.sheets.specs.declared.layout.Shape.{Shape}
-use Rattle.rows.specs.ProofSheet.{v_of, w_of, words_at, triple_of, row_of, rows_of, triple_for, Suits, Narrow}
+use Rattle.rows.specs.ProofSheet.{v_of, w_of, words_at, triple_of, weights_of, row_of, rows_of, triple_for, Suits, Narrow}
 use Rattle.rows.specs.declared.proof_sheet.Triple.{Triple}
-use Rattle.rows.proofs.proof_sheet.Laws.{words_p, words_q, words_r, words_are, triple_at_lem, v_same, w_same, row_is, rows_table, suits_read, lone_again}
+use Rattle.rows.proofs.proof_sheet.Laws.{v_same, w_same, rows_table, suits_read, lone_again}
 use Rattle.writing.specs.Writing.{with_triple, with_weights, with_rows}
 
 -- ---- one triple
@@ -34,17 +34,14 @@ module _ (s : List ℕ) (at : ℕ) (x : Triple) where
   two = with_i32 one (at + 4) x.q
 
   triple_length : length (with_triple s at x) ≡ length s
-  unfolding with_triple
   triple_length = written_length two (at + 8) x.r ∙ written_length one (at + 4) x.q ∙ written_length s at x.p
 
   triple_before : (j : ℕ) → j < at → get_or (with_triple s at x) j 0 ≡ get_or s j 0
-  unfolding with_triple
   triple_before j h =
       written_before two (at + 8) x.r j (omega arith) ∙ written_before one (at + 4) x.q j (omega arith)
       ∙ written_before s at x.p j h
 
   triple_append : (l : List ℕ) → at + 12 ≤ length s → with_triple (s ++ l) at x ≡ with_triple s at x ++ l
-  unfolding with_triple
   triple_append l h =
       let l₁ = written_length s at x.p in
       let l₂ = written_length one (at + 4) x.q ∙ l₁ in
@@ -55,22 +52,20 @@ module _ (s : List ℕ) (at : ℕ) (x : Triple) where
       )
 
   triple_reads : at + 12 ≤ length s → Narrow x → words_at (with_triple s at x) at ≡ x
-  unfolding with_triple
   triple_reads h f =
       let l₁ = written_length s at x.p in
       let l₂ = written_length one (at + 4) x.q ∙ l₁ in
-      words_are _ at x.p x.q x.r
-      (read_before two (at + 8) x.r at (omega arith) ∙ read_before one (at + 4) x.q at (omega arith)
-      ∙ read_written s at x.p (omega arith) f.p_fits)
-      (read_before two (at + 8) x.r (at + 4) (omega arith)
-      ∙ read_written one (at + 4) x.q (omega arith) f.q_fits)
-      (read_written two (at + 8) x.r (omega arith) f.r_fits)
+      rw (
+        read_before two (at + 8) x.r at (omega arith),
+        read_before one (at + 4) x.q at (omega arith),
+        read_written s at x.p (omega arith) f.p_fits,
+        read_before two (at + 8) x.r (at + 4) (omega arith),
+        read_written one (at + 4) x.q (omega arith) f.q_fits,
+        read_written two (at + 8) x.r (omega arith) f.r_fits,
+      )
 
   triple_earlier : (p : ℕ) → p + 12 ≤ at → words_at (with_triple s at x) p ≡ words_at s p
-  unfolding with_triple
-  triple_earlier p h =
-      words_are _ p (words_at s p).p (words_at s p).q (words_at s p).r (rw words_p (same p (omega arith)))
-      (rw words_q (same (p + 4) (omega arith))) (rw words_r (same (p + 8) (omega arith)))
+  triple_earlier p h = rw (same p (omega arith), same (p + 4) (omega arith), same (p + 8) (omega arith))
     where
       same : (p : ℕ) → p + 4 ≤ at → i32_at (with_i32 two (at + 8) x.r) p ≡ i32_at s p
       same p h =
@@ -79,9 +74,7 @@ module _ (s : List ℕ) (at : ℕ) (x : Triple) where
 
 -- what was read and is written again gives the same bytes
 triple_again : (s : List ℕ) (at : ℕ) → Bytes s → with_triple s at (words_at s at) ≡ s
-unfolding with_triple
-triple_again s at b =
-    rw (words_p, words_q, words_r) (rw (written_read s at b, written_read s (at + 4) b, written_read s (at + 8) b))
+triple_again s at b = rw (written_read s at b, written_read s (at + 4) b, written_read s (at + 8) b)
 
 -- ---- the weights of the first rows
 
@@ -102,20 +95,20 @@ module _ (weights : ℕ → Weights) (s : List ℕ) (sh : Shape) where
   rows_more i = rw add-one
 
   pub rows_length : (i : ℕ) → length (so i) ≡ length s
-  unfolding with_rows with_weights
+  unfolding with_rows
   rows_length zero = refl
   rows_length (suc i) = triple_length (so i) (triple_at sh i) (next i) ∙ rows_length i
 
   -- header and points stay
   pub rows_before : (i j : ℕ) → j < place 8 sh.k (2 * sh.n) → get_or (so i) j 0 ≡ get_or s j 0
-  unfolding with_rows with_weights
+  unfolding with_rows
   rows_before zero j h = refl
   rows_before (suc i) j h = triple_before (so i) (triple_at sh i) (next i) j (omega arith) ∙ rows_before i j h
 
   -- and so does what comes after the proof
   pub rows_append : (l : List ℕ) (i : ℕ) → i ≤ sh.k → proof_length sh ≤ length s
       → with_rows weights (s ++ l) sh i ≡ so i ++ l
-  unfolding with_rows with_weights
+  unfolding with_rows
   rows_append l zero h r = refl
   rows_append l (suc i) h r =
       rw (rows_append l i (omega arith) r)
@@ -124,11 +117,9 @@ module _ (weights : ℕ → Weights) (s : List ℕ) (sh : Shape) where
   -- each triple reads back
   pub rows_read : (i j : ℕ) → j < i → i ≤ sh.k → proof_length sh ≤ length s → ((j : ℕ) → j < sh.k → Narrow (next j))
       → triple_of (so i) sh j ≡ next j
-  unfolding with_rows with_weights
+  unfolding with_rows
   rows_read zero j h l r f = absurd (omega arith)
-  rows_read (suc i) j h l r f =
-      triple_at_lem (so (suc i)) sh j
-      ∙ go (dec_lt j i) (λ g. sym (triple_at_lem (so i) sh j) ∙ rows_read i j g (omega arith) r f)
+  rows_read (suc i) j h l r f = go (dec_lt j i) (λ g. rows_read i j g (omega arith) r f)
     where
       go : Dec (j < i) → (j < i → words_at (so i) (triple_at sh j) ≡ next j)
           → words_at (with_triple (so i) (triple_at sh i) (next i)) (triple_at sh j) ≡ next j
@@ -142,10 +133,10 @@ module _ (weights : ℕ → Weights) (s : List ℕ) (sh : Shape) where
 
   -- weights written as they were give the same sheet, byte by byte
   rows_again : (i : ℕ) → Bytes s → ((j : ℕ) → j < i → next j ≡ triple_of s sh j) → so i ≡ s
-  unfolding with_rows with_weights
+  unfolding with_rows
   rows_again zero b h = refl
   rows_again (suc i) b h =
-      rw (rows_again i b (λ j l. h j (omega arith)), h i (omega arith), triple_at_lem) (triple_again s (triple_at sh i) b)
+      rw (rows_again i b (λ j l. h j (omega arith)), h i (omega arith)) (triple_again s (triple_at sh i) b)
 
 -- ---- rows
 
@@ -157,7 +148,7 @@ module _ (s : List ℕ) (sh : Shape) where
   module _ (unused : (i : ℕ) → i < sh.k → lone i ≡ true → ((triple_of s sh i).q ≡ pos 0) × ((triple_of s sh i).r ≡ pos 0))
     where
       pub row_again : (i : ℕ) → i < sh.k → triple_for (row_of s sh i).weights ≡ triple_of s sh i
-      row_again i l = rw row_is (lone_again (lone i) (triple_of s sh i) (unused i l))
+      row_again i l = lone_again (lone i) (triple_of s sh i) (unused i l)
 
       pub sheet_again : (weights : ℕ → Weights) → Bytes s → ((i : ℕ) → i < sh.k → weights i ≡ (row_of s sh i).weights)
           → with_rows weights s sh sh.k ≡ s
@@ -178,13 +169,11 @@ module _ (s : List ℕ) (sh : Shape) where
 
     row_written : (i : ℕ) → i < sh.k → row_of written sh i ≡ row i
     row_written i l =
-        rw (
-          row_is,
-          v_same written s sh kept i l,
-          w_same written s sh kept i l,
-          rows_read weights s sh sh.k i l (omega arith) room.long narrow,
-          suits_read (lone i) (weights i) (suits i l),
-        )
+        rw (v_same written s sh kept i l, w_same written s sh kept i l)
+        (ap (λ (x : Triple). record { v = v_of s sh i; w = w_of s sh i; weights = weights_of (lone i) x })
+        (rows_read weights s sh sh.k i l (omega arith) room.long narrow)
+        ∙ ap (λ (a : Weights). record { v = v_of s sh i; w = w_of s sh i; weights = a })
+        (suits_read (lone i) (weights i) (suits i l)))
 
     pub sheet_read : sh ≡ shape_of s → rows_of written ≡ table row sh.k
     sheet_read e =

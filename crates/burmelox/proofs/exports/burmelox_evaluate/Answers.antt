@@ -9,8 +9,8 @@ named h = record { code = h.0; answer = h.1; written = h.2; kept = h.3; promises
 pub code-requires : goal.code-requires
 code-requires c = search refused_short
 
-pub returns-in-Refused : goal.returns-in-Refused
-returns-in-Refused c = named (evaluated _ _ _ (search rules) _ _ _ (search refused_code) (search refused_value))
+pub returns-in-Err : goal.returns-in-Err
+returns-in-Err c = named (evaluated _ _ _ (search rules) _ _ _ (search refused_code) (search refused_value))
 
-pub returns-in-Value : goal.returns-in-Value
-returns-in-Value c = named (evaluated _ _ _ (search rules) _ _ _ (search given_code) (search (given_value, to_z-of_z)))
+pub returns-in-Ok : goal.returns-in-Ok
+returns-in-Ok c = named (evaluated _ _ _ (search rules) _ _ _ (search given_code) (search (given_value, to_z-of_z)))

@@ -1,5 +1,6 @@
 use borrow.Author.Rules.{rules}
-use Rattle.burmelox_check.proofs.input.Steps.{end_short, end_cut, end_said, end_wrong}
+use native.Mathlib.Omega.{arith}
+use Rattle.burmelox_check.proofs.input.Steps.{end_short, end_wrong, end_said}
 use Rattle.burmelox_check.proofs.input.claim_end.Goals as goal
 
 pub returns-then-input-lt8 : goal.returns-then-input-lt8
@@ -8,8 +9,5 @@ returns-then-input-lt8 c = (search end_short, search rules)
 pub returns-then-header_wrong : goal.returns-then-header_wrong
 returns-then-header_wrong c = (search end_wrong, search rules)
 
-pub returns-then-input-end : goal.returns-then-input-end
-returns-then-input-end c = (search end_cut, search rules)
-
 pub returns : goal.returns
-returns c = (search end_said, search rules)
+returns c = (search end_said, omega (arith, c.min.ensures))

@@ -1,14 +1,7 @@
-use Rattle.checks.proofs.input.Steps.{input_head, input_long, input_room, input_range, input_few, input_rest}
+use Rattle.checks.proofs.input.Laws.{rows_room, profile_read, variables_few}
 use Rattle.checks.proofs.input.check_input.Goals as goal
 
-pub returns-in_default : goal.returns-in_default
-returns-in_default c = search input_head
-
-pub variables-requires : goal.variables-requires
-variables-requires c = search input_long
-
 pub check_rest-requires : goal.check_rest-requires
-check_rest-requires c = search (input_room, input_range, input_few)
-
-pub returns : goal.returns
-returns c = search input_rest
+check_rest-requires c =
+    let passed = c.in_ok-check_head.ensures in
+    (rows_room _ _ _ passed, profile_read _ _ _ passed, variables_few _ _ _ passed _ c.variables.ensures.0)

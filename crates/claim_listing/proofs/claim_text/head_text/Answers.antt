@@ -1,16 +1,20 @@
-use borrow.Author.Rules.{rules}
-use Rattle.listings.proofs.Putting.{count_room, after_count, count_written}
+use mir.Facts.{to_z-of_z}
+use Rattle.listings.proofs.Putting.{puts_count, puts_number, field_room, second_field, third_field, field_then, field_last}
 use Rattle.claim_listing.specs.ClaimText.{head_fields}
 use Rattle.claim_listing.proofs.claim_text.head_text.Goals as goal
 
 pub counted-n-requires : goal.counted-n-requires
 unfolding head_fields
-counted-n-requires c = search count_room
+counted-n-requires c = search (field_room, puts_count)
 
-pub floor_text-requires : goal.floor_text-requires
+pub counted-m-requires : goal.counted-m-requires
 unfolding head_fields
-floor_text-requires c = (search rules, search after_count)
+counted-m-requires c = search (second_field, puts_count)
+
+pub numbered-requires : goal.numbered-requires
+unfolding head_fields
+numbered-requires c = search (third_field, puts_count, puts_number, to_z-of_z)
 
 pub returns : goal.returns
 unfolding head_fields
-returns c = search count_written
+returns c = search (field_then, field_last, puts_count, puts_number, to_z-of_z)

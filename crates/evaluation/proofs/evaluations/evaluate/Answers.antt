@@ -1,24 +1,20 @@
-use Rattle.claims.proofs.claim_checks.Laws.{claim_long}
-use Rattle.evaluation.proofs.evaluations.Steps.{all_summed, promised, claim_refused, terms_room, offsets_refused}
+use borrow.Author.Rules.{rules}
+use Rattle.evaluation.proofs.evaluations.Steps.{claim_refused, offsets_refused, terms_room, all_summed, promised}
 use Rattle.evaluation.proofs.evaluations.evaluate.Goals as goal
 
-named : {A B : Type 0} → A × B → record { answer : A; promises : B }
-named h = record { answer = h.0; promises = h.1 }
+pub returns-in_err-check_claim-clause-promises : goal.returns-in_err-check_claim-clause-promises
+returns-in_err-check_claim-clause-promises c = promised _ _ _ _ (search (rules, claim_refused))
 
-pub returns-in-Refused : goal.returns-in-Refused
-returns-in-Refused c = named (promised _ _ _ _ (search claim_refused))
-
-pub variables-n-requires : goal.variables-n-requires
-variables-n-requires c = search claim_long
-
-pub returns-then-offsets-n : goal.returns-then-offsets-n
-returns-then-offsets-n c = named (promised _ _ _ _ (search offsets_refused))
-
-pub term_count-requires : goal.term_count-requires
-term_count-requires c = search claim_long
+pub returns-then-offsets-n-clause-promises : goal.returns-then-offsets-n-clause-promises
+returns-then-offsets-n-clause-promises c =
+    promised _ _ _ _
+    (offsets_refused _ _ _ c.in_ok-check_claim.ensures _ c.variables-n.ensures.0 c.if-offsets-n.true)
 
 pub summed-requires : goal.summed-requires
-summed-requires c = search terms_room
+summed-requires c = terms_room _ _ _ _ c.in_ok-check_claim.ensures c.variables-n.ensures.0 c.term_count.ensures.0
 
-pub returns : goal.returns
-returns c = named (promised _ _ _ _ (search all_summed))
+pub returns-clause-promises : goal.returns-clause-promises
+returns-clause-promises c =
+    promised _ _ _ _
+    (all_summed _ _ _ c.in_ok-check_claim.ensures _ c.variables-n.ensures.0 _ c.term_count.ensures.0 _
+    c.if-offsets-n.false c.summed.ensures)

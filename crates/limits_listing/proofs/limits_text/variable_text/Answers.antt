@@ -4,8 +4,8 @@ use Rattle.limits_listing.proofs.limits_text.variable_text.Goals as goal
 pub returns-then-limit-eq0 : goal.returns-then-limit-eq0
 returns-then-limit-eq0 c = search unlimited_written
 
-pub limited_text-requires : goal.limited_text-requires
-limited_text-requires c = search limited_room
+pub line_text-requires : goal.line_text-requires
+line_text-requires c = search limited_room
 
 pub returns : goal.returns
 returns c = search limited_written

@@ -1,19 +1,23 @@
-use Rattle.answers.proofs.answers.Laws.{passed}
-use Rattle.listings.proofs.Listings.{part_counts, checked_refused, checked_kept, handed_answer_lem, handed_after}
+use Rattle.std.proofs.Common.{◌∙◌, rules, of_calls, arith}
+use Rattle.answers.specs.Answers.{Passes}
+use Rattle.text.specs.Text.{Written}
+use Rattle.listings.specs.Fields.{listing}
+use Rattle.limits_listing.specs.ProfileText.{profile_fields}
 use Rattle.limits_listing.proofs.profile_text.Steps.{text_promises}
 use Rattle.limits_listing.proofs.profile_text.profile_text.Goals as goal
 
-named : {A B C : Type 0} → A × B × C → record { verdict : A; written : B; promises : C }
-named h = record { verdict = h.0; written = h.1; promises = h.2 }
-
-pub returns-in_default : goal.returns-in_default
-returns-in_default c = named (search checked_refused, search checked_kept, search (text_promises, checked_refused, checked_kept))
-
-pub whole_text-end-requires : goal.whole_text-end-requires
-whole_text-end-requires c = search passed
-
-pub slice_bounds-hand_over-end : goal.slice_bounds-hand_over-end
-slice_bounds-hand_over-end c = search part_counts
+pub listed-requires : goal.listed-requires
+listed-requires c = record {
+  small = search rules;
+  takes = λ p b e. let h : Passes _ = rw c.check_profile-checked.ensures at p in search (rules, of_calls);
+  inside = λ p b end a e m.
+      let w : Written b.now 0 (listing (profile_fields c.args.profile)) a.now end = search (rules, of_calls) in
+      omega (arith, w.inside, w.kept, e);
+}
 
 pub returns : goal.returns
-returns c = named (search handed_answer_lem, search handed_after, search (text_promises, handed_answer_lem, handed_after))
+returns c =
+    let both = c.listed.ensures (profile_fields c.args.profile) (λ p b end a e m. search (rules, of_calls)) in
+    let v = c.into.ensures ∙ (rw c.check_profile-checked.ensures at both.0) in
+    let w = rw c.check_profile-checked.ensures at both.1 in
+    record { verdict = v; written = w; promises = search (text_promises, v, w) }

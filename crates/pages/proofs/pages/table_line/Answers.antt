@@ -1,6 +1,5 @@
-use borrow.Author.Rules.{rules}
 use Rattle.pages.proofs.pages.Steps.{table_written}
 use Rattle.pages.proofs.pages.table_line.Goals as goal
 
 pub returns : goal.returns
-returns c = (search table_written, search rules)
+returns c = search table_written

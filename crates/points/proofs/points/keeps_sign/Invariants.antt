@@ -1,10 +1,7 @@
-use Prim.Native.Nat.{◌-◌, ◌≤◌}
-use Rattle.points.proofs.points.Laws.{Places}
-use Rattle.points.proofs.points.Steps.{SignTo}
+use mathlib.Core.Path.{◌≡◌}
+use lib.ListN.{drop}
+use Rattle.points.specs.Points.{exponents, keeps_sign}
 use Rattle.points.proofs.points.keeps_sign.Given as goal
 
-abbrev pub invariant-loop-i : goal.invariant-loop-i
-invariant-loop-i l = (l.i ≤ l.n) × Places l.x × SignTo l.mask l.x l.rest l.i
-
-abbrev pub decreases-loop-i : goal.decreases-loop-i
-decreases-loop-i l = l.n - l.i
+abbrev pub invariant-loop-e : goal.invariant-loop-e
+invariant-loop-e l = (l.e-items ≡ exponents l.fn.p) × (keeps_sign l.fn.mask (exponents l.fn.p) ≡ keeps_sign l.rest (drop l.e-index l.e-items))

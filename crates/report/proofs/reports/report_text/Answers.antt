@@ -11,8 +11,8 @@ shown-requires c = search rows_carried
 pub rows_text-requires : goal.rows_text-requires
 rows_text-requires c = (search rules, search rows_room)
 
-pub returns-then-reportable : goal.returns-then-reportable
-returns-then-reportable c = search report_written
+pub returns-then-not-reportable : goal.returns-then-not-reportable
+returns-then-not-reportable c = search unreported
 
 pub returns : goal.returns
-returns c = search unreported
+returns c = search report_written
