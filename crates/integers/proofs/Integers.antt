@@ -14,9 +14,9 @@ use native.Mathlib.Nat.{mul-le-mul_right}
 use native.Mathlib.Omega.{arith}
 use lib.Dec.{T, ltb, ltb→lt, nltb→le, leb→le, le→leb, lt→ltb}
 use lib.IntN.{ℤ, pos, negsuc, neg_ℤ, nat_abs, sub_ℕ, ◌+ℤ◌, ◌-ℤ◌, ◌*ℤ◌, zero-*ℤ, *ℤ_comm, neg_ℤ-+ℤ, neg_ℤ-neg_ℤ}
-use lib.Signed.{mag, lt_z, le_z, ◌≤ℤ◌, ◌<ℤ◌, ≤ℤ_refl, lt_z_no}
+use lib.Signed.{mag, lt_z, le_z, non_neg, ◌≤ℤ◌, ◌<ℤ◌, ≤ℤ_refl, lt_z_no}
 use mir.Syntax.{Width, w64}
-use mir.Val.{SFits, hbits, to_z, of_z}
+use mir.Val.{Fits, SFits, hbits, to_z, of_z}
 
 -- ---- differences of naturals
 
@@ -405,6 +405,19 @@ fits_within z k h l = by_fits (simp ring (omega (ints, sizes z)))
 -- what the machine reads back of a signed number that it wrote
 abbrev pub back : ℤ → ℤ
 back z = to_z w64 (of_z w64 z)
+
+-- a cast of a number that is n: its value, that it is not negative, and that it fits where n does
+module _ {y : ℤ} {n : ℕ} (e : y ≡ pos n) where
+  pub cast_value : nat_abs y ≡ n
+  cast_value = ap nat_abs e
+
+  pub cast_sign : T (non_neg y)
+  cast_sign = rw e tt
+
+  pub cast_fits : {w : Width} → Fits w n → Fits w (nat_abs y)
+  cast_fits f = rw e f
+
+pub ruleset casts = (cast_value, cast_sign, cast_fits)
 
 -- a bound, of what the machine reads back
 pub back_small : (r r' : ℤ) (m : ℕ) → nat_abs r ≤ m → r' ≡ r → nat_abs r' ≤ m

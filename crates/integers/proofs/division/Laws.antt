@@ -6,7 +6,7 @@ use native.Mathlib.Nat.{div-add-mod, mod-lt, div-le_self, zero-div, zero-mod}
 use native.Mathlib.Omega.{arith}
 use lib.Dec.{T, ltb, ltb→lt, nltb→le, leb-suc-zero}
 use lib.IntN.{ℤ, pos, negsuc, nat_abs, ◌+ℤ◌, ◌*ℤ◌}
-use lib.Signed.{lt_z, ◌≤ℤ◌}
+use lib.Signed.{mag, lt_z, ◌≤ℤ◌}
 use Rattle.integers.specs.Division.{floor_div, floor_mod, share, shares}
 use Rattle.integers.proofs.Integers.{abs_add, ring, ints, by_eq, by_le, read_eq, read_le, up, dn, le_parts, lt_parts, lt_z_true, lt_z_false, *ℤ_mono}
 
@@ -61,10 +61,10 @@ unfolding share floor_div floor_mod
 share_none c k = rw (zero-div, zero-mod, leb-suc-zero)
 
 -- a quotient is no larger than what is divided
-pub floor_div_size : (e : ℤ) (c : ℕ) → nat_abs (floor_div e c) ≤ nat_abs e
+pub floor_div_size : (e : ℤ) (c : ℕ) → (nat_abs (floor_div e c) ≤ nat_abs e) × (mag (floor_div e c) ≤ mag e)
 unfolding floor_div
-floor_div_size (pos a) c = div-le_self a c
-floor_div_size (negsuc a) c = let h = div-le_self a c in omega arith
+floor_div_size (pos a) c = (div-le_self a c, div-le_self a c)
+floor_div_size (negsuc a) c = let h = div-le_self a c in (omega arith, h)
 
 -- a share is at most one larger than the error
 pub share_abs : (e : ℤ) (c k : ℕ) → nat_abs (share e c k) ≤ nat_abs e + 1

@@ -28,6 +28,9 @@ use Rattle.limits.proofs.limit_checks.Laws.{power_some}
 
 -- ---- powers of L
 
+pub square_small : (b : ℕ) → b ≤ greatest_limit → b * b ≤ 2 ^ 20
+square_small b h = omega (arith, mul-le-mul h h)
+
 pub power_small : (b e : ℕ) → b ≤ greatest_limit → e ≤ 4 → b ^ e ≤ 2 ^ 40
 power_small b e h k =
     let low : b ^ e ≤ greatest_limit ^ e = pow-le-pow_left h e in
