@@ -6,7 +6,7 @@ ghost use Rattle.squares.specs.Targets.{worst};
 ghost use Rattle.sheets.specs.Layout.{variables, term_count, LimitsRoom};
 ghost use Rattle.sheets.specs.ClaimSheet.{term_point};
 ghost use Rattle.claims.specs.ClaimChecks.{ClaimFacts};
-ghost use Rattle.targets.specs.Targets.{aim_of, at_floor, AimWithin, Targeted, target_of, coefficient_with, lowered_by, target_with};
+ghost use Rattle.targets.specs.Targets.{aim_of, at_floor, AimWithin, Targeted, target_of, has_key, coefficient_with, lowered_by, target_with};
 
 use answers::searches::first_at;
 use limits::additions::limits_add;
@@ -46,13 +46,22 @@ pub fn at_floor(aim: Aim, b: i64) -> Aim
     Aim { floor: b, ..aim }
 }
 
+// Whether term i has a key.
+#[tactic(auto, unfolding(crate::specs::Targets::has_key))]
+fn has_key(claim: &[u8], n: usize, t: usize, i: usize, key: u64) -> bool
+    requires { (ClaimFacts claim.now n t) × (i < t) }
+    ensures { result ≡ has_key claim.now n key i }
+{
+    key == term_key(claim, n, t, i)
+}
+
 // The coefficient of the term that has a key, 0 where there is none.
-#[tactic(auto, unfolding(crate::specs::Targets::has_key, crate::specs::Targets::coefficient_with, crate::specs::Targets::coefficient_found))]
+#[tactic(auto, unfolding(crate::specs::Targets::coefficient_with, crate::specs::Targets::coefficient_found))]
 fn coefficient_with(claim: &[u8], n: usize, t: usize, key: u64) -> i64
     requires { ClaimFacts claim.now n t }
     ensures { (result ≡ coefficient_with claim.now n t key) × (nat_abs result ≤ greatest_weight) }
 {
-    match first_at(t, |i| key == term_key(claim, n, t, i)) {
+    match first_at(t, |i| has_key(claim, n, t, i, key)) {
         Some(i) => coefficient(claim, n, t, i),
         None => 0,
     }
